@@ -34,7 +34,7 @@ release: $(BUILT)
 	packaging/release.sh
 
 $(PAGE): $(MODULE) VERSION docs/LOCKS.md $(wildcard page/build.mjs page/build/* page/src/*.* \
-	page/src/style/* examples/*.schedule examples/README.md)
+	page/src/*/* examples/*.schedule examples/README.md)
 	node page/build.mjs $(MODULE)
 
 ## release-checks | tests what is installed and packaged, and two hosts over ssh

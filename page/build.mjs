@@ -20,7 +20,7 @@ import { lessonsOf, storedOf } from './build/lessons.mjs';
 import { plansOf } from './build/plans.mjs';
 import { rangesOf } from './build/ranges.mjs';
 import { termsOf } from './build/terms.mjs';
-import { codeOf, linesOf, wordsOf } from './src/locks_code.js';
+import { codeOf, linesOf, wordsOf } from './src/machine/locks_code.js';
 
 const HERE = dirname(fileURLToPath(import.meta.url));
 const PAGE = join(HERE, 'lockreplay.html');
@@ -54,7 +54,7 @@ function build(module) {
     plans: plansOf(join(HERE, '..', 'examples', 'plans.json'), lessons),
     terms: termsOf(join(HERE, '..', 'docs', 'GLOSSARY.md')),
   };
-  const script = `${bundle(SOURCES, 'main.js')}\nstart(${asScript(data)});`;
+  const script = `${bundle(SOURCES, 'control/main.js')}\nstart(${asScript(data)});`;
   // Functions, so that no `$` of a source is taken for a sign of the replacement.
   return read('src', 'index.html').replace('{{STYLE}}', style)
     .replaceAll('{{VERSION}}', () => read('..', 'VERSION').trim())

@@ -1,23 +1,24 @@
 // Puts ES modules into one script: each becomes a function's result, those that it needs before
-// it. It knows the two forms that page/src uses: `import { a, b } from './x.js';` and `export`
+// it. It knows the two forms that page/src uses: `import { a, b } from '../x/y.js';` and `export`
 // before a declaration.
 
 import { readFileSync } from 'node:fs';
-import { join } from 'node:path';
+import { join, posix } from 'node:path';
 
-const IMPORT = /^import \{([^}]+)\} from '\.\/([\w]+\.js)';\n/gm;
+const IMPORT = /^import \{([^}]+)\} from '(\.[\w./]+\.js)';\n/gm;
 const EXPORT = /^export (async function|function|class|const) (\w+)/gm;
 
 // Lines of comment, empty ones and indents, which a reader finds in the sources.
 const COMMENT = /^(?: *\/\/.*)?\n/gm;
 const INDENT = /^ +/gm;
 
-const variable = (file) => `m_${file.replace('.js', '')}`;
+const variable = (file) => `m_${file.replace('.js', '').replaceAll('/', '_')}`;
+const path = (file, named) => posix.join(posix.dirname(file), named);
 
 function wrapped(file, source) {
   const names = [...source.matchAll(EXPORT)].map(([, , name]) => name);
   const body = source.replace(COMMENT, '').replace(INDENT, '')
-    .replace(IMPORT, (_, list, from) => `const {${list} } = ${variable(from)};\n`)
+    .replace(IMPORT, (_, list, from) => `const {${list} } = ${variable(path(file, from))};\n`)
     .replace(EXPORT, '$1 $2');
   const other = body.match(/^(import|export) .*/m);
   if (other) throw new Error(`${file}: of another form: ${other[0]}`);
@@ -30,7 +31,7 @@ export function bundle(folder, first) {
     if (above.includes(file)) throw new Error(`modules in a circle: ${[...above, file].join(' ')}`);
     if (done.has(file)) return;
     const source = readFileSync(join(folder, file), 'utf8');
-    for (const [, , needed] of source.matchAll(IMPORT)) add(needed, [...above, file]);
+    for (const [, , needed] of source.matchAll(IMPORT)) add(path(file, needed), [...above, file]);
     done.set(file, wrapped(file, source));
   };
   add(first, []);

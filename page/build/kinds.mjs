@@ -1,9 +1,9 @@
 // The kinds of transition of each lock, as the module names them:
 // {lock: [{name, says, sketch}, ..]}.
 
-import { lettersOf } from '../src/bytes.js';
-import { LOCK_NAMES } from '../src/locks.js';
-import { Machine } from '../src/machine.js';
+import { lettersOf } from '../src/lib/bytes.js';
+import { LOCK_NAMES } from '../src/locks/locks.js';
+import { Machine } from '../src/machine/machine.js';
 
 // A name, a sentence and a sketch have fewer bytes.
 const ROOM = 1024;

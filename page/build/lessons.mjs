@@ -2,13 +2,13 @@
 
 import { readFileSync, readdirSync } from 'node:fs';
 import { join } from 'node:path';
-import { faultAdvice } from '../src/advice.js';
-import { LOCK_NAMES, LOCKS } from '../src/locks.js';
-import { ownWords } from '../src/locks_code.js';
-import { Machine } from '../src/machine.js';
-import { remarksOf } from '../src/remarks.js';
-import { Run } from '../src/run.js';
-import { Recorder } from '../src/stored.js';
+import { faultAdvice } from '../src/model/fault_advice.js';
+import { LOCK_NAMES, LOCKS } from '../src/locks/locks.js';
+import { ownWords } from '../src/machine/locks_code.js';
+import { Machine } from '../src/machine/machine.js';
+import { remarksOf } from '../src/model/remarks.js';
+import { Run } from '../src/model/run.js';
+import { Recorder } from '../src/machine/stored_machine.js';
 
 const GROUPS = [...LOCK_NAMES, 'refused', 'fault'];
 // The group by the first word of a lesson's name.

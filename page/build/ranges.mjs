@@ -1,7 +1,7 @@
 // From which to which number a header's threads and bits go, and the number of a thread. Each is
 // put to the module in a line in which nothing else can be wrong.
 
-import { Machine } from '../src/machine.js';
+import { Machine } from '../src/machine/machine.js';
 
 const TRIED = 1000;
 

@@ -7,7 +7,7 @@
 // transition whose text has no room, and a number that is no lock's.
 
 import assert from 'node:assert/strict';
-import { RECORD_BYTES, STATE_BYTES } from '../../page/src/machine.js';
+import { RECORD_BYTES, STATE_BYTES } from '../../page/src/machine/machine.js';
 import { bytesOf, machineOf } from './node.mjs';
 
 // What is in the lent memory before a call.

@@ -7,12 +7,12 @@
 // those found move by move, each by a replay; and how many replays both ways took.
 
 import assert from 'node:assert/strict';
-import { withoutLines } from '../../page/src/bytes.js';
-import { CALLS, MOVES } from '../../page/src/codes.js';
-import { otherLock } from '../../page/src/compare.js';
-import { lastLine, reportOf } from '../../page/src/report.js';
-import { Run, runOf } from '../../page/src/run.js';
-import { onOtherLock } from '../../page/src/turns.js';
+import { withoutLines } from '../../page/src/lib/bytes.js';
+import { CALLS, MOVES } from '../../page/src/machine/codes.js';
+import { otherLock } from '../../page/src/model/compare_runs.js';
+import { lastLine, reportOf } from '../../page/src/model/report.js';
+import { Run, runOf } from '../../page/src/model/run.js';
+import { onOtherLock } from '../../page/src/model/other_lock.js';
 import { bytesOf, examples, machineOf } from './node.mjs';
 
 const RANDOM = { schedules: 40, moves: 120 };

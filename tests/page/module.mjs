@@ -16,10 +16,10 @@ import { readFileSync } from 'node:fs';
 import { rangesOf } from '../../page/build/ranges.mjs';
 import {
   ANSWER, AS_WRITER, CALLS, HOLDS, IN_LINE, isStep, MOVES, OUTCOME, UNLINKED, WAITS,
-} from '../../page/src/codes.js';
-import { Records, RECORD_BYTES, STATE_BYTES } from '../../page/src/machine.js';
-import { reportOf } from '../../page/src/report.js';
-import { Run } from '../../page/src/run.js';
+} from '../../page/src/machine/codes.js';
+import { Records, RECORD_BYTES, STATE_BYTES } from '../../page/src/machine/machine.js';
+import { reportOf } from '../../page/src/model/report.js';
+import { Run } from '../../page/src/model/run.js';
 import { bytesOf, examples, machineOf, module } from './node.mjs';
 
 const MOST_WORDS = 129;

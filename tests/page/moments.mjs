@@ -10,9 +10,9 @@
 // moves or a line are at fault.
 
 import assert from 'node:assert/strict';
-import { ANSWER, MOVES, OUTCOMES, PHASES } from '../../page/src/codes.js';
-import { Records } from '../../page/src/machine.js';
-import { FOUND } from '../../page/src/search.js';
+import { ANSWER, MOVES, OUTCOMES, PHASES } from '../../page/src/machine/codes.js';
+import { Records } from '../../page/src/machine/machine.js';
+import { FOUND } from '../../page/src/machine/search.js';
 import { bytesOf, machineOf, rowsOf } from './node.mjs';
 
 const LOCKS = ['ticket', 'mcs', 'rw-simple', 'rw-fifo'];

@@ -5,7 +5,7 @@ import { readFileSync, readdirSync } from 'node:fs';
 import { dirname, join } from 'node:path';
 import { fileURLToPath } from 'node:url';
 import { setFlagsFromString } from 'node:v8';
-import { Machine } from '../../page/src/machine.js';
+import { Machine } from '../../page/src/machine/machine.js';
 
 const TOP = join(dirname(fileURLToPath(import.meta.url)), '..', '..');
 const EXAMPLES = join(TOP, 'examples');

@@ -106,13 +106,13 @@ REGIONS = {
     "record/rust/src/lock.rs": (("locks", "Lock::{variant},\n"), ("locks", "Lock" + ARM)),
     "record/rust/Cargo.toml": (("version", 'version = "{word}"'),),
     "CITATION.cff": (("version", "version: {word}\ndate-released: {day}\n"),),
-    "page/src/codes.js": (
+    "page/src/machine/codes.js": (
         ("numbers of moves", "{number}: '{word}',"),
         ("outcomes by number", "export const OUTCOMES = ['{all:', '}'];"),
         ("phases by number", "'{word}',"), ("faults of texts", "{number}: '{word}',"),
         ("refusals by number", "'{word}',"), ("expected by number", "'{word}',"),
         ("constants", "export const {word} = {number};\n")),
-    "page/src/locks.js": (("modules by number", "export const LOCKS = [{all:, }];"),),
+    "page/src/locks/locks.js": (("modules by number", "export const LOCKS = [{all:, }];"),),
     "docs/GUIDE.md": tuple((f"plan of {plan['lock']}", PLAN) for plan in plans.PLANS),
     "page/MODULE.md": (("codes", "| {word} | {codes} |\n"),),
     "packaging/man/locktrace-trace.5": (

@@ -1,0 +1,30 @@
+// Who the page is: its name, what is proved, the locks' code, its licence, and the browsers that
+// run the machine. All of it is in the page, which may be one file by itself.
+
+import { LANGUAGE_NAMES, language } from '../texts/language.js';
+import { LOCKS } from '../locks/locks.js';
+import { byId, html, show } from '../lib/markup.js';
+import { texts } from '../texts/texts.js';
+
+const codeView = (lines) => html`${LOCKS.map(({ title }, lock) => html`<h3>${title}</h3>
+  <pre class="mono">${lines[lock].map(({ code }) => `${code}\n`)}</pre>`)}`;
+
+export function aboutDialog(page) {
+  const dialog = byId('about');
+  dialog.addEventListener('click', (event) => {
+    const { lang, plans } = event.target.dataset;
+    if (event.target === dialog || plans) dialog.close();
+    if (lang) page.address.inLanguage(lang);
+    if (plans) page.lecture.choose();
+  });
+  return () => {
+    const { proved, documents, source, licence, browsers, language: label } = texts.about;
+    const names = Object.entries(LANGUAGE_NAMES).map(([name, own]) => html`<button type="button"
+      data-lang="${name}" lang="${name}" aria-pressed="${name === language}">${own}</button> `);
+    show(byId('about-text'), html`<p>${proved}</p>
+      <details><summary>${documents.LOCKS}</summary>${codeView(page.session.lines)}</details>
+      <p><button type="button" data-plans="true">${documents.GUIDE}</button></p>
+      <p>${source}</p><p>${licence}</p><p>${browsers}</p><p>${label} ${names}</p>`);
+    dialog.showModal();
+  };
+}

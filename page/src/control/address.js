@@ -1,0 +1,163 @@
+// The address of the page, its history and the browser's storage: they follow what is shown, and
+// bring it back.
+
+import { allKept, keep, kept, newName } from '../model/kept_schedules.js';
+import { askedLanguage, language } from '../texts/language.js';
+import { FIRST_LESSON } from './lessons_dialog.js';
+import { readLooks } from '../model/looks.js';
+import { endOf, fragmentOf, readFragment } from '../model/link.js';
+import { byId, write } from '../lib/markup.js';
+import { showTheme } from '../view/theme.js';
+import { tell, toClipboard } from '../view/notice.js';
+import { texts } from '../texts/texts.js';
+
+const T = texts.links;
+const WAIT = 250;
+
+export class Address {
+  constructor(page) {
+    this.page = page;
+    // The name under which what is shown is kept; null for a lesson.
+    this.work = null;
+    this.unkept = new Map();
+    this.returning = false;
+  }
+
+  begin() {
+    this.page.quiz.bringBack(history.state);
+    if (this.open()) return;
+    this.returning = true;
+    this.page.openLesson(FIRST_LESSON);
+    this.returning = false;
+    this.page.chooseLesson();
+  }
+
+  // In another language, which is chosen when the page is loaded.
+  inLanguage(name) {
+    this.flush();
+    const parts = location.hash.replace(/&?lang=[^&]*/, '');
+    const fragment = `${parts || '#'}${parts.length > 1 ? '&' : ''}lang=${name}`;
+    history.replaceState(this.page.quiz.kept, '', fragment);
+    location.reload();
+  }
+
+  // Opens what the address names. False if it names nothing.
+  open() {
+    if ((askedLanguage(location.hash) ?? language) !== language) location.reload();
+    readLooks(location.hash);
+    showTheme();
+    const asked = readFragment(location.hash);
+    if (!asked) return false;
+    const wrong = asked.wrong ?? this.openAsked(asked);
+    this.warn(wrong);
+    return !wrong || Boolean(this.page.session.run);
+  }
+
+  // What is wrong with what was asked for, if anything is.
+  openAsked({ lesson, kept: name, text, move, cut, play, compare }) {
+    const { page } = this;
+    if (name && page.session.run) this.keep();
+    const work = name && kept(name);
+    if (name && !work) return T.notKept;
+    if (lesson && !page.lessons.some((one) => one.name === lesson)) return T.noLesson(lesson);
+    this.returning = true;
+    if (lesson) page.openLesson(lesson, move);
+    else page.openOwn(text ?? work.text, move);
+    this.work = name ?? this.work;
+    if (play || compare) page.goOnWith(play, compare);
+    this.returning = false;
+    return cut ? T.cut : '';
+  }
+
+  // A link that is damaged stays in the address until another schedule is opened.
+  warn(wrong) {
+    this.damaged = wrong;
+    const box = byId('damaged');
+    box.hidden = !wrong;
+    write(box, wrong || '');
+  }
+
+  // Before another schedule takes the place of this one: this one stays in the history.
+  leave(lesson) {
+    if (this.page.session.run && !this.returning) {
+      this.note();
+      this.write(this.fragment());
+      this.warn('');
+      this.push();
+    }
+    this.work = lesson ? null : newName();
+  }
+
+  push() {
+    try {
+      history.pushState(this.page.quiz.kept, '', location.href);
+    } catch {
+      // Too many entries in a short time.
+    }
+  }
+
+  copy() {
+    const { page } = this;
+    const fragment = fragmentOf(page.session);
+    if (!fragment) {
+      page.editing.save();
+      return tell(T.tooLong);
+    }
+    this.warn('');
+    this.write(fragment);
+    const mine = location.protocol === 'file:' ? T.fromDisk : '';
+    return toClipboard(location.href, `${T.copied} ${mine}`, `${T.inBar} ${mine}`);
+  }
+
+  // With a delay: browsers allow few changes of the address a second.
+  writeSoon() {
+    clearTimeout(this.writing);
+    this.writing = setTimeout(() => this.flush(), WAIT);
+  }
+
+  flush() {
+    clearTimeout(this.writing);
+    this.keep();
+    this.write(this.fragment());
+  }
+
+  fragment() {
+    const { session } = this.page;
+    return fragmentOf(session) ?? `#kept=${this.work}${endOf(session.place)}`;
+  }
+
+  // Notes a schedule of one's own, to be kept when there is time, if that is not done yet.
+  note() {
+    const { held, place, lesson, remarks } = this.page.session;
+    if (lesson || held === this.noted) return;
+    this.noted = held;
+    this.unkept.set(this.work, [held, place, remarks.title]);
+  }
+
+  keep() {
+    this.note();
+    for (const [name, what] of this.unkept) keep(name, ...what);
+    this.unkept.clear();
+  }
+
+  keptNow() {
+    this.keep();
+    return allKept();
+  }
+
+  openKept(name) {
+    const { text, place } = kept(name);
+    this.page.openOwn(text, place);
+    this.work = name;
+  }
+
+  write(fragment) {
+    const { kept: answers } = this.page.quiz;
+    if (this.damaged || (fragment === location.hash && answers === history.state)) return;
+    try {
+      history.replaceState(answers, '', fragment);
+    } catch {
+      // Too many changes in a short time: the next one writes it.
+    }
+  }
+}

@@ -1,0 +1,124 @@
+// Comparing: another schedule above the one that is shown, in the same columns, stepping with it:
+// the one that it was branched off from, or the same calls on the other read-write lock. Both
+// memories are beside each other.
+
+import { commonMoves, firstDifference, otherLock } from '../model/compare_runs.js';
+import { lanesPicture } from '../view/lanes.js';
+import { layOutBeside } from '../view/layout.js';
+import { LOCKS } from '../locks/locks.js';
+import { looks } from '../model/looks.js';
+import { byId, html, show } from '../lib/markup.js';
+import { lastLine, reportLine } from '../model/report.js';
+import { tell } from '../view/notice.js';
+import { texts } from '../texts/texts.js';
+import { onOtherLock } from '../model/other_lock.js';
+
+const T = texts.compare;
+
+const titleOfLock = (name) => LOCKS.find((lock) => lock.name === name).title;
+
+// The column of each move of the other run, from move 0 on: the move here after which it is made.
+function columnsOf(run, at) {
+  const columns = [0];
+  for (let move = 1; move <= run.count; move += 1) {
+    if (at(move) > at(move - 1)) columns[at(move)] = move;
+  }
+  return columns;
+}
+
+export class Comparing {
+  constructor(page) {
+    this.page = page;
+    this.kind = null;
+    this.made = {};
+  }
+
+  get isOn() { return this.kind !== null; }
+
+  // What there is to compare with.
+  kinds() {
+    const { session: { run, origin, machine } } = this.page;
+    const branched = run.hasLock && origin.run.hasLock
+      && (commonMoves(run, origin.run) < origin.run.count || run.refusal);
+    const known = otherLock(run) && !machine.stored;
+    return [branched && run !== origin.run && 'origin', known && 'lock'].filter(Boolean);
+  }
+
+  // From one to the next, and then to none.
+  toggle() {
+    const kinds = this.kinds();
+    if (!kinds.length) tell(T.nothing);
+    this.kind = kinds[kinds.indexOf(this.kind) + 1] ?? null;
+    this.page.fit();
+  }
+
+  begin() { [this.kind = null] = this.kinds(); }
+
+  // Ends if there is nothing to compare with any more.
+  settle() {
+    if (this.isOn && !this.kinds().includes(this.kind)) this.kind = null;
+  }
+
+  // {session, at, columns, first, title} of what is compared, made once for a run.
+  other() {
+    const { run, origin } = this.page.session;
+    if (this.made.run === run && this.made.kind === this.kind) return this.made;
+    const session = this.page.session.twin();
+    let at = (move) => Math.min(move, session.run.last);
+    let { title } = origin;
+    if (this.kind === 'origin') session.open(origin.run.text, null, 0, origin.run);
+    else {
+      const there = onOtherLock(session.machine, run, this.made.session?.run);
+      session.open(there.run.text, null, 0, there.run);
+      at = (move) => there.at[Math.min(move, run.count)];
+      title = titleOfLock(otherLock(run));
+    }
+    const first = firstDifference(run, session.run, at);
+    const columns = columnsOf(run, at);
+    title ||= texts.untitled;
+    this.made = { run, kind: this.kind, session, at, columns, first, title };
+    return this.made;
+  }
+
+  // The first difference in the schedule that is shown; 0 for none.
+  get first() { return this.isOn ? this.other().first : 0; }
+
+  // How many columns both need.
+  get columns() {
+    if (this.kind !== 'origin') return 0;
+    return Math.max(this.page.session.run.last, this.other().session.run.last);
+  }
+
+  // The other run at the move that is shown: {view, state, run}.
+  there() {
+    const { page } = this;
+    const { session, at, first } = this.other();
+    session.go(at(page.session.place));
+    const view = session.view({
+      hidden: page.hides, future: looks.future, different: first, compares: true,
+    });
+    return { view, state: session.run.state(view.move), run: session.run };
+  }
+
+  // The move here beside which a move of the other run is.
+  beside(move) { return this.other().columns[move] ?? move; }
+
+  // In the columns of the layout of what is shown, and as tall.
+  draw(layout, room) {
+    const { columns, first, title, session } = this.other();
+    const { view } = this.there();
+    const beside = layOutBeside(layout, view, columns, room);
+    const { place } = this.page.session;
+    const differs = first && place >= first;
+    show(byId('other'), html`<h2>${T.title(title)} ${first ? html`<button type="button"
+        data-first="${first}">${T.first(first)}</button>` : html`<span>${T.same}</span>`}</h2>
+      <div class="other-lanes">${lanesPicture(view, beside, 0, beside.lanes.length - 1)}</div>
+      <p class="compared ${differs && 'differs'}"><code>${T.there} ${lineAt(session)}</code>
+      <code>${T.here} ${lineAt(this.page.session)}</code></p>`);
+  }
+}
+
+function lineAt({ run, move, refused }) {
+  if (refused) return lastLine(run);
+  return move ? reportLine(run, move) : texts.before;
+}

@@ -1,0 +1,159 @@
+// The controls of the page, each with what it does.
+
+import { listenForKeys } from './keys.js';
+import { byId, show } from '../lib/markup.js';
+import { lockOptions } from '../view/choices_view.js';
+import { drawPaper, toggleTheme } from '../view/draw_page.js';
+import { listenForSwipes } from './swipes.js';
+import { listenForTerms } from '../view/terms.js';
+import { texts } from '../texts/texts.js';
+
+// The tools that have no room otherwise.
+function showMenu(isOpen) {
+  document.body.classList.toggle('menu', isOpen);
+  byId('menu').setAttribute('aria-expanded', isOpen);
+}
+
+// It closes with the tool that is chosen, with a click elsewhere, and with Escape.
+function menu(page) {
+  const isOpen = () => document.body.classList.contains('menu');
+  addEventListener('click', ({ target }) => {
+    showMenu(target.id === 'menu' && !isOpen());
+    page.hall.blank(false);
+  });
+  addEventListener('keydown', ({ key }) => {
+    if (key === 'Escape' && isOpen()) {
+      showMenu(false);
+      byId('menu').focus();
+    }
+  });
+}
+
+function clicks(page) {
+  const { address, comparing, editing, modes, playing, stepping } = page;
+  const does = {
+    first: () => page.go(0), back: () => stepping.step(-1), forward: () => stepping.step(1),
+    last: () => stepping.end(), run: () => stepping.toggleRunning(),
+    'mode-lessons': () => page.chooseLesson(), 'mode-own': () => modes.toggle('own'),
+    'mode-play': () => modes.toggle('play'), 'mode-quiz': () => modes.toggleQuiz(),
+    compare: () => comparing.toggle(), 'mode-hall': () => page.toggleHall(),
+    leave: () => page.toggleHall(), 'show-view': () => page.showView(),
+    link: () => address.copy(), print: () => page.showSheets(), theme: () => toggleTheme(page),
+    plan: () => page.lecture.choose(), 'show-keys': () => page.showKeys(),
+    'show-about': () => page.showAbout(),
+    'show-take': () => page.showTake(), 'show-find': () => page.showFind(),
+    'close-banner': () => { byId('banner').hidden = true; page.fit(); },
+    undo: () => playing.undo(), 'undo-own': () => playing.undo(), save: () => editing.save(),
+    copy: () => editing.copy(), open: () => byId('file').click(),
+    clear: () => page.openOwn(new TextEncoder().encode(texts.own.template)),
+  };
+  for (const [id, act] of Object.entries(does)) byId(id).addEventListener('click', act);
+}
+
+function partsThatAreDrawn(page) {
+  byId('time').addEventListener('click', (event) => {
+    const move = event.target.closest('[data-move]')?.dataset.move;
+    if (move) page.go(Number(move));
+  });
+  byId('other').addEventListener('click', (event) => {
+    const { first, move } = event.target.closest('[data-move], [data-first]')?.dataset ?? {};
+    if (first) page.go(Number(first));
+    if (move) page.go(page.comparing.beside(Number(move)));
+  });
+  byId('choices').addEventListener('click', (event) => {
+    const { thread, word } = event.target.closest('[data-word]')?.dataset ?? {};
+    if (word) page.playing.choose(Number(thread), word);
+  });
+  byId('soon').addEventListener('toggle', () => page.draw());
+  byId('soon-list').addEventListener('click', (event) => {
+    const { soon } = event.target.dataset;
+    if (soon) page.playing.chooseSoon(Number(soon));
+  });
+  for (const id of ['verdict', 'nothing-verdict']) {
+    byId(id).addEventListener('click', (event) => {
+      const { keep, mend, returns } = event.target.dataset;
+      if (keep) page.editing.keepRemarks();
+      if (mend !== undefined) page.editing.mend(mend);
+      if (returns) page.editing.removeReturns();
+    });
+  }
+}
+
+// The bar of a lecture, and the lesson after the one that ended.
+function further(page) {
+  byId('lecture').addEventListener('click', (event) => {
+    const { lecture: way } = event.target.dataset;
+    if (way) page.lecture[way]();
+  });
+  byId('now').addEventListener('click', (event) => {
+    const { next } = event.target.closest('[data-next]')?.dataset ?? {};
+    if (next) page.openLesson(next);
+  });
+}
+
+// The quiz is beside the move, or above the parts that are shown instead.
+function quiz(page) {
+  for (const id of ['now', 'current']) {
+    byId(id).addEventListener('click', (event) => {
+      if (event.target.dataset.saveQuiz) page.modes.saveQuiz();
+    });
+    byId(id).addEventListener('submit', (event) => {
+      event.preventDefault();
+      page.modes.checkQuiz(event.target);
+    });
+  }
+}
+
+function files(page) {
+  byId('file').addEventListener('change', (event) => {
+    if (event.target.files.length) page.editing.openFiles(event.target.files);
+    event.target.value = '';
+  });
+  addEventListener('dragover', (event) => event.preventDefault());
+  addEventListener('drop', (event) => {
+    event.preventDefault();
+    const { files } = event.dataTransfer;
+    if (files.length) page.editing.openFiles(files);
+    else page.editing.paste(event.dataTransfer.getData('text/plain'));
+  });
+  addEventListener('paste', (event) => {
+    if (event.target.closest('textarea, input')) return;
+    page.editing.paste(event.clipboardData.getData('text/plain'));
+  });
+}
+
+// The numbers of a lock go as far as the machine takes them.
+function limitNumbers({ threads, bits }) {
+  for (const form of ['new', 'find-form']) {
+    const { elements } = byId(form);
+    for (const [name, [min, max]] of Object.entries({ threads, bits })) {
+      Object.assign(elements[name], { min, max });
+    }
+  }
+}
+
+export function listen(page) {
+  clicks(page);
+  menu(page);
+  partsThatAreDrawn(page);
+  quiz(page);
+  further(page);
+  listenForTerms();
+  listenForSwipes(page);
+  files(page);
+  listenForKeys(page);
+  show(byId('new-lock'), lockOptions());
+  limitNumbers(page.session.machine.ranges);
+  byId('new').addEventListener('submit', (event) => {
+    event.preventDefault();
+    page.playing.beginNew(event.target);
+  });
+  byId('speed').addEventListener('change', () => page.stepping.setSpeed(byId('speed').value));
+  byId('every').addEventListener('change', () => page.playing.toggleEvery());
+  byId('slider').addEventListener('input', (event) => page.go(Number(event.target.value)));
+  byId('lanes').addEventListener('scroll', () => page.draw());
+  addEventListener('resize', () => page.fit());
+  addEventListener('popstate', () => page.address.open());
+  addEventListener('pagehide', () => page.address.flush());
+  addEventListener('beforeprint', () => drawPaper(page, page.sheet));
+}

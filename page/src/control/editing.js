@@ -1,0 +1,79 @@
+// The schedule as a text: typed, mended, opened from a file, saved and copied.
+
+import { bytesOf, lettersOf } from '../lib/bytes.js';
+import { Editor } from '../view/editor.js';
+import { bytesOfFile, saveAs } from '../view/verdict_view.js';
+import { tell, toClipboard } from '../view/notice.js';
+import { texts } from '../texts/texts.js';
+import { withoutValues } from '../model/trace_text.js';
+
+export class Editing {
+  constructor(page) {
+    this.page = page;
+    this.editor = new Editor((text, line) => this.edited(text, line), (line) => this.caretAt(line));
+  }
+
+  // Of several files the first is shown. The others are kept, and listed with the lessons.
+  async openFiles([first, ...others]) {
+    try {
+      for (const file of [...others.reverse(), first]) this.openText(await bytesOfFile(file));
+      if (others.length) tell(texts.own.several(first.name, others.length));
+    } catch {
+      tell(texts.couldNotRead);
+    }
+  }
+
+  // A trace is shown without its values.
+  openText(text, run) {
+    const without = run?.hasLock && !run.fault ? text : withoutValues(text);
+    this.page.openOwn(without, 0, without === text ? run : undefined);
+    if (without !== text) tell(texts.own.trace);
+  }
+
+  // A text that is no schedule does not take the place of what is shown.
+  paste(letters) {
+    const text = new TextEncoder().encode(letters);
+    const { page } = this;
+    const run = page.session.runOf(text);
+    if (run.hasLock || (letters && page.mode === 'own')) this.openText(text, run);
+    else tell(texts.noSchedule);
+  }
+
+  edited(text, line) {
+    const { page } = this;
+    page.stepping.pause();
+    page.quiz.clear();
+    page.playing.remember('edit');
+    page.derive(text, (session) => session.moveAtLine(line));
+  }
+
+  caretAt(line) { this.page.go(this.page.session.moveAtLine(line)); }
+
+  mend(line) {
+    const at = this.page.session.run.fault.line;
+    const { letters, plain } = lettersOf(this.page.session.run.text);
+    const lines = letters.split('\n');
+    lines[at - 1] = line;
+    this.edited(bytesOf(lines.join('\n'), plain), at);
+  }
+
+  removeReturns() {
+    const { letters, plain } = lettersOf(this.page.session.run.text);
+    this.edited(bytesOf(letters.replace(/\r+(?=\n|$)/g, ''), plain), 1);
+  }
+
+  save() {
+    const { lesson, held } = this.page.session;
+    saveAs(lesson ? `${lesson}.schedule` : texts.own.fileName, held);
+  }
+
+  copy() {
+    const { letters } = lettersOf(this.page.session.held);
+    toClipboard(letters, texts.own.copied, texts.own.notCopied);
+  }
+
+  keepRemarks() {
+    this.page.session.keepRemarks();
+    this.page.show();
+  }
+}

@@ -1,0 +1,123 @@
+// To take away: the state as a picture, the report, the schedule, and a frame for a slide.
+
+import { animated } from '../lib/animated_png.js';
+import { withoutLooks } from '../model/looks.js';
+import { byId } from '../lib/markup.js';
+import { isAsked } from '../model/remarks.js';
+import { statePicture, stripPicture } from '../view/state_picture.js';
+import { saveAs } from '../view/verdict_view.js';
+import { reportOf } from '../model/report.js';
+import { tell, toClipboard } from '../view/notice.js';
+import { texts } from '../texts/texts.js';
+import { tikzOf } from '../view/tikz.js';
+
+const T = texts.take;
+const SHARPER = 2;
+// Of several moves: at most so many, each so long on the screen, and the last one longer.
+const MOST = 40;
+const SHOWN = { each: 1200, last: 3000 };
+const FRAME = { width: 960, height: 480 };
+
+const nameOf = (session, ending) => `${session.lesson ?? 'schedule'}-${session.place}.${ending}`;
+
+const encoded = (text) => new TextEncoder().encode(text);
+
+// A picture with room below, so that all of an animation have one size.
+async function png({ width, height, text }, [wide, tall] = [width, height]) {
+  const image = new Image();
+  image.src = `data:image/svg+xml;charset=utf-8,${encodeURIComponent(text)}`;
+  await image.decode();
+  const canvas = document.createElement('canvas');
+  canvas.width = wide * SHARPER;
+  canvas.height = tall * SHARPER;
+  const context = canvas.getContext('2d');
+  context.scale(SHARPER, SHARPER);
+  context.fillStyle = getComputedStyle(document.documentElement).getPropertyValue('--card');
+  context.fillRect(0, 0, wide, tall);
+  context.drawImage(image, 0, 0);
+  const blob = await new Promise((done) => { canvas.toBlob(done, 'image/png'); });
+  return new Uint8Array(await blob.arrayBuffer());
+}
+
+// What is in the picture, as the dialog says it.
+const wantedNow = () => Object.fromEntries([...byId('take').querySelectorAll('[type=checkbox]')]
+  .map(({ name, checked }) => [name, checked]));
+
+// From which move to which one, as the dialog says it.
+function stretchNow({ session: { run: { count } } }) {
+  const [from, to] = ['take-from', 'take-to'].map((id) => (
+    Math.min(count, Math.max(0, Math.trunc(byId(id).value) || 0))));
+  return from <= to ? [from, Math.min(to, from + MOST - 1)] : [to, Math.min(from, to + MOST - 1)];
+}
+
+// The state for a paper: drawn for a moment where it is not seen.
+export function tikzPicture(page) {
+  const box = document.createElement('div');
+  box.className = 'unseen';
+  box.innerHTML = pictureOf(page).text;
+  document.body.append(box);
+  const text = tikzOf(box.querySelector('svg'));
+  box.remove();
+  return text;
+}
+
+export const stripOf = (page) => stripPicture(page, ...stretchNow(page));
+
+export async function animatedOf(page) {
+  const [from, to] = stretchNow(page);
+  const pictures = Array.from({ length: to - from + 1 }, (_, at) => (
+    statePicture(page, wantedNow(), from + at)));
+  const size = ['width', 'height'].map((what) => Math.max(...pictures.map((one) => one[what])));
+  const frames = [];
+  for (const picture of pictures) frames.push(await png(picture, size));
+  return animated(frames, SHOWN.each, SHOWN.last);
+}
+
+export const pictureOf = (page) => statePicture(page, wantedNow());
+// The state as the bytes of a picture.
+export const pngOf = (page) => png(pictureOf(page));
+
+export function frameOf(address) {
+  const source = withoutLooks(address).replaceAll('&', '&amp;').replaceAll('"', '&quot;');
+  return `<iframe src="${source}&amp;embed&amp;show=memory,code" width="${FRAME.width}" `
+    + `height="${FRAME.height}"></iframe>`;
+}
+
+export function takeAway(page) {
+  const { session, address } = page;
+  return {
+    svg: () => saveAs(nameOf(session, 'svg'), encoded(pictureOf(page).text), 'image/svg+xml'),
+    png: () => pngOf(page).then((bytes) => saveAs(nameOf(session, 'png'), bytes, 'image/png'))
+      .catch(() => tell(T.noPicture)),
+    tikz: () => saveAs(nameOf(session, 'tex'), encoded(tikzPicture(page))),
+    strip: () => saveAs(nameOf(session, 'strip.svg'), encoded(stripOf(page).text), 'image/svg+xml'),
+    animated: () => animatedOf(page)
+      .then((bytes) => saveAs(nameOf(session, 'moves.png'), bytes, 'image/png'))
+      .catch(() => tell(T.noPicture)),
+    report: () => saveAs(nameOf(session, 'report'), encoded(reportOf(session.run))),
+    schedule: () => page.editing.save(),
+    frame: () => {
+      address.flush();
+      toClipboard(frameOf(location.href), T.frameCopied, texts.own.notCopied);
+    },
+  };
+}
+
+// The dialog in which it is chosen.
+export function takeDialog(page) {
+  const dialog = byId('take');
+  const does = takeAway(page);
+  dialog.addEventListener('click', (event) => {
+    const { take } = event.target.closest('[data-take]')?.dataset ?? {};
+    if (event.target === dialog || take) dialog.close();
+    if (take) does[take]();
+  });
+  return () => {
+    const { move, run: { count } } = page.session;
+    byId('take-from').value = Math.max(0, move - 3);
+    byId('take-to').value = Math.min(count, Math.max(3, move));
+    byId('take-answer').hidden = !isAsked(page.session.view({ answered: page.answered }));
+    dialog.showModal();
+    dialog.querySelector('[data-take]').focus();
+  };
+}

@@ -1,0 +1,138 @@
+// The dialog in which a moment is looked for: a kind of transition, or lines of the reader's own.
+// The schedule that the module finds is opened at the move that was looked for: of lines the last.
+
+import { bytesOf } from '../lib/bytes.js';
+import { ANSWER, OUTCOMES } from '../machine/codes.js';
+import { firstOf, kindsOf } from '../model/kinds.js';
+import { language } from '../texts/language.js';
+import { LOCK_NAMES } from '../locks/locks.js';
+import { byId, html, show, write } from '../lib/markup.js';
+import { lockOptions, newHeader } from '../view/choices_view.js';
+import { FOUND, find } from '../machine/search.js';
+import { texts } from '../texts/texts.js';
+
+const T = texts.find;
+
+const withCommas = (number) => number.toLocaleString(language);
+
+// Why there is no run to show.
+function refusal({ answer, count }, { threads, rounds, sketch }) {
+  const states = withCommas(count);
+  return {
+    [FOUND.nowhere]: () => T.nowhere(texts.threads(threads), T.rounds(rounds), states),
+    [FOUND.tooLarge]: () => T.tooLarge(states),
+    [FOUND.longRun]: () => T.longRun,
+    [FOUND.badLine]: () => {
+      const word = sketch.split('\n')[count - 1].split(' ').find((one) => OUTCOMES.includes(one));
+      return word ? T.outcome(count, word) : T.badLine(count);
+    },
+    [FOUND.manyLines]: () => T.manyLines(count),
+    [FOUND.noRoom]: () => T.noRoom(count),
+    [FOUND.notAsked]: () => T.notAsked,
+  }[answer]();
+}
+
+// The schedule with what was looked for, as comments.
+function scheduleOf(header, run, { title, sketch, threads, rounds }) {
+  const comments = [
+    `#! title ${title}`, `# ${T.comment(texts.threads(threads), T.rounds(rounds))}`,
+    ...sketch.split('\n').filter((line) => line.trim()).map((line) => `#   ${line}`),
+  ];
+  return bytesOf(`${comments.join('\n')}\n${header}${run.map((move) => `${move}\n`).join('')}`);
+}
+
+class Finding {
+  constructor(page) {
+    this.page = page;
+    this.form = byId('find-form');
+    this.kinds = [];
+  }
+
+  get machine() { return this.page.session.machine; }
+
+  get fields() { return this.form.elements; }
+
+  open() {
+    const { stored } = this.machine;
+    byId('find-search').disabled = Boolean(stored);
+    write(byId('find-answer'), stored ? texts.play.noMachine : '');
+    if (!stored) this.takeLock(this.page.session.run);
+    byId('find').showModal();
+    this.fields.kind.focus();
+  }
+
+  // The lock that is shown, unless it was shown already when the dialog was last opened.
+  takeLock({ hasLock, kind }) {
+    if (hasLock && kind !== this.shown) {
+      this.shown = kind;
+      this.fields.lock.value = LOCK_NAMES[kind];
+      this.listKinds();
+    } else if (!this.kinds.length) {
+      this.listKinds();
+    }
+  }
+
+  // The kinds of the chosen lock. The lines of another lock's are not kept.
+  listKinds() {
+    this.kinds = kindsOf(this.fields.lock.value);
+    const options = this.kinds.map(({ name }, at) => html`<option value="${at}">${name}</option>`);
+    show(this.fields.kind, html`<option value="">${T.own}</option>${options}`);
+    this.fields.kind.value = '';
+    this.fields.sketch.value = '';
+    // An example, which an empty field stands for.
+    this.fields.sketch.placeholder = this.kinds[this.kinds.length >> 1].sketch;
+  }
+
+  chooseKind() {
+    const chosen = this.kinds[this.fields.kind.value];
+    if (chosen) this.fields.sketch.value = chosen.sketch;
+  }
+
+  // What is asked for, and the lock in the beginning; null if the machine knows no such lock.
+  asked() {
+    const header = newHeader(this.form);
+    const { state } = this.machine.play(bytesOf(header), 0, false);
+    if (state.answer === ANSWER.fault) return null;
+    const sketch = this.fields.sketch.value || this.fields.sketch.placeholder;
+    const chosen = this.kinds[this.fields.kind.value];
+    const kind = chosen?.sketch === sketch ? chosen : null;
+    const title = kind?.name ?? sketch.trim().split(/\s*\n\s*/).join('; ');
+    const rounds = Number(this.fields.rounds.value);
+    return { header, state, rounds, sketch, title, kind, threads: state.threads };
+  }
+
+  search() {
+    const asked = this.asked();
+    if (!asked) {
+      write(byId('find-answer'), T.notAsked);
+      return;
+    }
+    const found = find(this.machine, asked.state, asked.rounds, asked.sketch);
+    if (found.answer !== FOUND.run) {
+      write(byId('find-answer'), refusal(found, asked));
+      return;
+    }
+    byId('find').close();
+    const text = scheduleOf(asked.header, found.moves, asked);
+    const run = this.page.session.runOf(text);
+    this.page.open(text, null, (asked.kind && firstOf(run, asked.kind)) || run.count, run);
+    this.page.modes.set('lessons');
+  }
+}
+
+export function findDialog(page) {
+  const finding = new Finding(page);
+  const dialog = byId('find');
+  dialog.addEventListener('click', (event) => { if (event.target === dialog) dialog.close(); });
+  show(byId('find-lock'), lockOptions());
+  const { lock, kind } = finding.fields;
+  lock.addEventListener('change', () => finding.listKinds());
+  kind.addEventListener('change', () => finding.chooseKind());
+  finding.form.addEventListener('submit', (event) => {
+    event.preventDefault();
+    write(byId('find-answer'), T.searching);
+    // After the browser has shown that it searches.
+    setTimeout(() => finding.search(), 30);
+  });
+  return () => finding.open();
+}

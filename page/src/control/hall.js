@@ -1,0 +1,32 @@
+// What a lecturer does in hall mode by key or by clicker: blanks the screen, fills it, and leaves.
+
+import { looks } from '../model/looks.js';
+import { tell } from '../view/notice.js';
+import { texts } from '../texts/texts.js';
+
+export class Hall {
+  constructor(page) {
+    this.page = page;
+    this.isBlank = false;
+  }
+
+  // The next key or click shows the page again.
+  blank(isBlank) {
+    this.isBlank = isBlank;
+    document.body.classList.toggle('blank', isBlank);
+  }
+
+  async fillScreen() {
+    try {
+      if (document.fullscreenElement) await document.exitFullscreen();
+      else await document.documentElement.requestFullscreen();
+    } catch {
+      tell(texts.hall.noFullScreen);
+    }
+  }
+
+  leave() {
+    this.page.lecture.end();
+    if (looks.hall) this.page.toggleHall();
+  }
+}

@@ -1,0 +1,87 @@
+// Keys for everything. A key that a field or a button needs for itself is left to it.
+
+import { signList } from '../view/legend.js';
+import { byId, html, show } from '../lib/markup.js';
+import { looks } from '../model/looks.js';
+import { toggleTheme, zoom } from '../view/draw_page.js';
+import { texts } from '../texts/texts.js';
+
+const IN_FIELDS = 'textarea, select, '
+  + 'input:not([type=range]):not([type=radio]):not([type=checkbox])';
+const FAR = 10;
+const WIDER = 1.25;
+
+function actions(page) {
+  const { address, comparing, hall, lecture, modes, playing, presenter, stepping } = page;
+  return {
+    ArrowRight: () => stepping.step(1), ArrowLeft: () => stepping.step(-1),
+    PageDown: () => stepping.step(looks.hall ? 1 : FAR),
+    PageUp: () => stepping.step(looks.hall ? -1 : -FAR),
+    Home: () => page.go(0), End: () => stepping.end(), ' ': () => stepping.toggleRunning(),
+    ']': () => stepping.sameThread(1), '[': () => stepping.sameThread(-1),
+    n: () => lecture.next(), j: () => stepping.nextQuestion(), a: () => stepping.toggleAnswer(),
+    o: () => page.chooseLesson(), e: () => modes.toggle('own'), g: () => modes.toggle('play'),
+    q: () => modes.toggleQuiz(),
+    w: () => page.mode === 'play' && playing.toggleEvery(),
+    c: () => comparing.toggle(), u: () => playing.undo(), l: () => address.copy(),
+    t: () => page.showTake(), m: () => page.showFind(),
+    h: () => page.toggleHall(), s: () => hall.fillScreen(), Escape: () => hall.leave(),
+    v: () => page.showView(), f: () => page.toggleFuture(),
+    p: () => page.showSheets(), d: () => toggleTheme(page), '?': () => page.showKeys(),
+    '.': () => (looks.hall ? hall.blank(true) : stepping.faster(1)), ',': () => stepping.faster(-1),
+    2: () => presenter.open(),
+    '+': () => zoom(page, WIDER), '=': () => zoom(page, WIDER), '-': () => zoom(page, 1 / WIDER),
+  };
+}
+
+// Keys on the lanes.
+const onLanes = ({ stepping }) => ({
+  ArrowDown: () => stepping.chooseLane(1), ArrowUp: () => stepping.chooseLane(-1),
+  Enter: () => stepping.laneMove(),
+});
+
+// Keys that a focused control uses itself.
+function isTheirs(key, target) {
+  if (target.closest(IN_FIELDS)) return true;
+  if (target.matches('input[type=radio]')) return /^Arrow| $/.test(key);
+  if (target.matches('input[type=checkbox]')) return key === ' ';
+  return key === ' ' && target.closest('button, summary') !== null;
+}
+
+export function listenForKeys(page) {
+  const does = actions(page);
+  const lanes = onLanes(page);
+  addEventListener('keydown', (event) => {
+    if (page.hall.isBlank) {
+      event.preventDefault();
+      page.hall.blank(false);
+      return;
+    }
+    const undoes = (event.ctrlKey || event.metaKey) && event.key === 'z'
+      && !event.target.closest(IN_FIELDS);
+    if (undoes) page.playing.undo();
+    if (event.ctrlKey || event.metaKey || event.altKey) return;
+    if (event.key === 'Escape' && event.target.closest(IN_FIELDS)) event.target.blur();
+    if (document.querySelector('dialog[open]') || isTheirs(event.key, event.target)) return;
+    const key = event.key.length === 1 ? event.key.toLowerCase() : event.key;
+    const onLane = event.target.id === 'lanes' && lanes[key];
+    const thread = page.mode === 'play' && /^[0-9]$/.test(key);
+    const digit = thread && (() => page.playing.chooseFor(Number(key)));
+    const act = onLane || digit || does[key];
+    if (!act) return;
+    event.preventDefault();
+    act();
+  });
+}
+
+export function keysDialog() {
+  const dialog = byId('keys');
+  dialog.addEventListener('click', (event) => { if (event.target === dialog) dialog.close(); });
+  return () => {
+    const rows = texts.keys.list
+      .map(([key, does]) => html`<dt><kbd>${key}</kbd></dt><dd>${does}</dd>`);
+    show(byId('key-list'), html`${rows}`);
+    show(byId('sign-list'), signList());
+    dialog.showModal();
+  };
+}

@@ -1,0 +1,100 @@
+// A lecture after one of the plans: its steps in hall mode, each at its place, and a clock with the
+// minutes that are left.
+
+import { looks, partsOf } from '../model/looks.js';
+import { byId, html, show, write } from '../lib/markup.js';
+import { minutesOf, plansDialog, titleOf } from '../view/lesson_plans.js';
+import { texts } from '../texts/texts.js';
+
+const T = texts.plans;
+const SECOND = 1000;
+const MINUTE = 60;
+
+// Minutes and seconds; after the end with a minus.
+function clockText(seconds) {
+  const all = Math.abs(seconds);
+  const rest = String(all % MINUTE).padStart(2, '0');
+  return `${seconds < 0 ? '−' : ''}${Math.floor(all / MINUTE)}:${rest}`;
+}
+
+export class Lecture {
+  constructor(page, plans) {
+    this.page = page;
+    this.plans = plans;
+    this.plan = null;
+    this.at = 0;
+    this.choose = plansDialog(plans, {
+      begin: (lock, step) => this.begin(lock, step),
+      print: (lesson) => { page.openLesson(lesson); page.showSheets('exercise'); },
+    });
+  }
+
+  get isOn() { return this.plan !== null; }
+  get step() { return this.plan.steps[this.at]; }
+  get following() { return this.plan.steps[this.at + 1]; }
+
+  // The clock begins with the minute of the step.
+  begin(lock, at) {
+    this.plan = this.plans.find((plan) => plan.lock === lock);
+    this.ends = Date.now() + (minutesOf(this.plan) - this.plan.steps[at].from) * MINUTE * SECOND;
+    clearInterval(this.ticking);
+    this.ticking = setInterval(() => this.tick(), SECOND);
+    this.go(at);
+  }
+
+  end() {
+    clearInterval(this.ticking);
+    this.plan = null;
+    this.page.draw();
+  }
+
+  // The plans, or the next step of the one that is given.
+  next() {
+    if (!this.isOn) this.choose();
+    else if (this.following) this.go(this.at + 1);
+  }
+
+  back() { if (this.isOn && this.at) this.go(this.at - 1); }
+
+  go(at) {
+    this.at = at;
+    const { page, step: { lesson, move, show: parts, play, compare } } = this;
+    Object.assign(looks, { hall: true, parts: partsOf(parts) });
+    page.modes.set('lessons');
+    page.comparing.kind = null;
+    page.openLesson(lesson, move);
+    page.goOnWith(play, compare);
+  }
+
+  get left() { return Math.round((this.ends - Date.now()) / SECOND); }
+  get clock() { return clockText(this.left); }
+
+  tick() {
+    const clock = byId('lecture-clock');
+    if (clock) write(clock, this.clock);
+    this.page.presenter.draw();
+  }
+
+  draw() {
+    if (!this.isOn) {
+      show(byId('lecture'), html``);
+      return;
+    }
+    const { plan, at, step } = this;
+    show(byId('lecture'), html`<span title="${titleOf(plan)}">${
+  T.step(at + 1, plan.steps.length)}</span> <span>${T.minutes(step.from, step.to)}</span>
+      <b id="lecture-clock" title="${T.left}">${this.clock}</b>
+      <button type="button" data-lecture="back" aria-label="${T.back}">‹</button>
+      <button type="button" data-lecture="next">${this.following ? T.next : T.last}</button>`);
+  }
+}
+
+// A plan's own question above the parts, beside that of the lesson.
+export function lectureView({ lecture, answered }) {
+  if (!lecture.isOn) return null;
+  const { say, ask, answer, play } = lecture.step;
+  return html`${say && html`<p class="plan-say">${say}</p>`}
+    ${play && html`<div class="question"><p><b>${texts.question}</b> ${ask}</p>
+      <details ${answered && 'open'}><summary>${texts.showAnswer}</summary><p>${answer}</p>
+      </details></div>`}`;
+}

@@ -1,0 +1,106 @@
+// The start: what the page is, the lessons of each lock in their order, what was kept, and what one
+// can do oneself. It is also where a lesson is chosen later.
+
+import { doneLessons } from '../model/done_lessons.js';
+import { LANGUAGE_NAMES, language } from '../texts/language.js';
+import { LiveCards } from '../view/live_cards.js';
+import { LOCKS } from '../locks/locks.js';
+import { byId, html, show } from '../lib/markup.js';
+import { remarksOf } from '../model/remarks.js';
+import { withTerms } from '../view/terms.js';
+import { texts } from '../texts/texts.js';
+
+export const FIRST_LESSON = 'ticket-hand-over';
+const T = texts.lessons;
+// Seconds for a move and for a question.
+const PACE = { move: 8, question: 30 };
+
+// Lessons with what one learns in them, how many moves they have and how long they take.
+export function described(lesson, run) {
+  const { title, learn, ask } = remarksOf(lesson.text);
+  const seconds = PACE.move * run.last + PACE.question * ask.size;
+  const minutes = Math.max(1, Math.round(seconds / 60));
+  return { ...lesson, title: title || lesson.title, learn, moves: run.last, minutes };
+}
+
+function lessonButton({ name, title, learn, moves, minutes }, number, current) {
+  const isDone = doneLessons().has(name);
+  return html`<li><button type="button" data-lesson="${name}"
+    ${name === current && html`aria-current="true"`}><span class="number">${
+  isDone ? html`<span title="${T.done}" aria-label="${T.done}">✓</span>` : number}</span>
+    <span><b>${title}</b>${learn && html`<span class="learn">${learn}</span>`}
+    <span class="soft">${learn ? T.size(moves, minutes) : name}</span></span></button></li>`;
+}
+
+const listOf = (lessons, current) => html`<ol>${lessons.map((one, at) => (
+  lessonButton(one, at + 1, current)))}</ol>`;
+
+function cardView({ name, title }, lessons, current) {
+  return html`<section class="lock-card" data-lock="${name}"><div class="live"
+    data-live="${name}" aria-hidden="true"></div><h3>${title}</h3>
+    <p>${withTerms(T.teaches[name])}</p>${listOf(lessons, current)}</section>`;
+}
+
+function keptView(kept) {
+  if (!kept.length) return null;
+  const one = ({ name, title, place }) => html`<button type="button" data-kept="${name}">
+    ${title || texts.untitled} <span class="soft">${T.keptMove(place)}</span></button>`;
+  return html`<section class="kept"><h3>${T.kept}</h3>${kept.map(one)}</section>`;
+}
+
+const WAYS = ['own', 'play', 'find', 'plans'];
+
+const waysView = (isStored) => html`<section class="ways">${WAYS.map((way) => html`<button
+  type="button" data-way="${way}" ${isStored && way !== 'plans' && 'disabled'}><b>${
+  T.ways[way][0]}</b><span>${T.ways[way][1]}</span></button>`)}</section>`;
+
+// What is refused, which one reads up, and does not begin with.
+function refusedView(lessons, current) {
+  const groups = ['refused', 'fault'].map((group) => html`<div><h4>${T.groups[group]}</h4>
+    ${listOf(lessons.filter((one) => one.group === group), current)}</div>`);
+  const isOpen = lessons.some(({ name, group }) => name === current && T.groups[group]);
+  return html`<details class="refusals" ${isOpen && 'open'}><summary>${T.refusals}</summary>
+    <div>${groups}</div></details>`;
+}
+
+const languages = () => html`<p class="languages">${Object.entries(LANGUAGE_NAMES)
+  .map(([name, own]) => html`<button type="button" data-lang="${name}" lang="${name}"
+  aria-pressed="${name === language}">${own}</button>`)}</p>`;
+
+function startView(lessons, current, kept, isStored) {
+  const cards = LOCKS.map((lock) => (
+    cardView(lock, lessons.filter(({ group }) => group === lock.name), current)));
+  return html`<p class="what">${T.what.map((one) => html`${withTerms(one)} `)}</p>${languages()}
+    ${keptView(kept)}<div class="cards">${cards}</div>${waysView(isStored)}
+    ${refusedView(lessons, current)}`;
+}
+
+// At once, so that its pictures are none of the page's.
+export function closeLessons() {
+  byId('lessons').close();
+  show(byId('lesson-list'), html``);
+}
+
+// `choose` has what each choice does; `session` plays the lessons that are pictured.
+export function lessonsDialog(lessons, session, choose) {
+  const dialog = byId('lessons');
+  const live = new LiveCards(lessons, session);
+  let all = null;
+  dialog.addEventListener('click', (event) => {
+    const chosen = event.target.closest('[data-lesson], [data-kept], [data-way], [data-lang]');
+    if (event.target === dialog || chosen) dialog.close();
+    const [what, value] = Object.entries(chosen?.dataset ?? {})[0] ?? [];
+    if (what) choose[what](value);
+  });
+  dialog.addEventListener('close', () => {
+    live.stop();
+    closeLessons();
+  });
+  return (current, kept) => {
+    all ??= lessons.map((lesson) => described(lesson, session.runOf(lesson.text)));
+    show(byId('lesson-list'), startView(all, current, kept, session.machine.stored));
+    dialog.showModal();
+    live.draw(dialog);
+    dialog.querySelector('[aria-current]')?.focus();
+  };
+}

@@ -1,0 +1,70 @@
+// Starts the page: the machine, or what was stored of it, the lessons, and the controls.
+
+import { fromBase64 } from '../lib/bytes.js';
+import { listen } from './controls.js';
+import { learnKinds } from '../model/kinds.js';
+import { language, learnLessons, translatedTerms } from '../texts/language.js';
+import { linesOf } from '../machine/locks_code.js';
+import { looks } from '../model/looks.js';
+import { Machine } from '../machine/machine.js';
+import { byId } from '../lib/markup.js';
+import { Page } from './page.js';
+import { drawTheme } from '../view/draw_page.js';
+import { Session } from '../model/session.js';
+import { StoredMachine } from '../machine/stored_machine.js';
+import { learnTerms } from '../view/terms.js';
+import { testPort } from './test_port.js';
+import { texts } from '../texts/texts.js';
+import { learnWords } from '../machine/word_names.js';
+
+// The machine if the browser can run it, else what it answered when the page was built.
+function runOrStored(data) {
+  try {
+    return new Machine(fromBase64(data.module));
+  } catch {
+    return new StoredMachine(data.stored);
+  }
+}
+
+// The machine, and which numbers it takes in a schedule.
+const machineOf = (data) => Object.assign(runOrStored(data), { ranges: data.ranges });
+
+// The texts of the page that never change.
+function writeTexts() {
+  document.documentElement.lang = language;
+  const named = (path) => path.split('.').reduce((at, name) => at[name], texts);
+  const all = (selector) => document.querySelectorAll(selector);
+  // A blank before the key, so that a name is not read as one word with it.
+  for (const node of all('[data-text]')) node.prepend(`${named(node.dataset.text)} `);
+  for (const node of all('[data-label]')) {
+    node.setAttribute('aria-label', named(node.dataset.label));
+    if (node.matches('button, select')) node.title = named(node.dataset.label);
+  }
+  for (const node of all('[data-title]')) node.title = named(node.dataset.title);
+}
+
+// Pictures are laid out by the widths of letters, so these come first. A browser that blocks the
+// page's own letters shows it in the system's.
+export async function start(data) {
+  await Promise.allSettled([...document.fonts].map((face) => face.load()));
+  begin(data);
+}
+
+function begin(data) {
+  learnWords(data.words);
+  learnKinds(data.kinds);
+  learnLessons(data.translations);
+  learnTerms(translatedTerms(data.terms));
+  const machine = machineOf(data);
+  const lessons = data.lessons.map((lesson) => ({ ...lesson, text: fromBase64(lesson.text) }));
+  writeTexts();
+  const page = new Page(new Session(machine, linesOf(data.code)), lessons, data.plans);
+  listen(page);
+  drawTheme();
+  page.stepping.draw();
+  byId('banner').hidden = !machine.stored;
+  for (const id of ['mode-own', 'mode-play', 'show-find']) byId(id).disabled = machine.stored;
+  page.address.begin();
+  if (looks.sheet) page.showSheets(looks.sheet);
+  window.lockreplay = { test: testPort(page) };
+}

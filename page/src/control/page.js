@@ -1,0 +1,166 @@
+// The page as a whole: what is shown, and at which move. What the controls do is in the parts
+// that it is made of, each with the page at hand.
+
+import { aboutDialog } from './about_dialog.js';
+import { Address } from './address.js';
+import { Comparing } from './comparing.js';
+import { noteDone } from '../model/done_lessons.js';
+import { titleOf } from '../view/draw_texts.js';
+import { Editing } from './editing.js';
+import { findDialog } from './find_dialog.js';
+import { Hall } from './hall.js';
+import { keysDialog } from './keys.js';
+import { Lecture } from './lecture.js';
+import { closeLessons, lessonsDialog } from './lessons_dialog.js';
+import { Modes } from './modes.js';
+import { plansWith } from '../view/lesson_plans.js';
+import { Playing } from './playing.js';
+import { Presenter } from './presenter.js';
+import { Quiz } from '../model/quiz.js';
+import { looks, toggleHall } from '../model/looks.js';
+import { drawPage } from '../view/draw_page.js';
+import { Stepping } from './stepping.js';
+import { takeDialog } from './export_dialog.js';
+import { sheetsDialog, viewDialog } from './view_dialogs.js';
+
+export class Page {
+  constructor(session, lessons, plans) {
+    this.session = session;
+    this.lessons = lessons;
+    this.quiz = new Quiz();
+    this.zoomed = 1;
+    // The thread whose lane is chosen.
+    this.lane = null;
+    this.address = new Address(this);
+    this.comparing = new Comparing(this);
+    this.editing = new Editing(this);
+    this.hall = new Hall(this);
+    this.modes = new Modes(this);
+    this.playing = new Playing(this);
+    this.stepping = new Stepping(this);
+    this.presenter = new Presenter(this);
+    this.lecture = new Lecture(this, plansWith(plans, lessons));
+    this.openLessons = lessonsDialog(lessons, session.twin(), this.choices());
+    this.showKeys = keysDialog();
+    this.showAbout = aboutDialog(this);
+    this.showTake = takeDialog(this);
+    this.showView = viewDialog(this);
+    this.showFind = findDialog(this);
+    this.sheet = 'worked';
+    this.showSheets = sheetsDialog((sheet) => this.print(sheet));
+  }
+
+  // What is chosen at the start.
+  choices() {
+    const ways = {
+      own: () => this.modes.set('own'), play: () => this.modes.set('play'),
+      find: () => this.showFind(), plans: () => this.lecture.choose(),
+    };
+    return {
+      lesson: (name) => this.openLesson(name), kept: (name) => this.address.openKept(name),
+      way: (name) => ways[name](), lang: (name) => this.address.inLanguage(name),
+    };
+  }
+
+  get mode() { return this.modes.mode; }
+  get title() { return titleOf(this.session); }
+
+  // The lesson after this one, of the same lock or of the next.
+  get nextLesson() {
+    const at = this.lessons.findIndex(({ name }) => name === this.session.lesson);
+    return at < 0 ? null : this.lessons[at + 1] ?? null;
+  }
+
+  // Whether the moves to come are hidden, since they are asked for.
+  get hides() { return this.quiz.hides(this.session); }
+
+  toggleHall() {
+    toggleHall();
+    this.show();
+  }
+
+  toggleFuture() {
+    looks.future = !looks.future;
+    this.draw();
+  }
+
+  print(sheet) {
+    this.sheet = sheet;
+    window.print();
+    this.sheet = 'worked';
+  }
+
+  chooseLesson() { this.openLessons(this.session.lesson, this.address.keptNow()); }
+
+  openLesson(name, move = 0) {
+    const { text } = this.lessons.find((lesson) => lesson.name === name);
+    this.open(text, name, move);
+    this.modes.fitLesson();
+  }
+
+  // From the move that is shown on with others, and beside what this is compared with then.
+  goOnWith(moves, isCompared) {
+    if (moves) this.playing.branch(moves.split(','));
+    if (moves || isCompared) this.comparing.begin();
+    this.show();
+  }
+
+  openOwn(text, move = 0, run) {
+    this.open(text, null, move, run);
+    this.modes.set('own');
+  }
+
+  // Another schedule in place of this one, which Undo and Back bring back.
+  open(text, lesson, move, run) {
+    closeLessons();
+    this.stepping.pause();
+    this.playing.remember('open');
+    this.address.leave(lesson);
+    this.quiz.clear();
+    this.session.open(text, lesson, move, run);
+    this.show();
+  }
+
+  // A schedule that was made from this one.
+  derive(text, move) {
+    if (this.session.lesson || this.address.damaged) this.address.leave(null);
+    this.session.derive(text, null, move);
+    this.show();
+  }
+
+  // A schedule that was shown before.
+  restore(before) {
+    if (before.work !== this.address.work) this.address.leave(before.lesson);
+    this.address.work = before.work;
+    this.session.restore(before);
+    this.show();
+  }
+
+  go(move) {
+    const { session, quiz } = this;
+    quiz.clear();
+    session.go(Math.min(move, session.run.last, quiz.limit(session)));
+    this.show();
+  }
+
+  // Another move, or another text: its answer is not shown yet.
+  show() {
+    this.answered = false;
+    noteDone(this.session);
+    this.fit();
+  }
+
+  // The parts may have other sizes: what counts is brought into view again.
+  fit() {
+    this.moved = true;
+    this.draw();
+  }
+
+  draw() {
+    this.comparing.settle();
+    drawPage(this);
+    this.lecture.draw();
+    this.presenter.draw();
+    this.address.writeSoon();
+  }
+}

@@ -1,0 +1,77 @@
+// Playing: a chosen move goes on from the one that is shown, and undo takes it back.
+
+import { bytesOf } from '../lib/bytes.js';
+import { byId } from '../lib/markup.js';
+import { hasRoom, newHeader } from '../view/choices_view.js';
+import { Soon } from '../view/next_kinds.js';
+
+const MOST_UNDONE_BYTES = 16000000;
+
+export class Playing {
+  constructor(page) {
+    this.page = page;
+    this.undone = [];
+    // Whether moves are offered that would be refused.
+    this.every = false;
+    // What can happen next, if the reader wants to see it.
+    this.soon = new Soon(page.session);
+  }
+
+  get possible() {
+    const { mode, session } = this.page;
+    return mode === 'play' && session.run.hasLock && !session.machine.stored;
+  }
+
+  choose(thread, word) { this.goOn([`${thread} ${word}`]); }
+
+  // Goes on with the moves to a transition that can happen next.
+  chooseSoon(at) { this.goOn(this.soon.now().ways[at][1]); }
+
+  goOn(moves) { if (this.possible) this.branch(moves); }
+
+  branch(moves) {
+    const { session } = this.page;
+    if (!hasRoom(session)) return;
+    this.remember('play');
+    const { letters, plain } = session.textWith(moves.join('\n'));
+    this.page.derive(bytesOf(letters, plain), session.move + moves.length);
+    if (!session.stale.length) return;
+    session.leaveOutStale();
+    this.page.show();
+  }
+
+  // The thread's one choice is made; of several the first is focused.
+  chooseFor(thread) {
+    if (!this.possible) return;
+    const choices = byId('choices').querySelectorAll(`[data-thread="${thread}"]`);
+    if (choices.length > 1) choices[0].focus();
+    else choices[0]?.click();
+  }
+
+  toggleEvery() {
+    this.every = !this.every;
+    byId('every').checked = this.every;
+    this.page.draw();
+  }
+
+  // What is shown, before something else is. Edits one after another are one change.
+  remember(why) {
+    const { session, address } = this.page;
+    const last = this.undone[this.undone.length - 1];
+    if (!session.run || (why === 'edit' && last?.why === 'edit')) return;
+    this.undone.push({ ...session.shown, work: address.work, why });
+    let room = MOST_UNDONE_BYTES;
+    const kept = this.undone.findLastIndex(({ text }) => { room -= text.length; return room < 0; });
+    if (kept >= 0) this.undone.splice(0, kept + 1);
+  }
+
+  undo() {
+    const before = this.undone.pop();
+    if (!before) return;
+    this.page.stepping.pause();
+    this.page.quiz.clear();
+    this.page.restore(before);
+  }
+
+  beginNew(form) { this.page.open(new TextEncoder().encode(newHeader(form)), null, 0); }
+}

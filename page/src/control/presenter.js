@@ -1,0 +1,64 @@
+// A second window for who gives the lecture: what the hall does not see yet. It is drawn by this
+// window, since a page from disk may not open itself twice and talk to itself.
+
+import { whoRows } from '../view/move_view.js';
+import { html, show } from '../lib/markup.js';
+import { sentence } from '../locks/sentences.js';
+import { tell } from '../view/notice.js';
+import { texts } from '../texts/texts.js';
+
+const T = texts.presenter;
+const NAME = 'lockreplay-presenter';
+const SHAPE = 'width=820,height=640';
+
+export class Presenter {
+  constructor(page) {
+    this.page = page;
+    this.window = null;
+  }
+
+  get isOpen() { return this.window !== null && !this.window.closed; }
+
+  open() {
+    this.window = window.open('', NAME, SHAPE);
+    if (!this.window) {
+      tell(T.blocked);
+      return;
+    }
+    const { document: there } = this.window;
+    there.title = T.title;
+    there.head.append(...[document.querySelector('style').cloneNode(true)]);
+    there.documentElement.dataset.theme = document.documentElement.dataset.theme ?? '';
+    there.body.className = 'presenter';
+    // Its keys are those of the page.
+    this.window.onkeydown = ({ key }) => document.body.dispatchEvent(
+      new KeyboardEvent('keydown', { key, bubbles: true, cancelable: true }));
+    this.draw();
+  }
+
+  draw() {
+    if (this.isOpen && this.page.session.run.hasLock) show(this.window.document.body, this.view());
+  }
+
+  view() {
+    const { session, lecture } = this.page;
+    const view = session.view({ answered: true });
+    const { run, move, remarks } = view;
+    const next = move < run.count && { ...view, move: move + 1 };
+    return html`<h1>${remarks.title}</h1>
+      <p class="clock">${texts.position(move, run.count)}${lecture.isOn && html`
+        <b>${lecture.clock}</b>`}</p>
+      ${lecture.isOn && lectureRows(lecture)}
+      ${move > 0 && html`<h2>${T.now}</h2><p class="say">${sentence(view, move)}</p>`}
+      <dl class="facts">${whoRows(view, run.state(move))}</dl>
+      ${remarks.ask.has(move) && html`<h2>${texts.question}</h2><p>${remarks.ask.get(move)}</p>
+        <p class="say">${remarks.answer.get(move)}</p>`}
+      ${next && html`<h2>${T.next}</h2><p>${sentence(next, move + 1)}</p>`}`;
+  }
+}
+
+function lectureRows({ step, following }) {
+  return html`<p>${step.say}</p>${step.play && html`<p>${step.ask}</p>
+    <p class="say">${step.answer}</p>`}
+    ${following && html`<p class="soft">${T.following(following.title, following.move)}</p>`}`;
+}

@@ -1,0 +1,128 @@
+// Stepping: from move to move by hand, and by itself at a pace.
+
+import { byId } from '../lib/markup.js';
+import { tell } from '../view/notice.js';
+import { texts } from '../texts/texts.js';
+
+// Milliseconds for a move, by the speed that is chosen.
+const PACES = { '0.5': 1800, 1: 900, 2: 450, 4: 225 };
+
+export class Stepping {
+  constructor(page) {
+    this.page = page;
+    this.timer = 0;
+  }
+
+  step(by) {
+    const { page } = this;
+    if (page.quiz.on && by > 0 && this.askNext()) return;
+    const { place, run: { last } } = page.session;
+    if (place === last && by > 0) return void this.atEnd();
+    page.go(place + by);
+    if (page.quiz.asks(page.session)) page.modes.askFocus();
+  }
+
+  // There is no further move, but perhaps another lesson.
+  atEnd() {
+    const next = document.querySelector('[data-next]');
+    if (next?.checkVisibility()) next.focus();
+    else tell(texts.lessons.noMore);
+  }
+
+  // To the end, or in the quiz to the next question.
+  end() {
+    const { page } = this;
+    page.go(Infinity);
+    if (page.quiz.asks(page.session)) page.modes.askFocus();
+  }
+
+  // Asks for the next move, if there is one.
+  askNext() {
+    const { quiz, session, modes } = this.page;
+    if (quiz.result) {
+      quiz.result = null;
+      this.page.draw();
+    }
+    if (!quiz.asks(session)) return false;
+    modes.askFocus();
+    return true;
+  }
+
+  sameThread(way) {
+    const { run, move } = this.page.session;
+    if (!move) return this.step(Math.max(0, way));
+    const moves = run.movesOf.get(run.records.thread(move));
+    return this.page.go(moves[moves.indexOf(move) + way] ?? move);
+  }
+
+  // Another lane is chosen, by one up or down.
+  chooseLane(by) {
+    const { page } = this;
+    const { lanes } = page.layout;
+    const at = lanes.indexOf(page.lane);
+    page.lane = lanes[Math.min(lanes.length - 1, Math.max(0, at + by))];
+    page.draw();
+    byId(`lane-${page.lane}`)?.scrollIntoView({ block: 'nearest' });
+  }
+
+  // The next move of the lane that is chosen.
+  laneMove() {
+    const { session: { run, place }, lane } = this.page;
+    const next = run.movesOf.get(lane)?.find((move) => move > place);
+    if (next) this.page.go(next);
+  }
+
+  nextQuestion() {
+    const { remarks, move, run } = this.page.session;
+    const asked = [...remarks.ask.keys()].sort((a, b) => a - b);
+    const next = asked.find((at) => at > move && at <= run.count);
+    if (next !== undefined) this.page.go(next);
+  }
+
+  toggleAnswer() {
+    this.page.answered = !this.page.answered;
+    this.page.fit();
+  }
+
+  toggleRunning() {
+    if (this.timer) return this.pause();
+    const { place, run } = this.page.session;
+    if (place >= run.last) this.page.go(0);
+    this.timer = setInterval(() => this.runOn(), PACES[byId('speed').value]);
+    return this.draw();
+  }
+
+  setSpeed(speed) {
+    byId('speed').value = speed;
+    if (!this.timer) return;
+    clearInterval(this.timer);
+    this.timer = setInterval(() => this.runOn(), PACES[speed]);
+  }
+
+  faster(by) {
+    const { options, selectedIndex } = byId('speed');
+    this.setSpeed((options[selectedIndex + by] ?? options[selectedIndex]).value);
+  }
+
+  // Stops when a question is asked, and at the end.
+  runOn() {
+    this.step(1);
+    const { quiz, session } = this.page;
+    const { move, place, run, remarks } = session;
+    if (place >= run.last || remarks.ask.has(move) || quiz.asks(session)) this.pause();
+  }
+
+  pause() {
+    clearInterval(this.timer);
+    this.timer = 0;
+    this.draw();
+  }
+
+  draw() {
+    const button = byId('run');
+    const label = this.timer ? texts.tools.pause : texts.tools.run;
+    button.setAttribute('aria-label', label);
+    button.title = label;
+    button.setAttribute('aria-pressed', Boolean(this.timer));
+  }
+}

@@ -1,0 +1,290 @@
+// The MCS lock: what is said of its steps, and its memory: the tail, and the threads' records in
+// the order of the queue that the machine names. A link is drawn if the word says so; one that
+// is missing is drawn as missing.
+
+import { PHASES } from '../machine/codes.js';
+import { firstFitting, fitted, widthOf } from './fitting.js';
+import { folding, movingThread } from './folding.js';
+import { translated } from '../texts/language.js';
+import { looks } from '../model/looks.js';
+import { html } from '../lib/markup.js';
+import { covers } from '../model/remarks.js';
+import {
+  BOX_EDGES, enteredNow, movingMark, picture, standingIn, standingOf, useOf, wordBox,
+} from './shapes.js';
+import { unlinkedAfter } from '../model/spans.js';
+import { say, texts } from '../texts/texts.js';
+
+const T = translated('mcs', {
+  title: 'MCS queue lock', memory: 'Memory, in the order of the queue', noLink: 'no link',
+  atRest: (who) => `Idle: ${who}`,
+  captions: {
+    nobody: 'The queue is empty.',
+    alone: '{first} is alone in the queue.',
+    linked: 'Every link of the queue is written.',
+    missing: '{before} is followed by {after}, and only {after} knows.',
+  },
+});
+const { captions, atRest } = T;
+const NIL = 'nil';
+// The phases with the number of another thread.
+const NAMES_ANOTHER = ['LinkTo', 'Grant'];
+
+const OWN_VARIABLE = { SetLocked: 'pred', LinkTo: 'pred', Grant: 'succ' };
+const RECORD = {
+  narrowest: 123, widest: 156, height: 108, gap: 52, wideGap: 60, top: 86, row: 170, last: 172,
+  left: 19, edge: 14,
+};
+// Up to so many records stay in one row, even if a picture of two rows would be larger.
+const BESIDE = 4;
+const MOST_NAMED = 8;
+// Records and the tail's box grow for names that threads were given, up to so much.
+const WIDEST = 240;
+const HEAD = { left: 14, right: 13, between: 9 };
+const FIELD = { left: 71, right: 11 };
+const TAIL_BOX = { left: 70, width: 86, widest: 170 };
+
+// Between records there is room for "no link".
+const gapNow = () => (looks.hall ? RECORD.wideGap : RECORD.gap);
+
+function valueText(word, value, { run, names }) {
+  if (run.owned.at(word)?.field === 'locked') return String(value);
+  const named = run.owned.named(value);
+  return named === undefined ? NIL : names.short(named);
+}
+
+function wordName(word, { run, names }) {
+  const owner = run.owned.at(word);
+  return owner ? `${names.short(owner.thread)}.${owner.field}` : 'tail';
+}
+
+// Who is drawn: the queue in its order, then who is in a call, then who rests, if there is
+// room.
+function order(view, state, most) {
+  const { run, move } = view;
+  const others = Array.from({ length: run.threads }, (_, thread) => thread)
+    .filter((thread) => !state.queue.includes(thread));
+  const calling = others.filter((thread) => standingOf(run, move, thread) !== 'rest');
+  const resting = others.filter((thread) => standingOf(run, move, thread) === 'rest');
+  const busy = [...state.queue, ...calling];
+  const fits = busy.length + resting.length <= Math.max(most, busy.length);
+  return { shown: fits ? [...busy, ...resting] : busy, hidden: fits ? [] : resting };
+}
+
+const standingWidth = (standing) => widthOf(texts.standing[standing], 'small');
+const STANDINGS = ['holds', 'line', 'call', 'rest'];
+
+// As wide as the longest name needs as a word's value.
+const valueWidth = (names) => Math.max(0,
+  ...[...names.given.keys()].map((thread) => widthOf(names.short(thread), 'word') + BOX_EDGES));
+
+// As wide as a record's head is with this name.
+const headWidth = (name) => HEAD.left + widthOf(name, 'name') + HEAD.between
+  + Math.max(...STANDINGS.map(standingWidth)) + HEAD.right;
+
+// A record as wide as the names need in its head and in its `next`.
+function widestRecord(names) {
+  const heads = [...names.given.values()].map(headWidth);
+  const wanted = Math.max(...heads, valueWidth(names) + FIELD.left + FIELD.right);
+  return Math.min(WIDEST, Math.max(RECORD.widest, wanted));
+}
+
+// Of more records than have room some are folded: `places` has for each thread where it is.
+function layOut(view, state) {
+  const room = view.width - 2 * RECORD.left;
+  const most = Math.max(1, Math.floor((room + gapNow()) / (RECORD.narrowest + gapNow())));
+  const { shown, hidden } = order(view, state, most);
+  const fitting = Math.max(1, Math.floor((view.height - RECORD.top + RECORD.edge) / RECORD.row));
+  const moving = movingThread(view);
+  const all = folding(shown, (one) => one === moving, view.tight ? most * fitting : Infinity);
+  const inRow = Math.min(most, Math.max(1, all.length));
+  const width = Math.min(widestRecord(view.names), (room - (inRow - 1) * gapNow()) / inRow);
+  const gap = inRow > 1 ? Math.min(88, (room - inRow * width) / (inRow - 1)) : gapNow();
+  const places = new Map();
+  const entries = all.map(({ one, folded }, i) => {
+    const row = Math.floor(i / inRow);
+    const place = {
+      x: RECORD.left + (i % inRow) * (width + gap), y: RECORD.top + row * RECORD.row, row,
+    };
+    (folded ?? [one]).forEach((thread) => places.set(thread, place));
+    return { one, folded, place };
+  });
+  return { places, entries, hidden, width, rows: Math.max(1, Math.ceil(all.length / inRow)) };
+}
+
+function recordField(view, y, label, word, state, width) {
+  const value = valueText(word, state.word(word), view);
+  const use = useOf(view.run, view.marked, word);
+  return html`<text class="mono field" x="14" y="${y + 19}">${label}</text>
+    ${wordBox(FIELD.left, y, width - FIELD.left - FIELD.right, value, use)}`;
+}
+
+// A label below a record may be wider than it, up to its neighbours and the edges of the picture.
+const roomOfLabel = (width) => width + Math.min(gapNow() - BOX_EDGES, 2 * RECORD.left - 2);
+
+function ownVariable(view, state, thread, width) {
+  const name = OWN_VARIABLE[PHASES[state.phase(thread)]];
+  if (!name) return null;
+  const value = view.names.short(Number(state.phaseNumber(thread)));
+  const held = `${name} = ${value}`;
+  const whose = texts.ownVariable(view.names.of(thread));
+  return html`<g transform="translate(0,${RECORD.height + 12})"><title>${whose}: ${held}</title>
+    <rect class="own" x=".5" width="${width - 1}" height="28" rx="8"/>
+    <text class="mono value" x="${width / 2}" y="19"
+      text-anchor="middle">${fitted(held, width - BOX_EDGES, 'word')}</text>
+    <text class="note" x="${width / 2}" y="45"
+      text-anchor="middle">${
+  firstFitting([whose, texts.variable], roomOfLabel(width), 'small')}</text>
+  </g>`;
+}
+
+// The thread's name, cut to the room beside its standing.
+function headName(names, thread, standing, width) {
+  const room = width - HEAD.left - HEAD.between - standingWidth(standing) - HEAD.right;
+  return fitted(names.short(thread), room, 'name');
+}
+
+function record(view, state, thread, place, width) {
+  const { begun } = view.run;
+  const standing = standingIn(view, thread);
+  const label = texts.standing[standing];
+  const name = headName(view.names, thread, standing, width);
+  return html`<g class="record ${standing} ${enteredNow(view, thread)}"
+    ${movingMark(view, thread)} data-record="${thread}"
+    transform="translate(${place.x},${place.y})">
+    <title>${view.names.of(thread)}</title>
+    <rect class="frame" width="${width}" height="${RECORD.height}" rx="10"/>
+    <path class="head" d="M0 10a10 10 0 0 1 10 -10h${width - 20}a10 10 0 0 1 10 10v22h-${width}z"/>
+    ${standing === 'line' && html`<rect class="plate" x="6" y="4" width="${width - 12}"
+      height="23" rx="6"/>`}
+    <text class="name" x="${HEAD.left}" y="21">${name}</text>
+    <text class="standing" x="${width - HEAD.right}" y="21" text-anchor="end">${label}</text>
+    ${recordField(view, 40, 'next', begun.nextWord(thread), state, width)}
+    ${recordField(view, 73, 'locked', begun.lockedWord(thread), state, width)}
+    ${ownVariable(view, state, thread, width)}</g>`;
+}
+
+// From a record's next to the record that follows it in the queue.
+function link(from, to, width, linked, moved) {
+  const y = from.y + 54;
+  if (from.row !== to.row) {
+    const low = from.y + RECORD.row - 18;
+    const path = `M${from.x + width - 12} ${y}h26V${low}H${to.x + 30}V${to.y - 4}`;
+    return html`<path class="link ${linked ? moved : 'missing'}" ${
+      linked && html`pathLength="1"`} d="${path}"/>`;
+  }
+  if (linked) {
+    return html`<path class="link ${moved}" pathLength="1" d="M${from.x + width - 12} ${y}H${
+      to.x - 4}"/>`;
+  }
+  const middle = (from.x + width + to.x) / 2 - 2;
+  return html`<path class="link missing" d="M${from.x + width + 3} ${y}H${to.x - 4}"/>
+    <text class="missing-text" x="${middle}" y="${y - 9}"
+      text-anchor="middle">${T.noLink}</text>`;
+}
+
+// Whether the record before a thread's names it.
+const isLinked = ({ run, move }, thread) => !unlinkedAfter(run, run.lastMoveOf(thread, move));
+
+// Whether the move that is shown wrote the word that an arrow is drawn for.
+const redirected = (view, word) => useOf(view.run, view.marked, word) === 'changed'
+  && 'redirected';
+
+function links(view, state, layout) {
+  return state.queue.slice(1).map((after, i) => {
+    const before = state.queue[i];
+    const [from, to] = [before, after].map((thread) => layout.places.get(thread));
+    const moved = redirected(view, view.run.begun.nextWord(before));
+    return from !== to && link(from, to, layout.width, isLinked(view, after), moved);
+  });
+}
+
+// Records that are folded.
+function foldedRecords(view, { folded, place }, width) {
+  return html`<g class="fold" transform="translate(${place.x},${place.y})">
+    <title>${view.names.list(folded)}</title>
+    <rect class="own" width="${width}" height="${RECORD.height}" rx="10"/>
+    <text class="name" x="${width / 2}" y="58" text-anchor="middle">${
+  texts.folded(folded.length)}</text></g>`;
+}
+
+// Straight down to a record below the box, else along and down.
+const tailPath = (right, x, y) => (x < right + 4
+  ? `M${x} 52V${y}` : `M${right} 38H${x - 10}q10 0 10 10V${y}`);
+
+function tail(view, state, layout) {
+  const { owned } = view.run;
+  const held = state.word(owned.tail);
+  const place = layout.places.get(owned.named(held));
+  const value = valueText(owned.tail, held, view);
+  const { left, widest } = TAIL_BOX;
+  const wide = Math.min(widest, Math.max(TAIL_BOX.width, valueWidth(view.names)));
+  const path = place && tailPath(left + wide, place.x + layout.width / 2, place.y - 4);
+  return html`<text class="mono word-name strong" x="24" y="43">tail</text>
+    ${wordBox(left, 24, wide, value, useOf(view.run, view.marked, owned.tail))}
+    ${path && !covers(view, 'memory') && html`<path
+      class="link ${redirected(view, owned.tail)}" pathLength="1" d="${path}"/>`}`;
+}
+
+function caption(view, state) {
+  const { queue } = state;
+  const gap = queue.findIndex((after, i) => i > 0 && !isLinked(view, after));
+  if (gap > 0) {
+    return { missing: true, text: say(captions.missing, {
+      before: view.names.of(queue[gap - 1]), after: view.names.of(queue[gap]) }) };
+  }
+  if (queue.length > 1) return { text: captions.linked };
+  return { text: queue.length ? say(captions.alone, { first: view.names.of(queue[0]) })
+    : captions.nobody };
+}
+
+function draw(view, state) {
+  const layout = layOut(view, state);
+  const { width } = layout;
+  const height = RECORD.top + (layout.rows - 1) * RECORD.row + RECORD.last;
+  const text = covers(view, 'memory') ? T.memory : caption(view, state).text;
+  const drawn = picture(view, height, text, html`${tail(view, state, layout)}
+    ${layout.entries.map((entry) => (entry.folded ? foldedRecords(view, entry, width)
+    : record(view, state, entry.one, entry.place, width)))}
+    ${!covers(view, 'memory') && links(view, state, layout)}`);
+  return Object.assign(drawn, { note: restingNote(view, layout.hidden) });
+}
+
+function leastWidth(view, state) {
+  const busy = Math.max(state.queue.length, Math.min(view.run.threads, BESIDE));
+  const beside = Math.min(BESIDE, busy);
+  const { names, run } = view;
+  const record = names.given.size ? widestRecord(names)
+    : Math.max(RECORD.narrowest, headWidth(names.short(run.threads - 1)));
+  return 2 * RECORD.left + beside * record + (beside - 1) * gapNow();
+}
+
+// Who is at rest and has no record.
+function restingNote(view, hidden) {
+  if (hidden.length > MOST_NAMED) return atRest(texts.threads(hidden.length));
+  const named = hidden.map((thread) => view.names.short(thread)).join(', ');
+  return named && atRest(named);
+}
+
+// The thread whose record the word named before the move, and the one that the phase names.
+function values({ run, names }, move, phase) {
+  const named = run.owned.named(run.records.found(move));
+  const other = NAMES_ANOTHER.includes(PHASES[phase]);
+  return {
+    finds: named === undefined ? NIL : names.of(named),
+    other: other ? names.of(Number(run.phaseNumberBefore(move))) : '',
+  };
+}
+
+// Below a lane's mark: what the move found.
+function mark(view, move) {
+  const { records } = view.run;
+  return valueText(records.touched(move), records.found(move), view);
+}
+
+export const mcs = {
+  name: 'mcs', title: T.title, lesson: 'mcs', memory: T.memory, hasRecords: true,
+  signs: ['fails', 'inCall', 'line', 'holds', 'unlinked', 'ended'],
+  mark, values,
+  wordName, valueText, draw, caption, leastWidth,
+};

@@ -1,0 +1,88 @@
+// A refused move: what it was, and why the machine refuses it. That it is refused, with which
+// name and which step is due, the machine said; who moved and which line of code is due is read
+// off its state and the text.
+
+import { CALLS, MOVES, NO_WORD } from '../machine/codes.js';
+import { lineOf } from '../lib/bytes.js';
+import { moveText } from '../model/report.js';
+import { lockOf } from './locks.js';
+import { fill, say, texts } from '../texts/texts.js';
+
+const T = texts.refused;
+// The refusals that the header decides, each with the place of the word in it.
+const BY_HEADER = { NoSuchThread: 3, WrongLock: 1 };
+
+// The line of code whose step the thread has to make next; null between calls.
+export function dueLine(lines, state, thread) {
+  const due = state.dueStep(thread);
+  if (!due) return null;
+  const step = MOVES[due];
+  const at = lines.findIndex(({ phase, kind }) => phase === state.phase(thread) && kind === step);
+  return { step, number: at + 1, code: lines[at].code.trim() };
+}
+
+// What the thread could do instead.
+function possibleMoves(state, thread) {
+  const due = state.dueStep(thread);
+  if (due) return [fill(T.step, { word: MOVES[due] })];
+  return CALLS.filter((call) => state.allows(thread, call))
+    .map((call) => fill(T.call, { word: MOVES[call] }));
+}
+
+// One sentence on who holds the lock.
+function holdsText(state, names) {
+  if (!state.holders.length) return T.nobodyHolds;
+  const list = names.few(state.holders);
+  return fill(state.holders.length > 1 ? T.holdTogether : T.holds, {
+    list, mode: T.modes[state.holderKind],
+  });
+}
+
+const WITH_DUE = ['Busy', 'WrongStep'];
+const WITH_HOLDERS = ['NotHolder', 'NoCall', 'AlreadyHolds'];
+
+function sentences(session) {
+  const { run, names } = session;
+  const { name, thread, word } = run.refusal;
+  const exists = thread < run.threads;
+  const who = exists ? names.of(thread) : texts.thread(thread);
+  const said = [say(T[name], {
+    word, thread: who, Thread: say(who, {}), threads: texts.threads(run.threads),
+    last: run.threads - 1,
+  })];
+  const due = exists && dueLine(session.lines[run.kind], run.end, thread);
+  if (due && WITH_DUE.includes(name)) said.push(say(T.due, due));
+  if (WITH_HOLDERS.includes(name)) said.push(say(holdsText(run.end, names), {}));
+  const moves = exists ? possibleMoves(run.end, thread).join(T.or) : '';
+  if (moves) said.push(say(T.could, { thread: who, moves }));
+  return { who, due, said };
+}
+
+// The word of memory that the thread's last move found, and from which its due step follows.
+function foundWord(session, move) {
+  const { run } = session;
+  const { records } = run;
+  const word = records.touched(move);
+  if (word === NO_WORD) return '';
+  const lock = lockOf(run);
+  return texts.wordBecomes(lock.wordName(word, session),
+    lock.valueText(word, records.found(move), session));
+}
+
+// What decided it: a word of the header, or the thread's last move and the word that it found.
+function decided(session) {
+  const { run } = session;
+  const { name, thread } = run.refusal;
+  if (BY_HEADER[name]) {
+    const line = session.headerLine();
+    return { line, words: lineOf(run.text, line).split(' '), at: BY_HEADER[name] };
+  }
+  const move = run.lastMoveOf(thread, run.count);
+  return { move, text: move && moveText(run, move), found: move && foundWord(session, move) };
+}
+
+// All of it: {name, line, thread, word, who, due, said: sentences, decided}
+export function refusalFacts(session) {
+  const { refusal } = session.run;
+  return { ...refusal, ...sentences(session), decided: decided(session) };
+}

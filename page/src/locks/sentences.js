@@ -1,0 +1,46 @@
+// One sentence on what a move did: that of its kind of transition, with the move's values.
+
+import { NO_WORD } from '../machine/codes.js';
+import { kindOf } from '../model/kinds.js';
+import { lockOf } from './locks.js';
+import { say, texts } from '../texts/texts.js';
+import { wordNames } from '../machine/word_names.js';
+
+// What fills the places of a sentence. A word's place has its value after the move.
+function valuesOf(view, move) {
+  const { run, names } = view;
+  const { records } = run;
+  const lock = lockOf(run);
+  const state = run.state(move);
+  const words = Object.fromEntries((wordNames(lock.name) ?? [])
+    .map((name, word) => [name, state.word(word)]));
+  return {
+    ...words, who: names.of(records.thread(move)), found: records.found(move),
+    left: records.left(move), number: run.phaseNumberBefore(move),
+    ...lock.values?.(view, move, run.phaseBefore(move)),
+  };
+}
+
+export function sentence(view, move) {
+  const { run } = view;
+  const { records } = run;
+  const [kind, values] = [kindOf(run, move), valuesOf(view, move)];
+  const text = `${say(kind.says, values)}.`;
+  const { wraps } = lockOf(run);
+  const isWrap = wraps?.kinds.includes(kind.name) && records.left(move) < records.found(move);
+  return isWrap ? `${text} ${say(wraps.text, values)}` : text;
+}
+
+// What the move wrote, as `word = value`, and what was there; a section may write two.
+export function writtenWords(view, move, useOf) {
+  const { run } = view;
+  const { records } = run;
+  const lock = lockOf(run);
+  const words = [
+    [records.touched(move), records.left(move), records.found(move)],
+    [records.alsoChanged(move), records.alsoLeft(move), records.alsoFound(move)],
+  ];
+  return words.filter(([word]) => word !== NO_WORD && useOf(run, move, word) === 'changed')
+    .map(([word, left, found]) => texts.wrote(lock.wordName(word, view),
+      ...[left, found].map((value) => lock.valueText(word, value, view))));
+}

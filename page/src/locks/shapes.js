@@ -1,0 +1,82 @@
+// Shapes that more than one picture uses.
+
+import { MOVES, OUTCOME } from '../machine/codes.js';
+import { fitted } from './fitting.js';
+import { folding, movingThread } from './folding.js';
+import { html } from '../lib/markup.js';
+import { covers } from '../model/remarks.js';
+import { standingAfter } from '../model/spans.js';
+
+// How a picture shows a thread's standing: by a class, and always also by a word or a pattern.
+export const standingOf = (run, move, thread) => standingAfter(run, run.lastMoveOf(thread, move));
+
+// The same, unless a question asks for it.
+export const standingIn = (view, thread) => (covers(view, 'standing') ? 'asked'
+  : standingOf(view.run, view.move, thread));
+
+const HATCHED = { line: 'hatch', reads: 'ruled' };
+export const fillOf = (standing) => (HATCHED[standing] ? `url(#${HATCHED[standing]})` : '');
+
+// A sign for what has to be in view: the thread of the move that is shown.
+export const movingMark = (view, thread) => thread === movingThread(view) && 'data-moving';
+
+// Whether the thread entered with the move that is shown.
+export const enteredNow = ({ run: { records }, move, refused }, thread) => move > 0 && !refused
+  && records.thread(move) === thread && records.outcome(move) === OUTCOME.entered && 'entered';
+
+// A thread as a disc with its mark.
+export function token(x, y, view, thread, radius = 13) {
+  const standing = standingIn(view, thread);
+  return html`<g class="token ${standing} ${enteredNow(view, thread)}"
+      ${movingMark(view, thread)}><title>${view.names.of(thread)}</title>
+    <circle cx="${x}" cy="${y}" r="${radius}"/>
+    <text x="${x}" y="${y + 4.5}" text-anchor="middle">${view.names.mark(thread)}</text></g>`;
+}
+
+// Threads at places: of more than `most` some are folded.
+export function tokensAt(view, threads, most, placeOf) {
+  const moving = movingThread(view);
+  return folding(threads, (one) => one === moving, most).map(({ one, folded }, i) => {
+    const { x, y } = placeOf(i);
+    return folded ? foldedToken(x, y, view, folded) : token(x, y, view, one);
+  });
+}
+
+export const foldedToken = (x, y, view, folded) => html`<g class="fold">
+  <title>${view.names.list(folded)}</title><rect class="own" x="${x - 15}" y="${y - 13}"
+    width="30" height="26" rx="6"/><text class="note" x="${x}" y="${y + 4.5}"
+    text-anchor="middle">+${folded.length}</text></g>`;
+
+// What a word's box has beside its value.
+export const BOX_EDGES = 12;
+
+// A word of memory as a box: plain, read by this move, or changed by it. A name that is too long
+// for it is cut, and shown whole if one points at it.
+export function wordBox(x, y, width, value, use, label = '') {
+  return html`${label && html`<text class="mono word-name" x="${x}" y="${y - 7}">${label}</text>`}
+    <g><title>${value}</title>
+    <rect class="word ${use}" x="${x}" y="${y}" width="${width}" height="28" rx="6"/>
+    <text class="mono value" x="${x + width / 2}" y="${y + 19}"
+      text-anchor="middle">${fitted(value, width - BOX_EDGES, 'word')}</text></g>`;
+}
+
+// How the move used a word: 'changed', 'read' or ''.
+export function useOf(run, move, word) {
+  if (!move) return '';
+  const { records } = run;
+  if (records.alsoChanged(move) === word) return 'changed';
+  if (records.touched(move) !== word) return '';
+  return records.left(move) === records.found(move) && !writes(records, move) ? 'read' : 'changed';
+}
+
+// The steps that count as a change, even if they write the value that the word had.
+const WRITING = ['write', 'swap', 'add'];
+const writes = (records, move) => WRITING.includes(MOVES[records.action(move)]);
+
+// A picture as wide as the view. Its `height` is how tall it is on the screen.
+export function picture(view, height, label, body) {
+  const { width, scale } = view;
+  const drawn = html`<svg viewBox="0 0 ${width} ${height}" width="${width * scale}"
+    height="${height * scale}" role="img" aria-label="${label}">${body}</svg>`;
+  return Object.assign(drawn, { height: height * scale, label });
+}

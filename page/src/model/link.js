@@ -1,0 +1,44 @@
+// A link that carries the schedule and the move in its fragment: a lesson by its name, a schedule
+// of one's own by its bytes, or by the name under which this browser keeps it.
+
+import { fromLink, toLink } from '../lib/bytes.js';
+import { askedLanguage } from '../texts/language.js';
+import { isLooksAlone, looksText } from './looks.js';
+import { texts } from '../texts/texts.js';
+
+const MOST_IN_LINK = 24000;
+
+// What comes after the schedule: the move, the language if the address asked for one, and what the
+// reader wants to see.
+export function endOf(place) {
+  const asked = askedLanguage(location.hash);
+  return `&move=${place}${asked ? `&lang=${asked}` : ''}${looksText()}`;
+}
+
+// Null for a schedule that is too long.
+export function fragmentOf(session) {
+  const { lesson, held, place } = session;
+  if (lesson) return `#lesson=${lesson}${endOf(place)}`;
+  return held.length > MOST_IN_LINK ? null : `#schedule=${toLink(held)}${endOf(place)}`;
+}
+
+// {lesson, kept or text, move}, with moves to go on with and whether the run is compared then, if
+// that was asked for; or {wrong: what is wrong with it}; null for no fragment.
+export function readFragment(fragment) {
+  const parts = new URLSearchParams(fragment.replace(/^#/, ''));
+  const move = Number(parts.get('move') ?? 0);
+  // A language or a look alone names no schedule, and needs none.
+  if (fragment.length < 2 || isLooksAlone([...parts.keys()])) return null;
+  for (const what of ['lesson', 'kept']) {
+    if (!parts.has(what)) continue;
+    const further = { play: parts.get('play'), compare: parts.has('compare') };
+    return { [what]: parts.get(what), move, ...further };
+  }
+  if (!parts.has('schedule')) return { wrong: texts.links.nothing };
+  try {
+    // The move is the link's end.
+    return { text: fromLink(parts.get('schedule')), move, cut: !parts.has('move') };
+  } catch {
+    return { wrong: texts.links.damaged };
+  }
+}

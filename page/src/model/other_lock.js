@@ -1,0 +1,81 @@
+// The same calls on the other read-write lock. In each of its turns a thread makes there the step
+// that is due, or the next of its calls. What is due after a move the machine alone says. So the
+// moves are guessed and played, and the next guesses follow the records as far as they were right.
+// A guess that was wrong costs a replay, and all others together cost one.
+
+import { beginsWith } from '../lib/bytes.js';
+import { MOVES } from '../machine/codes.js';
+import { otherLock } from './compare_runs.js';
+import { moveText } from './report.js';
+import { Run, runOf } from './run.js';
+
+// What a thread may do after a move, and before its first one.
+const after = ({ records }, move) => ({
+  due: records.due(move), phase: records.phase(move), allows: (call) => records.allows(move, call),
+});
+const atFirst = ({ begun }, thread) => ({
+  due: begun.dueStep(thread), allows: (call) => begun.allows(thread, call),
+});
+
+// What came of the move here, unless it is of another kind, or another thing came of the last move
+// of this kind there.
+function guess(run, move, kind, there) {
+  const here = after(run, move);
+  const word = moveText(run, move).split(' ')[1];
+  const same = kind === (run.records.isCall(move) ? word : run.phaseBefore(move));
+  return !there || (same && here.phase === there.phase) ? here : there;
+}
+
+// The schedule there: as `known` has it up to the first move that is another one, and guessed from
+// there on.
+class There {
+  constructor(run, known) {
+    const threads = Array.from({ length: run.threads }, (_, thread) => atFirst(known, thread));
+    // What came of the last move of each kind there: of a call, or of a step from a phase.
+    Object.assign(this, { run, known, threads, lines: [], seen: new Map(), follows: true });
+  }
+
+  // The thread takes the turn that it has here with a move.
+  take(thread, calls, move) {
+    const { known, lines, seen, threads } = this;
+    const { due, phase, allows } = threads[thread];
+    if (!due && !(calls.length && allows(calls[0]))) return;
+    const word = MOVES[due || calls.shift()];
+    const kind = due ? phase : word;
+    const made = lines.push(`${thread} ${word}`);
+    this.follows &&= made <= known.count && moveText(known, made) === lines[made - 1];
+    if (this.follows) seen.set(kind, after(known, made));
+    threads[thread] = this.follows ? seen.get(kind) : guess(this.run, move, kind, seen.get(kind));
+  }
+}
+
+const bytesOf = (lines) => new TextEncoder().encode([...lines, ''].join('\n'));
+const headerOf = (run) => `lock ${otherLock(run)} threads ${run.threads} bits ${run.bits}`;
+
+// {run, at}: the schedule of the same turns on the other lock, and for each move here how many
+// moves there have been made by then.
+function attempt(machine, run, known) {
+  const there = new There(run, known);
+  const at = [0];
+  const calls = there.threads.map(() => []);
+  for (let move = 1; move <= run.count; move += 1) {
+    const thread = run.records.thread(move);
+    if (run.records.isCall(move)) calls[thread].push(run.records.action(move));
+    there.take(thread, calls[thread], move);
+    at.push(there.lines.length);
+  }
+  return { run: runOf(machine, bytesOf([headerOf(run), ...there.lines]), [known]), at };
+}
+
+// `before` is a run that was compared before, which may begin in the same way.
+export function onOtherLock(machine, run, before) {
+  const header = bytesOf([headerOf(run)]);
+  let known = before && beginsWith(before.text, header) ? before
+    : new Run(machine, header, () => machine.play(header, 0, true));
+  let made = attempt(machine, run, known);
+  while (made.run !== known) {
+    known = made.run;
+    made = attempt(machine, run, known);
+  }
+  return made;
+}

@@ -1,0 +1,131 @@
+// What is shown: one schedule, the move that is shown, and everything derived from the two.
+
+import { arrowsOf } from './arrows.js';
+import { Bound } from './stale_remarks.js';
+import { lettersOf, throughLine, withoutLines } from '../lib/bytes.js';
+import { awaitedLines } from '../machine/locks_code.js';
+import { lockOf } from '../locks/locks.js';
+import { Names } from './names.js';
+import { covers, remarksOf } from './remarks.js';
+import { runOf } from './run.js';
+
+const NO_ARROWS = { arrows: [], arrowEnds: [] };
+
+export class Session {
+  constructor(machine, lines) {
+    this.machine = machine;
+    this.lines = lines;
+    this.move = 0;
+    this.place = 0;
+  }
+
+  // Whether the refused move is shown.
+  get refused() { return this.place > this.run.count; }
+
+  // Another session on the same machine.
+  twin() {
+    return new Session(this.machine, this.lines);
+  }
+
+  // A text of its own; `run` if it has been played before.
+  open(text, lesson = null, move = 0, run = this.runOf(text)) {
+    this.bound = new Bound();
+    this.load(text, lesson, move, run);
+    this.origin = { run: this.run, title: this.remarks.title || lesson };
+  }
+
+  // A text that was made from this one: of its remarks those are left that still hold.
+  derive(text, lesson, move) {
+    this.load(text, lesson, move);
+  }
+
+  // What `restore` brings back.
+  get shown() {
+    const { run: { text }, lesson, place, bound, origin } = this;
+    return { text, lesson, place, bound, origin };
+  }
+
+  restore({ text, lesson, place, bound, origin }) {
+    this.bound = bound;
+    this.origin = origin;
+    this.load(text, lesson, place);
+  }
+
+  // The remarks hold as they are.
+  keepRemarks() {
+    this.bound = new Bound();
+    this.load(this.run.text, this.lesson, this.place, this.run);
+  }
+
+  // Without the remarks that no longer hold.
+  leaveOutStale() {
+    const run = this.run.without(this.stale);
+    this.load(run.text, this.lesson, this.place, run);
+  }
+
+  // The run of a text, by the run that is shown and by the one from which that was made.
+  runOf(text) {
+    return runOf(this.machine, text, [this.run, this.origin?.run].filter(Boolean));
+  }
+
+  load(text, lesson, move, run = this.runOf(text)) {
+    this.run = run;
+    this.lesson = lesson;
+    this.stale = this.bound.stale(this.run);
+    // What is saved and linked.
+    this.held = withoutLines(text, this.stale);
+    this.remarks = remarksOf(this.held);
+    this.names = new Names(this.remarks.name);
+    this.arrows = this.run.hasLock ? this.arrowsNow() : NO_ARROWS;
+    this.go(move instanceof Function ? move(this) : move);
+  }
+
+  arrowsNow() {
+    const { run } = this;
+    const words = Array.from({ length: run.end.wordCount },
+      (_, word) => lockOf(run).wordName(word, this));
+    const arrows = arrowsOf(run, awaitedLines(this.lines[run.kind]), words);
+    return { arrows, arrowEnds: arrows.map(({ to }) => to) };
+  }
+
+  // To a move, or to the refused one after the last.
+  go(move) {
+    this.place = Math.min(this.run.last, Math.max(0, Math.trunc(move) || 0));
+    this.move = Math.min(this.run.count, this.place);
+  }
+
+  view(extra) {
+    const { run, move, names, remarks, place, refused } = this;
+    // The move whose words are marked: of a refused one its thread's last, which decided it.
+    const marked = refused ? run.lastMoveOf(run.refusal.thread, move) : move;
+    const view = { run, move, names, remarks, place, refused, marked, ...this.arrows, ...extra };
+    // What the move did is not marked if a question asks for it.
+    return covers(view, 'facts') ? { ...view, marked: 0 } : view;
+  }
+
+  // The line of the text of the current move; before the first move the header's.
+  line() {
+    return this.move ? this.run.records.line(this.move) : this.headerLine();
+  }
+
+  headerLine() { return headerLine(this.run.text); }
+
+  // The last move at or before a line of the text.
+  moveAtLine(line) {
+    if (this.run.refusal && line >= this.run.refusal.line) return this.run.last;
+    return this.run.movesThrough(line);
+  }
+
+  // The text up to the current move, with one move more.
+  textWith(moveLine) {
+    const kept = lettersOf(throughLine(this.run.text, this.line()));
+    const text = kept.letters.endsWith('\n') ? kept.letters : `${kept.letters}\n`;
+    return { letters: `${text}${moveLine}\n`, plain: kept.plain };
+  }
+}
+
+// The first line that is neither empty nor a comment.
+export function headerLine(text) {
+  const { letters } = lettersOf(text);
+  return letters.split('\n').findIndex((line) => line !== '' && !line.startsWith('#')) + 1;
+}

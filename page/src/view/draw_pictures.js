@@ -1,0 +1,214 @@
+// Draws the pictures into the room that they have. The room may depend on what is drawn, so it is
+// measured again afterwards, and what it no longer fits is drawn anew.
+
+import { lanesHeight } from './arrange.js';
+import { lanesPicture, numbersPicture } from './lanes.js';
+import { columnX, layOutLanes } from './layout.js';
+import { legend } from './legend.js';
+import { lockOf } from '../locks/locks.js';
+import { looks } from '../model/looks.js';
+import { byId, show, write } from '../lib/markup.js';
+import { sliderPicture } from './slider.js';
+import { texts } from '../texts/texts.js';
+
+const ROUNDS = 4;
+
+// The sizes of the parts with pictures.
+export function measured() {
+  const size = (id) => {
+    const { clientWidth: width, clientHeight: height } = byId(id);
+    return { width, height };
+  };
+  return {
+    lanes: { width: size('lanes').width, height: lanesHeight() },
+    memory: size('memory-picture'), slider: size('slider-picture'), there: size('there-picture'),
+  };
+}
+
+const DRAWS = {
+  lanes: (page, view, state, size) => {
+    if (view.run.hasLock) drawTime(page, view, size);
+    if (page.comparing.isOn) page.comparing.draw(page.layout, size);
+  },
+  memory: (page, view, state, size) => { if (state) drawMemory('memory', view, state, size); },
+  there: ({ comparing }, view, state, size) => {
+    if (!comparing.isOn) return;
+    const there = comparing.there();
+    drawMemory('there', there.view, there.state, size);
+  },
+  slider: (page, view, state, size) => drawSlider(view, size.width),
+};
+
+const differs = (one, other) => one.width !== other.width || one.height !== other.height;
+
+export function drawPictures(page, view, state, sizes) {
+  const parts = Object.keys(DRAWS);
+  parts.forEach((part) => DRAWS[part](page, view, state, sizes[part]));
+  let fitted = sizes;
+  for (let round = 1; round < ROUNDS; round += 1) {
+    fitNow();
+    fitCode();
+    const now = measured();
+    const changed = parts.filter((part) => differs(now[part], fitted[part]));
+    changed.forEach((part) => DRAWS[part](page, view, state, now[part]));
+    if (!changed.length) break;
+    page.moved = true;
+    fitted = now;
+  }
+  reveal(page, view);
+  page.moved = false;
+}
+
+// What is left free below the code.
+const EDGE = 4;
+// The sentences on a move in smaller letters, if they do not fit otherwise.
+const FITS = ['', '1', '2', '3', '4'];
+
+function fitNow() {
+  const box = byId('now');
+  if (box.dataset.fit) box.dataset.fit = '';
+  if (looks.hall) return;
+  for (const fit of FITS) {
+    if (fit) box.dataset.fit = fit;
+    if (box.scrollHeight <= box.clientHeight + 1) return;
+  }
+}
+
+// As many lines of code as have room, each of them whole.
+function fitCode() {
+  const box = byId('code-lines');
+  const line = box.firstElementChild?.offsetHeight;
+  if (!line) return;
+  const room = byId('code').clientHeight - box.offsetTop - EDGE;
+  const most = `${Math.floor(room / line) * line}px`;
+  if (box.style.maxHeight !== most) box.style.maxHeight = most;
+  if (box.scrollTop % line) box.scrollTop = Math.round(box.scrollTop / line) * line;
+}
+
+function drawTime(page, view, room) {
+  const box = byId('lanes');
+  const layout = layOutLanes(view, page.mode === 'play', room, page.zoomed);
+  const { lanes } = layout;
+  layout.chosen = lanes.includes(page.lane) ? page.lane : null;
+  box.setAttribute('aria-activedescendant', layout.chosen === null ? '' : `lane-${page.lane}`);
+  const height = `${Math.min(layout.height, room.height)}px`;
+  if (box.style.height !== height) box.style.height = height;
+  const at = page.moved ? laneInView(box.scrollTop, room.height, view, layout) : box.scrollTop;
+  const top = Math.max(0, Math.floor(at / layout.laneHeight) - 1);
+  const bottom = Math.min(lanes.length - 1, Math.ceil((at + room.height) / layout.laneHeight));
+  show(byId('numbers'), numbersPicture(view, layout));
+  show(box, lanesPicture(view, layout, top, bottom));
+  show(byId('legend'), legend(view.run));
+  write(byId('resting'), foldedText(view, layout, room));
+  page.layout = { ...layout, at, x: (move) => columnX(layout, move) };
+}
+
+// How many threads have no lane, and how many lanes are out of view.
+function foldedText({ run }, { lanes, laneHeight }, room) {
+  const folded = run.threads - lanes.filter((one) => one < run.threads).length;
+  const away = lanes.length - Math.floor(room.height / laneHeight + 0.01);
+  return [folded > 0 && texts.resting(texts.threads(folded)), away > 0 && texts.away(away)]
+    .filter(Boolean).join('; ');
+}
+
+// Where the lanes are scrolled to, so that the lane of the current move is in view with its
+// neighbours.
+function laneInView(from, height, view, { lanes, laneHeight }) {
+  const { run, move, refused } = view;
+  const thread = refused ? run.refusal.thread : move && run.records.thread(move);
+  const index = view.place ? lanes.indexOf(thread) : 0;
+  const beside = height >= 3 * laneHeight ? laneHeight : 0;
+  const top = Math.max(0, index * laneHeight - beside);
+  const bottom = Math.min(lanes.length * laneHeight, (index + 1) * laneHeight + beside);
+  if (top < from) return top;
+  return bottom > from + height ? bottom - height : from;
+}
+
+// The picture as large as fits; one that fits at no scale is folded or scrolled.
+const SCALES = [1.3, 1.2, 1.1, 1, 0.9, 0.8, 0.7, 0.65];
+// In a window that is very low also these.
+const LOW = [0.55, 0.5];
+const NARROWEST = 300;
+// Of more threads than these the picture is folded at once, at one scale.
+const MANY_THREADS = 12;
+const SCALE_OF_MANY = 0.8;
+
+export function pictureIn(size, lock, view, state) {
+  const isLow = document.body.dataset.layout === 'low';
+  const width = Math.max(isLow ? 0 : NARROWEST, size.width);
+  const many = view.run.threads > MANY_THREADS;
+  const isLarge = looks.hall && !view.compares;
+  const scales = [...SCALES, ...(isLow ? LOW : [])].filter((scale) => !isLarge || scale >= 1);
+  const last = many && !isLarge ? SCALE_OF_MANY : scales[scales.length - 1];
+  const room = (scale) => ({ width: width / scale, height: size.height / scale, scale });
+  for (const scale of many ? [] : scales) {
+    const given = { ...view, ...room(scale) };
+    if (scale > last && given.width < lock.leastWidth(given, state)) continue;
+    const picture = lock.draw(given, state);
+    if (picture.height <= size.height + 1) return picture;
+  }
+  return lock.draw({ ...view, ...room(last), tight: true }, state);
+}
+
+// So many words are read out; a lock of many threads has more.
+const MOST_READ = 33;
+
+const wordsRead = (view, state) => Array.from(
+  { length: Math.min(MOST_READ, view.run.end.wordCount) },
+  (_, word) => texts.wordBecomes(lockOf(view.run).wordName(word, view),
+    lockOf(view.run).valueText(word, state.word(word), view))).join(', ');
+
+function drawMemory(part, view, state, size) {
+  const picture = pictureIn(size, lockOf(view.run), view, state);
+  show(byId(`${part}-picture`), picture);
+  const svg = byId(`${part}-picture`).firstElementChild;
+  svg.setAttribute('aria-label', `${picture.label} ${wordsRead(view, state)}`);
+  write(byId(`${part}-note`), picture.note ?? '');
+}
+
+function drawSlider(view, width) {
+  show(byId('slider-picture'), sliderPicture(view, width));
+  const input = byId('slider');
+  input.max = view.run.last;
+  input.value = view.place;
+  const { refused, run: { count }, move } = view;
+  const { refused: { refused: word }, spoken, position } = texts;
+  input.setAttribute('aria-valuetext', refused ? word : spoken.move(move, count));
+  write(byId('position'), refused ? word : position(move, count));
+}
+
+// Scrolls a part of the page so that what counts is in view, in its middle if it was not.
+function revealIn(box, selector) {
+  const all = [...box.querySelectorAll(selector)];
+  if (box.scrollHeight <= box.clientHeight || !all.length) return;
+  const [outer, first, last] = [box, all[0], all[all.length - 1]]
+    .map((one) => one.getBoundingClientRect());
+  const scale = outer.height / box.offsetHeight;
+  const top = (first.top - outer.top) / scale + box.scrollTop;
+  const height = (last.bottom - first.top) / scale;
+  const line = (box.firstElementChild?.offsetHeight ?? 0) || 1;
+  const edge = box.id === 'code-lines' ? line : 0;
+  const { scrollTop, clientHeight } = box;
+  if (top - edge >= scrollTop && top + height + edge <= scrollTop + clientHeight) return;
+  const middle = top - Math.max(0, (clientHeight - height) / 2);
+  box.scrollTop = edge ? Math.round(middle / line) * line : middle;
+}
+
+// Called last: the lane, the line of code, and what moves in memory are in view.
+function reveal(page, view) {
+  const lanes = byId('lanes');
+  if (!view.run.hasLock || !page.moved) return;
+  if (lanes.scrollTop !== page.layout.at) lanes.scrollTop = page.layout.at;
+  revealIn(byId('code-lines'), '.here');
+  revealIn(byId('memory-picture'), '[data-moving]');
+  if (page.mode === 'play') revealIn(byId('choices'), '[data-here]');
+  revealOnPage();
+}
+
+// In a window too low for the page, its scrolling stops above the foot.
+function revealOnPage() {
+  const { scrollHeight, clientHeight } = document.documentElement;
+  if (scrollHeight <= clientHeight) return;
+  const lines = document.querySelectorAll('#code-lines .here');
+  lines[lines.length - 1]?.scrollIntoView({ block: 'nearest' });
+}

@@ -1,0 +1,106 @@
+// Puts what is said of the move into the page's parts.
+
+import { OUTCOMES } from '../machine/codes.js';
+import { codeView, linesMade } from './code_view.js';
+import { commonMoves } from '../model/compare_runs.js';
+import { lockOf } from '../locks/locks.js';
+import { lectureView } from '../control/lecture.js';
+import { looks, partsShown } from '../model/looks.js';
+import { byId, html, show, write } from '../lib/markup.js';
+import { nowView, questionView, spokenText, whoRows } from './move_view.js';
+import { endView, quizForm, resultView, scoreView } from '../model/quiz.js';
+import { refusalFacts } from '../locks/refusal_facts.js';
+import { refusedView } from './refused_view.js';
+import { covers } from '../model/remarks.js';
+import { moveText } from '../model/report.js';
+import { texts } from '../texts/texts.js';
+
+export function drawTexts(page, view, state) {
+  const lines = page.session.lines[view.run.kind];
+  drawCaption(page, view, state);
+  show(byId('code-lines'), codeView(view, state, lines));
+  const longest = Math.max(...lines.map(({ code }) => code.length));
+  byId('code').style.setProperty('--longest', longest);
+  drawNow(page, view, state);
+  drawBar(page, view, state, lines);
+}
+
+function drawCaption(page, view, state) {
+  const lock = lockOf(view.run);
+  const caption = lock.caption(view, state);
+  write(byId('memory-title'), page.comparing.isOn ? texts.compare.hereMemory : lock.memory);
+  write(byId('there-title'), page.comparing.isOn ? texts.compare.thereMemory : '');
+  const covered = covers(view, 'memory');
+  const missing = caption.missing && !covered && 'missing';
+  const text = covered ? texts.covered : caption.text;
+  show(byId('memory-says'), html`<span class="${missing}">${text}</span>`);
+}
+
+// In a hall and in a frame the move is in the bar, and the quiz too, if its part is not shown.
+function drawBar(page, view, state, lines) {
+  const isShown = looks.hall || looks.embed;
+  const quiz = isShown && page.quiz.on && !partsShown().includes('now') && quizView(page, view);
+  const move = isShown && currentView({ ...view, asks: quiz?.form }, state, lines);
+  show(byId('current'), html`${move}${quiz && html`<div class="bar-quiz">${quiz.score}${
+    quiz.form}${quiz.came}</div>`}${isShown && lectureView(page)}`);
+}
+
+// The points, the question on the next move, and what came of the last answer.
+function quizView({ quiz, session }, view) {
+  const question = quiz.asks(session) && quiz.question(session);
+  const outcome = quiz.result && OUTCOMES[view.run.records.outcome(quiz.result.move)];
+  const atEnd = quiz.on && view.place === view.run.last;
+  return {
+    score: quiz.on && scoreView(quiz), form: question && quizForm(view, question),
+    came: html`${quiz.result && resultView(quiz.result, outcome)}${atEnd && endView(quiz)}`,
+  };
+}
+
+function drawNow(page, view, state) {
+  const { quiz, session } = page;
+  const facts = view.refused && refusalFacts(session);
+  const isShown = partsShown().includes('now');
+  const { score, form, came } = quizView(page, view);
+  show(byId('now'), html`${isShown && score}
+    ${facts && refusedView(session, facts, whoRows(view, state))}
+    ${!facts && ((isShown && form) || nowView(view, state))}${isShown && came}`);
+  const question = quiz.asks(session);
+  const said = question ? texts.spoken.hidden : spokenText(view, state);
+  const checked = quiz.result ? `${texts.quiz.checked(quiz.result)} ` : '';
+  const refused = facts && `${texts.refused.refused}. ${facts.said.join(' ')}`;
+  write(byId('spoken'), checked + (refused || said));
+}
+
+// In a hall and in a frame: the move, its line of code, and its question.
+function currentView(view, state, lines) {
+  const { run, move, names, refused } = view;
+  const [thread, word] = refused ? [run.refusal.thread, run.refusal.word]
+    : move ? moveText(run, move).split(' ') : [];
+  const code = linesMade(view, state, lines).map((line) => line.code.trim()).join('; ');
+  return html`<p><b>${refused ? '✕' : move}</b> ${word ? html`${names.of(Number(thread))},
+    <span class="mono">${word}</span>` : texts.before} ${refused && texts.refused.refused}
+    <code translate="no">${code}</code></p>${!view.asks && questionView(view)}`;
+}
+
+function lockText(run) {
+  return texts.subtitle(lockOf(run).title, texts.threads(run.threads), run.bits);
+}
+
+// Of a schedule that was made from one with a title.
+function branchTitle({ origin, run }) {
+  const common = run.hasLock && run !== origin.run ? commonMoves(origin.run, run) : 0;
+  return common && origin.title && texts.branchOf(origin.title, common);
+}
+
+export function titleOf(session) {
+  const { remarks, lesson } = session;
+  return remarks.title || lesson || branchTitle(session) || texts.untitled;
+}
+
+export function drawHead(session) {
+  const { run } = session;
+  const title = titleOf(session);
+  write(byId('title'), title);
+  document.title = `${title} - ${texts.product}`;
+  write(byId('subtitle'), run.hasLock ? lockText(run) : texts.noLock);
+}

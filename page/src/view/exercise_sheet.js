@@ -1,0 +1,64 @@
+// An exercise sheet: the moves with empty marks, memory to be filled in, the code, a table of what
+// came of each move, and the questions. Nothing on it says an answer.
+
+import { blankMemory } from './blank_memory.js';
+import { codeView } from './code_view.js';
+import { MOVES } from '../machine/codes.js';
+import { blankLegend } from './legend.js';
+import { html } from '../lib/markup.js';
+import { texts } from '../texts/texts.js';
+
+const T = texts.print;
+const ROOM = 460;
+const PICTURES = 2;
+
+const threadName = (names, thread) => (names.has(thread)
+  ? `${names.of(thread)} (${thread})` : names.of(thread));
+
+function row({ run: { records }, names }, move) {
+  const cells = [move, threadName(names, records.thread(move)),
+    html`<code>${MOVES[records.action(move)]}</code>`, '', '', ''];
+  return html`<tr>${cells.map((cell) => html`<td>${cell}</td>`)}</tr>`;
+}
+
+function table(view, { from, to }) {
+  const heads = [T.move, T.thread, T.what, T.outcome, T.holds, T.line];
+  const rows = Array.from({ length: to - from + 1 }, (_, at) => row(view, from + at));
+  return html`<table class="blanks"><caption>${T.table}</caption>
+    <thead><tr>${heads.map((head) => html`<th>${head}</th>`)}</tr></thead>
+    <tbody>${rows}</tbody></table>`;
+}
+
+function questions({ remarks: { ask } }, { from, to }) {
+  const asked = [...ask].filter(([move]) => move >= from - 1 && move <= to)
+    .sort(([one], [other]) => one - other);
+  if (!asked.length) return null;
+  const line = html`<p class="blank"></p>`;
+  return html`<div class="asked"><h3>${T.questions}</h3><dl>${asked.map(([move, text]) => html`
+    <dt>${move}</dt><dd>${text}${line}${line}</dd>`)}</dl></div>`;
+}
+
+// The moves after which memory is asked for: of several two, apart from each other.
+function picturedMoves({ remarks: { hide } }, { from, to }) {
+  const all = [...hide].filter(([move, parts]) => parts.includes('memory') && move >= from
+    && move <= to).map(([move]) => move).sort((one, other) => one - other);
+  if (all.length <= PICTURES) return all.length ? all : [null];
+  return [all[Math.floor(all.length / 3)], all[Math.floor(2 * all.length / 3)]];
+}
+
+function figure(view, lines, plan) {
+  const start = { ...view, move: 0, marked: 0, whole: true };
+  const blanks = picturedMoves(view, plan).map((move) => {
+    const drawn = blankMemory(view, ROOM);
+    return drawn && html`<div><h3>${T.memoryAfter(move ?? '____')}</h3>${drawn}</div>`;
+  });
+  return html`<div class="figure blanks">${blanks}
+    <div class="code"><h3>${T.code}</h3>${codeView(start, view.run.state(0), lines)}</div></div>`;
+}
+
+export function exercise(view, lines, plan, strips) {
+  return html`<p class="name-line"><span>${T.name}</span><span>${T.date}</span></p>
+    <p class="task">${T.task}</p>${strips}
+    <div class="legend"><span>${blankLegend()}</span></div>${figure(view, lines, plan)}
+    <div class="answers">${table(view, plan)}${questions(view, plan)}</div>`;
+}

@@ -1,0 +1,119 @@
+// Which moves and which threads are in view, and where they are. Only these are drawn, so a
+// step costs the same in a schedule of 65,536 moves as in one of ten.
+
+import { placeAfter } from '../lib/ascending.js';
+import { widthOf } from '../locks/fitting.js';
+import { lockOf } from '../locks/locks.js';
+import { standingAfter } from '../model/spans.js';
+
+// Where the names of threads are: how wide, which share of the lanes at most, and what is
+// beside a name there.
+const GUTTER = { least: 122, share: 0.16 };
+export const NAME_EDGES = { left: 20, right: 10 };
+const COLUMN = { narrowest: 16, least: 44, most: 66, widest: 120 };
+const LANE = { tallest: 85, lowest: 38, compared: 26, foot: 6 };
+// Of more threads than these only those that move are drawn.
+const MANY_THREADS = 8;
+// How far along the view the current move is in a long schedule.
+const HERE = 0.6;
+
+export function lanesOf(run, all) {
+  const threads = Array.from({ length: run.threads }, (_, thread) => thread);
+  const refused = run.refusal?.thread;
+  // A refused move has its lane, even if there is no such thread.
+  if (refused >= run.threads) threads.push(refused);
+  if (all || run.threads <= MANY_THREADS) return threads;
+  const moving = threads.filter((thread) => run.movesOf.has(thread) || thread === refused);
+  return moving.length ? moving : threads.slice(0, MANY_THREADS);
+}
+
+const leastColumn = (run) => lockOf(run).leastColumn ?? COLUMN.least;
+
+function columnWidth(run, moves, room, zoom) {
+  const fitting = room / Math.max(1, moves + 0.4);
+  const least = leastColumn(run);
+  const wanted = Math.min(Math.max(COLUMN.most, least), Math.max(least, fitting)) * zoom;
+  return Math.min(COLUMN.widest, Math.max(COLUMN.narrowest, wanted));
+}
+
+function firstMove(moves, move, visible) {
+  if (moves <= visible) return 1;
+  const wanted = Math.round(move - HERE * visible) + 1;
+  return Math.min(Math.max(1, wanted), moves - visible + 1);
+}
+
+// As wide as the longest name that a thread was given, if there is so much room.
+export function gutterOf(names, width) {
+  const longest = Math.max(0, ...[...names.given.values()].map((name) => widthOf(name, 'lane')));
+  const wanted = Math.ceil(longest) + NAME_EDGES.left + NAME_EDGES.right;
+  return Math.max(GUTTER.least, Math.min(wanted, Math.floor(GUTTER.share * width)));
+}
+
+// Of many threads those that move in view, or that are in a call or hold the lock.
+function busyLanes({ run, move }, lanes, first, last) {
+  if (lanes.length <= MANY_THREADS) return lanes;
+  const busy = lanes.filter((thread) => thread >= run.threads
+    || run.lastMoveOf(thread, last) >= first
+    || standingAfter(run, run.lastMoveOf(thread, move)) !== 'rest');
+  return busy.length ? busy : lanes.slice(0, MANY_THREADS);
+}
+
+// `room` has the width and the height that the lanes may take; `all` asks for every thread. A run
+// that is compared with this one may have more columns.
+export function layOutLanes(view, all, room, zoom) {
+  const { run, place, names } = view;
+  const moves = Math.max(run.last, view.columns ?? 0);
+  const gutter = gutterOf(names, room.width);
+  const column = columnWidth(run, moves, room.width - gutter - 12, zoom);
+  const visible = Math.max(1, Math.floor((room.width - gutter - 8) / column));
+  const first = firstMove(moves, place, visible);
+  const end = Math.min(moves, first + visible - 1);
+  const last = Math.min(run.last, end);
+  const asked = lanesOf(run, all);
+  const lanes = all ? asked : busyLanes(view, asked, first, last);
+  const lowest = view.compares ? LANE.compared : LANE.lowest;
+  const laneHeight = Math.min(LANE.tallest, Math.max(lowest,
+    (room.height - LANE.foot) / lanes.length));
+  return {
+    gutter, column, first, last, end, origin: first, laneHeight,
+    width: room.width, now: place, lanes, height: laneHeight * lanes.length + LANE.foot,
+  };
+}
+
+// The lanes of another run in the columns of this layout. `columns` has the column of each of its
+// moves, from its move 0 on; further moves are in the columns after the last of these. What goes on
+// at the move that is shown goes on up to the column that is shown.
+export function layOutBeside(layout, view, columns, room) {
+  const { run, place, future } = view;
+  const { origin, end, now: here } = layout;
+  const most = columns.length - 1;
+  const placeOf = (move) => {
+    if (move > place && !future) return here + move - place;
+    const whole = Math.min(Math.floor(move), most);
+    return columns[whole] + move - whole;
+  };
+  const beyond = Math.max(0, end - columns[most]);
+  const last = Math.min(run.last, placeAfter(columns, end) - 1 + beyond);
+  const lanes = lanesOf(run, false);
+  const laneHeight = Math.max(LANE.compared, Math.min(layout.laneHeight,
+    (room.height - LANE.foot) / lanes.length));
+  return {
+    ...layout, first: Math.max(1, placeAfter(columns, origin - 1)), last, placeOf, here,
+    now: place, lanes, laneHeight, height: laneHeight * lanes.length + LANE.foot,
+  };
+}
+
+export const LOW_LANE = 62;
+
+// Where a column is; a move is in the column of its number, or in that of the move beside it.
+export function placeX(layout, place) {
+  return layout.gutter + (place - layout.origin + 0.6) * layout.column;
+}
+
+export const placeOf = (layout, move) => (layout.placeOf ? layout.placeOf(move) : move);
+export const columnX = (layout, move) => placeX(layout, placeOf(layout, move));
+
+export function laneMiddle(layout, index) {
+  const middle = layout.laneHeight < LOW_LANE ? 0.5 : 0.54;
+  return layout.laneHeight * (index + middle);
+}

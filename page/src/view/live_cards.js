@@ -1,0 +1,66 @@
+// The pictures of the start: of each lock the memory of one of its lessons, at a move with a
+// question. While one points at a card, or has chosen something in it, its lesson is played.
+
+import { lockOf } from '../locks/locks.js';
+import { show } from '../lib/markup.js';
+
+const PACE = 800;
+const ROOM = { height: 108, least: 560 };
+
+// The lesson with the most questions says the most of its lock.
+function picturedOf(lessons, session, lock) {
+  const all = lessons.filter(({ group }) => group === lock).map(({ name, text }) => {
+    const one = session.twin();
+    one.open(text, name);
+    return one;
+  });
+  const asked = ({ remarks: { ask } }) => ask.size;
+  return all.reduce((best, one) => (asked(one) > asked(best) ? one : best));
+}
+
+function posterOf({ remarks: { ask } }) {
+  const moves = [...ask.keys()].sort((one, other) => one - other);
+  return moves[Math.floor(moves.length / 2)] ?? 1;
+}
+
+function drawAt(node, session, move) {
+  session.go(move);
+  const view = session.view({ answered: true });
+  const scale = Math.min(1, node.clientWidth / ROOM.least);
+  const room = { width: node.clientWidth / scale, height: ROOM.height / scale, scale };
+  show(node, lockOf(view.run).draw({ ...view, ...room, tight: true }, view.run.state(move)));
+}
+
+export class LiveCards {
+  constructor(lessons, session) {
+    Object.assign(this, { lessons, session, timer: 0, pictured: new Map() });
+  }
+
+  draw(dialog) {
+    for (const node of dialog.querySelectorAll('[data-live]')) {
+      const lock = node.dataset.live;
+      if (!this.pictured.has(lock)) {
+        this.pictured.set(lock, picturedOf(this.lessons, this.session, lock));
+      }
+      const session = this.pictured.get(lock);
+      drawAt(node, session, posterOf(session));
+      const card = node.parentElement;
+      for (const event of ['pointerenter', 'focusin']) {
+        card.addEventListener(event, () => this.play(node, session));
+      }
+      for (const event of ['pointerleave', 'focusout']) {
+        card.addEventListener(event, () => this.stop());
+      }
+    }
+  }
+
+  play(node, session) {
+    this.stop();
+    if (matchMedia('(prefers-reduced-motion: reduce)').matches) return;
+    this.timer = setInterval(() => {
+      drawAt(node, session, session.place < session.run.last ? session.place + 1 : 0);
+    }, PACE);
+  }
+
+  stop() { clearInterval(this.timer); }
+}

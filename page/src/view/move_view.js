@@ -1,0 +1,171 @@
+// The move just made: its outcome, one sentence on what it did, what it wrote, who holds, who is
+// in the queue, and the report's own line.
+
+import { MOVES, OUTCOMES } from '../machine/codes.js';
+import { folding, movingThread } from '../locks/folding.js';
+import { casFails } from './lanes.js';
+import { html } from '../lib/markup.js';
+import { reportLine } from '../model/report.js';
+import { sentence, writtenWords } from '../locks/sentences.js';
+import { covers } from '../model/remarks.js';
+import { standingIn, useOf } from '../locks/shapes.js';
+import { unlinkedAfter } from '../model/spans.js';
+import { withTerms } from './terms.js';
+import { texts } from '../texts/texts.js';
+
+function pill(view, thread) {
+  const standing = standingIn(view, thread);
+  return html`<span class="pill ${standing}"
+    data-thread="${thread}">${view.names.of(thread)}</span>`;
+}
+
+// So many threads are listed; of more some are folded.
+const MOST_LISTED = 9;
+
+// The threads of a list, each with what is between it and the one before.
+function listed(view, threads, between) {
+  const moving = movingThread(view);
+  return folding(threads, (one) => one === moving, MOST_LISTED).map(({ one, folded }, i) => {
+    const what = folded ? html`<span class="folded" title="${view.names.list(folded)}">${
+      texts.folded(folded.length)}</span>` : pill(view, one);
+    return html`${i > 0 && between(folded ? folded[0] : one)}${what}`;
+  });
+}
+
+const dash = html`<span class="soft">${texts.nobody}</span>`;
+const MODES = ['', '', texts.asReader, texts.asWriter];
+
+function holdersList(view, state) {
+  if (!state.holders.length) return dash;
+  const mode = MODES[state.holderKind];
+  return html`${listed(view, state.holders, () => ' ')}
+    ${mode && html`<span class="soft">${mode}</span>`}`;
+}
+
+const LINK = html`<span class="gap">→</span>`;
+const GAP = html`<span class="gap missing" title="${texts.notLinked}">⇢</span>`;
+
+// Between two in the queue: an arrow, or a gap if the link is not written yet.
+function queueList(view, state) {
+  if (!state.queue.length) return dash;
+  return listed(view, state.queue, (thread) => (
+    unlinkedAfter(view.run, view.run.lastMoveOf(thread, view.move)) ? GAP : LINK));
+}
+
+function outcomePill(records, move) {
+  const name = OUTCOMES[records.outcome(move)];
+  const fails = casFails(records, move);
+  return html`<span class="outcome ${fails ? 'fails' : name}"
+    data-outcome="${name}" title="${texts.plain[fails ? 'fails' : name]}">${
+  fails ? texts.legend.fails : texts.outcomes[name]}</span>`;
+}
+
+// The outcome in plain words.
+function plainWords(records, move) {
+  const name = OUTCOMES[records.outcome(move)];
+  return withTerms(texts.plain[casFails(records, move) ? 'fails' : name]);
+}
+
+export function questionView(view) {
+  const question = view.remarks.ask.get(view.move);
+  const answer = view.remarks.answer.get(view.move);
+  if (!question || view.refused) return null;
+  return html`<div class="question"><p><b>${texts.question}</b> ${question}</p>
+    ${answer && html`<details ${view.answered && 'open'}>
+      <summary>${texts.showAnswer}<kbd>A</kbd></summary><p>${answer}</p></details>`}</div>`;
+}
+
+function factList(view, state, rows, hidden) {
+  return html`<dl class="facts" ${hidden}>${rows}${whoRows(view, state)}</dl>`;
+}
+
+// Who holds, and who is in the queue.
+export function whoRows(view, state) {
+  return html`<dt>${withTerms(texts.facts.holds)}</dt>
+    <dd data-holders>${holdersList(view, state)}</dd>
+    <dt>${withTerms(texts.facts.line)}</dt><dd data-queue>${queueList(view, state)}</dd>`;
+}
+
+// Words between backticks are code.
+const withCode = (text) => text.split('`')
+  .map((part, i) => (i % 2 ? html`<code>${part}</code>` : part));
+
+// What the schedule is about. It says what comes, so it is opened when it is asked for.
+function storyView({ remarks: { about }, answered }) {
+  if (!about) return null;
+  return html`<details class="story" ${answered && 'open'}><summary>${texts.showStory}<kbd>A</kbd>
+    </summary><p class="about">${withCode(about)}</p></details>`;
+}
+
+function startView(view, state) {
+  const { learn } = view.remarks;
+  const isTouched = matchMedia('(pointer: coarse)').matches;
+  return html`<h2 class="spoken">${texts.now}</h2>
+    <div class="head"><b>0</b><span>${texts.before}</span></div>
+    ${learn && html`<p class="say own-say">${learn}</p>`}
+    <p class="${learn ? 'aside' : 'say'}">${withTerms(texts.start)}</p>${storyView(view)}
+    <p class="hint">${isTouched ? texts.startTouch : texts.startHint}</p>
+    ${questionView(view)}${factList(view, state, '')}`;
+}
+
+function wroteRow(view) {
+  const wrote = writtenWords(view, view.move, useOf).join(', ');
+  return html`<dt class="wrote">${texts.facts.wrote}</dt>
+    <dd class="mono wrote">${wrote || html`<span class="soft">${texts.noWord}</span>`}</dd>`;
+}
+
+// The lesson's own sentence, if it has one, and that of the machine.
+function sentences(view) {
+  const { remarks: { say }, move } = view;
+  const own = say.get(move);
+  const hidden = covers(view, 'sentence') && 'hidden';
+  return html`${hidden && html`<p class="plain">${texts.coveredSentence}</p>`}
+    ${own && html`<p class="say own-say" ${hidden}>${withTerms(own)}</p>`}
+    <p class="${own ? 'aside' : 'say'}" ${hidden}>${sentence(view, move)}</p>`;
+}
+
+export function nowView(view, state) {
+  const { run, move, names } = view;
+  if (!move) return startView(view, state);
+  const { records } = run;
+  const word = MOVES[records.action(move)];
+  const hidden = covers(view, 'facts') && 'hidden';
+  return html`<h2 class="spoken">${texts.now}</h2>
+    <div class="head"><b>${move}</b><span>${names.of(records.thread(move))},
+      <span class="mono">${word}</span></span>${outcomePill(records, move)}</div>
+    <p class="plain">${plainWords(records, move)}</p>
+    ${sentences(view)}${questionView(view)}${factList(view, state, wroteRow(view), hidden)}
+    <p class="report-line" title="${texts.facts.report}" ${hidden}><code>${
+  reportLine(run, move)}</code></p>${lastView(view)}`;
+}
+
+// After the last move of a lesson: what was shown, and which one is next.
+function lastView({ remarks: { learn }, place, run, next, answered, move, remarks }) {
+  const due = remarks.ask.has(move) && remarks.answer.has(move) && !answered;
+  if (place < run.last || !learn || due) return null;
+  return html`<div class="last"><p><b>${texts.lessons.ended}</b> ${learn}</p>
+    ${next && html`<button type="button" class="strong" data-next="${next.name}">${
+  texts.lessons.next(next.title)}<kbd>→</kbd></button>`}</div>`;
+}
+
+function spokenMove({ run: { records }, names }, move) {
+  const who = names.of(records.thread(move));
+  const word = MOVES[records.action(move)];
+  return texts.spoken.did(who, word, OUTCOMES[records.outcome(move)]);
+}
+
+// The same as a text, for a screen reader.
+export function spokenText(view, state) {
+  const { run, move, names } = view;
+  const holds = state.holders.length ? names.few(state.holders) : texts.nobody;
+  const line = state.queue.length ? names.few(state.queue) : texts.nobody;
+  const question = view.remarks.ask.get(move);
+  const own = view.remarks.say.get(move);
+  const parts = [move ? texts.spoken.move(move, run.count) : texts.spoken.start(run.count)];
+  if (move) parts.push(spokenMove(view, move));
+  if (move && !covers(view, 'sentence')) parts.push(...[own].filter(Boolean), sentence(view, move));
+  if (!covers(view, 'facts')) parts.push(texts.spoken.holds(holds), texts.spoken.line(line));
+  if (question) parts.push(texts.spoken.ask(question));
+  if (view.hidden) parts.push(texts.spoken.hidden);
+  return parts.join(' ');
+}

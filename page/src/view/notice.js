@@ -1,0 +1,24 @@
+// A short notice to the reader, which goes by itself.
+
+import { byId } from '../lib/markup.js';
+
+const SHOWN = 4000;
+
+let hiding = 0;
+
+export function tell(text) {
+  const box = byId('told');
+  box.textContent = text;
+  box.hidden = false;
+  clearTimeout(hiding);
+  hiding = setTimeout(() => { box.hidden = true; }, SHOWN);
+}
+
+export async function toClipboard(text, done, otherwise) {
+  try {
+    await navigator.clipboard.writeText(text);
+    tell(done);
+  } catch {
+    tell(otherwise);
+  }
+}

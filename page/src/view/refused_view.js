@@ -1,0 +1,41 @@
+// A refused move as a scene: the line with the word that is refused, why, and what decided it.
+
+import { html } from '../lib/markup.js';
+import { lastLine } from '../model/report.js';
+import { texts } from '../texts/texts.js';
+
+const T = texts.refused;
+
+// The line's two words, the refused one struck through: the thread's number if there is no such
+// thread, else what it was to do.
+export function refusedLine({ name, thread, word }) {
+  const marked = (text, bad) => (bad ? html`<mark class="bad">${text}</mark>` : text);
+  const number = name === 'NoSuchThread';
+  return html`<code class="refused-text">${marked(thread, number)} ${marked(word, !number)}</code>`;
+}
+
+function decidedView({ decided, who }) {
+  if (decided.words) {
+    const words = decided.words.map((word, i) => html`${i > 0 && ' '}${
+      i === decided.at ? html`<mark>${word}</mark>` : word}`);
+    return html`${texts.own.line(decided.line)}: <code>${words}</code>`;
+  }
+  if (!decided.move) return T.noMove(who);
+  const found = decided.found && html`<span>${T.found}
+    <code><mark>${decided.found}</mark></code></span>`;
+  return html`<span>${T.move(decided.move)} <code>${decided.text}</code></span>${found}`;
+}
+
+export function refusedFacts(facts) {
+  return html`<dt>${T.decided}</dt><dd data-decided>${decidedView(facts)}</dd>`;
+}
+
+// The scene beside memory and code; `rows` has who holds and who is in the queue.
+export function refusedView(session, facts, rows) {
+  return html`<div class="head"><b>✕</b><span>${texts.own.line(facts.line)}:
+      ${refusedLine(facts)}</span><span class="outcome fails"
+      data-outcome="refused">${T.refused}</span></div>
+    ${facts.said.map((line) => html`<p class="say refusal">${line}</p>`)}
+    <dl class="facts">${refusedFacts(facts)}${rows}</dl>
+    <p class="report-line"><code>${lastLine(session.run)}</code></p>`;
+}

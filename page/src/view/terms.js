@@ -1,0 +1,53 @@
+// Terms of art, each explained where one points at it, in the words of docs/GLOSSARY.md.
+
+import { byId, html, write } from '../lib/markup.js';
+
+// Other forms of a term.
+const FORMS = {
+  holds: 'holder', words: 'word', steps: 'step', moves: 'move', polls: 'poll', linked: 'link',
+};
+let meanings = {};
+let pattern = null;
+
+// {term: meaning}, before anything is drawn.
+export function learnTerms(given) {
+  meanings = Object.fromEntries(Object.entries(given)
+    .map(([term, meaning]) => [term.toLowerCase(), meaning]));
+  const forms = Object.keys(FORMS).filter((form) => meanings[FORMS[form]]);
+  const longestFirst = [...Object.keys(meanings), ...forms]
+    .sort((one, other) => other.length - one.length);
+  pattern = new RegExp(`(?<![\\p{L}-])(${longestFirst.join('|')})(?![\\p{L}-])`, 'iu');
+}
+
+const termOf = (text) => FORMS[text.toLowerCase()] ?? text.toLowerCase();
+
+const termView = (text) => html`<span class="term" tabindex="0" data-term="${
+  termOf(text)}">${text}</span>`;
+
+// The text with its terms marked.
+export function withTerms(text) {
+  if (!pattern) return html`${text}`;
+  return html`${text.split(pattern).map((part, at) => (at % 2 ? termView(part) : part))}`;
+}
+
+function showMeaning(target) {
+  const tip = byId('tip-box');
+  const term = target.closest?.('.term');
+  tip.hidden = !term;
+  if (!term) return;
+  // A dialog is above everything but what is in it.
+  (term.closest('dialog') ?? document.body).append(tip);
+  write(tip, meanings[term.dataset.term]);
+  const zoom = document.body.currentCSSZoom ?? 1;
+  const { left, bottom, top } = term.getBoundingClientRect();
+  const { offsetWidth: width, offsetHeight: height } = tip;
+  const below = bottom / zoom + 6;
+  tip.style.left = `${Math.max(8, Math.min(left / zoom, innerWidth / zoom - width - 8))}px`;
+  tip.style.top = `${below + height < innerHeight / zoom ? below : top / zoom - height - 6}px`;
+}
+
+export function listenForTerms() {
+  for (const event of ['pointerover', 'focusin', 'click']) {
+    addEventListener(event, ({ target }) => showMeaning(target));
+  }
+}

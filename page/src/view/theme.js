@@ -1,0 +1,38 @@
+// Dark or light: as the link says, else as the reader chose last, else as the system has it.
+
+import { looks } from '../model/looks.js';
+
+const KEY = 'lockreplay.theme';
+const root = document.documentElement;
+
+function remembered() {
+  try {
+    return localStorage.getItem(KEY);
+  } catch {
+    return null;
+  }
+}
+
+function remember(theme) {
+  try {
+    localStorage.setItem(KEY, theme);
+  } catch {
+    // No storage: the choice is gone with the page.
+  }
+}
+
+export function isDark() {
+  const chosen = root.dataset.theme;
+  return chosen ? chosen === 'dark' : matchMedia('(prefers-color-scheme: dark)').matches;
+}
+
+export function showTheme() {
+  const theme = looks.theme ?? remembered();
+  if (theme) root.dataset.theme = theme;
+}
+
+export function switchTheme() {
+  looks.theme = isDark() ? 'light' : 'dark';
+  remember(looks.theme);
+  showTheme();
+}
