@@ -8,8 +8,9 @@ import { join, posix } from 'node:path';
 const IMPORT = /^import \{([^}]+)\} from '(\.[\w./]+\.js)';\n/gm;
 const EXPORT = /^export (async function|function|class|const) (\w+)/gm;
 
-// Lines of comment, empty ones and indents, which a reader finds in the sources.
-const COMMENT = /^(?: *\/\/.*)?\n/gm;
+// Lines of comment, comments with types, empty lines and indents, which a reader finds in the
+// sources.
+const COMMENT = /^(?: *\/\/.*| *\/\*\*(?:.*\*\/|.*\n(?: *\*.*\n)*? *\*\/))?\n/gm;
 const INDENT = /^ +/gm;
 
 const variable = (file) => `m_${file.replace('.js', '').replaceAll('/', '_')}`;

@@ -2,7 +2,7 @@
 // {lock: [{name, says, sketch}, ..]}.
 
 import { lettersOf } from '../src/lib/bytes.js';
-import { LOCK_NAMES } from '../src/locks/locks.js';
+import { LOCK_NAMES } from '../src/machine/codes.js';
 import { Machine } from '../src/machine/machine.js';
 
 // A name, a sentence and a sketch have fewer bytes.

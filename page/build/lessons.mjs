@@ -3,7 +3,8 @@
 import { readFileSync, readdirSync } from 'node:fs';
 import { join } from 'node:path';
 import { faultAdvice } from '../src/model/fault_advice.js';
-import { LOCK_NAMES, LOCKS } from '../src/locks/locks.js';
+import { LOCKS } from '../src/locks/locks.js';
+import { LOCK_NAMES } from '../src/machine/codes.js';
 import { ownWords } from '../src/machine/locks_code.js';
 import { Machine } from '../src/machine/machine.js';
 import { remarksOf } from '../src/model/remarks.js';

@@ -2,7 +2,7 @@
 // lesson at its move.
 
 import { readFileSync } from 'node:fs';
-import { LOCK_NAMES } from '../src/locks/locks.js';
+import { LOCK_NAMES } from '../src/machine/codes.js';
 
 export function plansOf(path, lessons) {
   const plans = JSON.parse(readFileSync(path, 'utf8'));

@@ -15,7 +15,7 @@ import assert from 'node:assert/strict';
 import { readFileSync } from 'node:fs';
 import { rangesOf } from '../../page/build/ranges.mjs';
 import {
-  ANSWER, AS_WRITER, CALLS, HOLDS, IN_LINE, isStep, MOVES, OUTCOME, UNLINKED, WAITS,
+  ANSWER, AS_WRITER, CALLS, HOLDS, IN_QUEUE, isStep, MOVES, OUTCOME, UNLINKED, WAITS,
 } from '../../page/src/machine/codes.js';
 import { Records, RECORD_BYTES, STATE_BYTES } from '../../page/src/machine/machine.js';
 import { reportOf } from '../../page/src/model/report.js';
@@ -57,7 +57,7 @@ function checkThread(records, move, after) {
   const thread = records.thread(move);
   const holds = after.holders.includes(thread);
   const writes = holds && after.holderKind === A_WRITER;
-  const standing = (holds ? HOLDS : 0) + (after.queue.includes(thread) ? IN_LINE : 0)
+  const standing = (holds ? HOLDS : 0) + (after.queue.includes(thread) ? IN_QUEUE : 0)
     + (writes ? AS_WRITER : 0);
   const kept = records.standing(move) & ~UNLINKED & ~WAITS;
   assert.deepEqual([records.phase(move), records.phaseNumber(move), kept],

@@ -24,7 +24,7 @@ def test_themes(page, is_dark):
 def test_without_colour(page):
     """What a colour says, a pattern, a shape or a word says as well."""
     page.open("#lesson=fifo-reader-waits-behind-writer&move=6")
-    line, reads, call = page.js("fills", ["line", "reads", "call"])
+    line, reads, call = page.js("fills", ["queue", "reads", "call"])
     assert "hatch" in line and "ruled" in reads and "url" not in call
     words = page.js("texts", "#now .pill, #now .outcome")
     assert words and all(words), words

@@ -46,7 +46,7 @@ TEXTS = {text: int(number) for number, text in found(
 TEXTS.update((f"{name}: {message}", REFUSED[name]) for name, message in found(
     r'=> "(\w+)" "(.*)"', read("crates/lk_locks/src/refusals.rt")))
 # What the page calls the bits of a record's thread.
-BIT_NAMES = {"holds": "HOLDS", "is_queued": "IN_LINE", "writes": "AS_WRITER",
+BIT_NAMES = {"holds": "HOLDS", "is_queued": "IN_QUEUE", "writes": "AS_WRITER",
              "is_unlinked": "UNLINKED", "waits": "WAITS"}
 LISTS = {
     **{name: [word(text, variant=variant) for variant, text in words.items()] for name, words in {
@@ -66,6 +66,7 @@ LISTS = {
         "moves by number": indexed(MOVES), "texts of faults": indexed(TEXTS),
         "outcomes by number": indexed(RESULTS), "phases by number": indexed(PHASES),
         "refusals by number": indexed(REFUSED), "expected by number": indexed(EXPECTED),
+        "locks by number": indexed(LOCK_CODES),
         "modules by number": [re.sub("-(.)", lambda it: it[1].upper(), lock)
                               for lock in indexed(LOCK_CODES)],
     }.items()},
@@ -107,6 +108,7 @@ REGIONS = {
     "record/rust/Cargo.toml": (("version", 'version = "{word}"'),),
     "CITATION.cff": (("version", "version: {word}\ndate-released: {day}\n"),),
     "page/src/machine/codes.js": (
+        ("locks by number", "export const LOCK_NAMES = ['{all:', '}'];"),
         ("numbers of moves", "{number}: '{word}',"),
         ("outcomes by number", "export const OUTCOMES = ['{all:', '}'];"),
         ("phases by number", "'{word}',"), ("faults of texts", "{number}: '{word}',"),

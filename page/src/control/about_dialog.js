@@ -1,21 +1,24 @@
 // Who the page is: its name, what is proved, the locks' code, its licence, and the browsers that
 // run the machine. All of it is in the page, which may be one file by itself.
 
-import { LANGUAGE_NAMES, language } from '../texts/language.js';
-import { LOCKS } from '../locks/locks.js';
-import { byId, html, show } from '../lib/markup.js';
+import { byId, closesBeside, dialogOf, targetOf } from '../lib/elements.js';
+import { html, show } from '../lib/markup.js';
+import { language, LANGUAGE_NAMES } from '../texts/language.js';
 import { texts } from '../texts/texts.js';
+import { LOCKS } from '../locks/locks.js';
 
 const codeView = (lines) => html`${LOCKS.map(({ title }, lock) => html`<h3>${title}</h3>
   <pre class="mono">${lines[lock].map(({ code }) => `${code}\n`)}</pre>`)}`;
 
 export function aboutDialog(page) {
-  const dialog = byId('about');
+  const dialog = dialogOf('about');
+  closesBeside(dialog);
   dialog.addEventListener('click', (event) => {
-    const { lang, plans } = event.target.dataset;
-    if (event.target === dialog || plans) dialog.close();
+    const { lang, plans } = targetOf(event).dataset;
     if (lang) page.address.inLanguage(lang);
-    if (plans) page.lecture.choose();
+    if (!plans) return;
+    dialog.close();
+    page.lecture.choose();
   });
   return () => {
     const { proved, documents, source, licence, browsers, language: label } = texts.about;

@@ -1,15 +1,16 @@
 // The address of the page, its history and the browser's storage: they follow what is shown, and
 // bring it back.
 
-import { allKept, keep, kept, newName } from '../model/kept_schedules.js';
+import { byId } from '../lib/elements.js';
+import { write } from '../lib/markup.js';
 import { askedLanguage, language } from '../texts/language.js';
-import { FIRST_LESSON } from './lessons_dialog.js';
-import { readLooks } from '../model/looks.js';
-import { endOf, fragmentOf, readFragment } from '../model/link.js';
-import { byId, write } from '../lib/markup.js';
-import { showTheme } from '../view/theme.js';
-import { tell, toClipboard } from '../view/notice.js';
 import { texts } from '../texts/texts.js';
+import { allKept, keep, kept, newName } from '../model/kept_schedules.js';
+import { endOf, fragmentOf, readFragment } from '../model/link.js';
+import { readLooks } from '../model/looks.js';
+import { tell, toClipboard } from '../view/notice.js';
+import { FIRST_LESSON } from './lessons_dialog.js';
+import { showTheme } from './theme.js';
 
 const T = texts.links;
 const WAIT = 250;
@@ -37,7 +38,7 @@ export class Address {
     this.flush();
     const parts = location.hash.replace(/&?lang=[^&]*/, '');
     const fragment = `${parts || '#'}${parts.length > 1 ? '&' : ''}lang=${name}`;
-    history.replaceState(this.page.quiz.kept, '', fragment);
+    history.replaceState(this.page.quiz.saved, '', fragment);
     location.reload();
   }
 
@@ -90,7 +91,7 @@ export class Address {
 
   push() {
     try {
-      history.pushState(this.page.quiz.kept, '', location.href);
+      history.pushState(this.page.quiz.saved, '', location.href);
     } catch {
       // Too many entries in a short time.
     }
@@ -152,7 +153,7 @@ export class Address {
   }
 
   write(fragment) {
-    const { kept: answers } = this.page.quiz;
+    const { saved: answers } = this.page.quiz;
     if (this.damaged || (fragment === location.hash && answers === history.state)) return;
     try {
       history.replaceState(answers, '', fragment);

@@ -2,16 +2,12 @@
 // the one that it was branched off from, or the same calls on the other read-write lock. Both
 // memories are beside each other.
 
-import { commonMoves, firstDifference, otherLock } from '../model/compare_runs.js';
-import { lanesPicture } from '../view/lanes.js';
-import { layOutBeside } from '../view/layout.js';
-import { LOCKS } from '../locks/locks.js';
-import { looks } from '../model/looks.js';
-import { byId, html, show } from '../lib/markup.js';
-import { lastLine, reportLine } from '../model/report.js';
-import { tell } from '../view/notice.js';
 import { texts } from '../texts/texts.js';
+import { commonMoves, firstDifference, otherLock } from '../model/compare_runs.js';
+import { looks } from '../model/looks.js';
 import { onOtherLock } from '../model/other_lock.js';
+import { LOCKS } from '../locks/locks.js';
+import { tell } from '../view/notice.js';
 
 const T = texts.compare;
 
@@ -89,36 +85,16 @@ export class Comparing {
     return Math.max(this.page.session.run.last, this.other().session.run.last);
   }
 
-  // The other run at the move that is shown: {view, state, run}.
+  // The other run beside the move that is shown: {view, state}.
   there() {
     const { page } = this;
     const { session, at, first } = this.other();
-    session.go(at(page.session.place));
     const view = session.view({
       hidden: page.hides, future: looks.future, different: first, compares: true,
-    });
-    return { view, state: session.run.state(view.move), run: session.run };
+    }, at(page.session.place));
+    return { view, state: session.run.state(view.move) };
   }
 
   // The move here beside which a move of the other run is.
   beside(move) { return this.other().columns[move] ?? move; }
-
-  // In the columns of the layout of what is shown, and as tall.
-  draw(layout, room) {
-    const { columns, first, title, session } = this.other();
-    const { view } = this.there();
-    const beside = layOutBeside(layout, view, columns, room);
-    const { place } = this.page.session;
-    const differs = first && place >= first;
-    show(byId('other'), html`<h2>${T.title(title)} ${first ? html`<button type="button"
-        data-first="${first}">${T.first(first)}</button>` : html`<span>${T.same}</span>`}</h2>
-      <div class="other-lanes">${lanesPicture(view, beside, 0, beside.lanes.length - 1)}</div>
-      <p class="compared ${differs && 'differs'}"><code>${T.there} ${lineAt(session)}</code>
-      <code>${T.here} ${lineAt(this.page.session)}</code></p>`);
-  }
-}
-
-function lineAt({ run, move, refused }) {
-  if (refused) return lastLine(run);
-  return move ? reportLine(run, move) : texts.before;
 }

@@ -1,24 +1,26 @@
 // The controls of the page, each with what it does.
 
-import { listenForKeys } from './keys.js';
-import { byId, show } from '../lib/markup.js';
-import { lockOptions } from '../view/choices_view.js';
-import { drawPaper, toggleTheme } from '../view/draw_page.js';
-import { listenForSwipes } from './swipes.js';
-import { listenForTerms } from '../view/terms.js';
+import { byId, dataOf, formOf, inputOf, selectOf, targetOf } from '../lib/elements.js';
+import { chooseFile } from '../lib/files.js';
+import { show } from '../lib/markup.js';
 import { texts } from '../texts/texts.js';
+import { lockOptions } from '../view/choices_view.js';
+import { drawPaper } from '../view/draw_page.js';
+import { listenForTerms } from '../view/terms.js';
+import { listenForKeys } from './keys.js';
+import { listenForSwipes } from './swipes.js';
 
 // The tools that have no room otherwise.
 function showMenu(isOpen) {
   document.body.classList.toggle('menu', isOpen);
-  byId('menu').setAttribute('aria-expanded', isOpen);
+  byId('menu').setAttribute('aria-expanded', String(isOpen));
 }
 
 // It closes with the tool that is chosen, with a click elsewhere, and with Escape.
 function menu(page) {
   const isOpen = () => document.body.classList.contains('menu');
-  addEventListener('click', ({ target }) => {
-    showMenu(target.id === 'menu' && !isOpen());
+  addEventListener('click', (event) => {
+    showMenu(targetOf(event).id === 'menu' && !isOpen());
     page.hall.blank(false);
   });
   addEventListener('keydown', ({ key }) => {
@@ -38,13 +40,13 @@ function clicks(page) {
     'mode-play': () => modes.toggle('play'), 'mode-quiz': () => modes.toggleQuiz(),
     compare: () => comparing.toggle(), 'mode-hall': () => page.toggleHall(),
     leave: () => page.toggleHall(), 'show-view': () => page.showView(),
-    link: () => address.copy(), print: () => page.showSheets(), theme: () => toggleTheme(page),
+    link: () => address.copy(), print: () => page.showSheets(), theme: () => page.toggleTheme(),
     plan: () => page.lecture.choose(), 'show-keys': () => page.showKeys(),
     'show-about': () => page.showAbout(),
-    'show-take': () => page.showTake(), 'show-find': () => page.showFind(),
+    'show-take': () => page.showExports(), 'show-find': () => page.showFind(),
     'close-banner': () => { byId('banner').hidden = true; page.fit(); },
     undo: () => playing.undo(), 'undo-own': () => playing.undo(), save: () => editing.save(),
-    copy: () => editing.copy(), open: () => byId('file').click(),
+    copy: () => editing.copy(), open: () => chooseFile(byId('file')),
     clear: () => page.openOwn(new TextEncoder().encode(texts.own.template)),
   };
   for (const [id, act] of Object.entries(does)) byId(id).addEventListener('click', act);
@@ -52,26 +54,26 @@ function clicks(page) {
 
 function partsThatAreDrawn(page) {
   byId('time').addEventListener('click', (event) => {
-    const move = event.target.closest('[data-move]')?.dataset.move;
+    const { move } = dataOf(event, '[data-move]');
     if (move) page.go(Number(move));
   });
   byId('other').addEventListener('click', (event) => {
-    const { first, move } = event.target.closest('[data-move], [data-first]')?.dataset ?? {};
+    const { first, move } = dataOf(event, '[data-move], [data-first]');
     if (first) page.go(Number(first));
     if (move) page.go(page.comparing.beside(Number(move)));
   });
   byId('choices').addEventListener('click', (event) => {
-    const { thread, word } = event.target.closest('[data-word]')?.dataset ?? {};
+    const { thread, word } = dataOf(event, '[data-word]');
     if (word) page.playing.choose(Number(thread), word);
   });
   byId('soon').addEventListener('toggle', () => page.draw());
   byId('soon-list').addEventListener('click', (event) => {
-    const { soon } = event.target.dataset;
-    if (soon) page.playing.chooseSoon(Number(soon));
+    const { soon } = targetOf(event).dataset;
+    if (soon) page.playing.chooseKind(Number(soon));
   });
   for (const id of ['verdict', 'nothing-verdict']) {
     byId(id).addEventListener('click', (event) => {
-      const { keep, mend, returns } = event.target.dataset;
+      const { keep, mend, returns } = targetOf(event).dataset;
       if (keep) page.editing.keepRemarks();
       if (mend !== undefined) page.editing.mend(mend);
       if (returns) page.editing.removeReturns();
@@ -82,11 +84,12 @@ function partsThatAreDrawn(page) {
 // The bar of a lecture, and the lesson after the one that ended.
 function further(page) {
   byId('lecture').addEventListener('click', (event) => {
-    const { lecture: way } = event.target.dataset;
-    if (way) page.lecture[way]();
+    const { lecture: way } = targetOf(event).dataset;
+    if (way === 'back') page.lecture.back();
+    if (way === 'next') page.lecture.next();
   });
   byId('now').addEventListener('click', (event) => {
-    const { next } = event.target.closest('[data-next]')?.dataset ?? {};
+    const { next } = dataOf(event, '[data-next]');
     if (next) page.openLesson(next);
   });
 }
@@ -95,7 +98,7 @@ function further(page) {
 function quiz(page) {
   for (const id of ['now', 'current']) {
     byId(id).addEventListener('click', (event) => {
-      if (event.target.dataset.saveQuiz) page.modes.saveQuiz();
+      if (targetOf(event).dataset.saveQuiz) page.modes.saveQuiz();
     });
     byId(id).addEventListener('submit', (event) => {
       event.preventDefault();
@@ -105,9 +108,10 @@ function quiz(page) {
 }
 
 function files(page) {
-  byId('file').addEventListener('change', (event) => {
-    if (event.target.files.length) page.editing.openFiles(event.target.files);
-    event.target.value = '';
+  const field = inputOf('file');
+  field.addEventListener('change', () => {
+    if (field.files.length) page.editing.openFiles(field.files);
+    field.value = '';
   });
   addEventListener('dragover', (event) => event.preventDefault());
   addEventListener('drop', (event) => {
@@ -116,8 +120,8 @@ function files(page) {
     if (files.length) page.editing.openFiles(files);
     else page.editing.paste(event.dataTransfer.getData('text/plain'));
   });
-  addEventListener('paste', (event) => {
-    if (event.target.closest('textarea, input')) return;
+  document.addEventListener('paste', (event) => {
+    if (targetOf(event).closest('textarea, input')) return;
     page.editing.paste(event.clipboardData.getData('text/plain'));
   });
 }
@@ -125,9 +129,8 @@ function files(page) {
 // The numbers of a lock go as far as the machine takes them.
 function limitNumbers({ threads, bits }) {
   for (const form of ['new', 'find-form']) {
-    const { elements } = byId(form);
     for (const [name, [min, max]] of Object.entries({ threads, bits })) {
-      Object.assign(elements[name], { min, max });
+      Object.assign(formOf(form).elements.namedItem(name), { min, max });
     }
   }
 }
@@ -148,9 +151,10 @@ export function listen(page) {
     event.preventDefault();
     page.playing.beginNew(event.target);
   });
-  byId('speed').addEventListener('change', () => page.stepping.setSpeed(byId('speed').value));
+  const [speed, slider] = [selectOf('speed'), inputOf('slider')];
+  speed.addEventListener('change', () => page.stepping.setSpeed(speed.value));
   byId('every').addEventListener('change', () => page.playing.toggleEvery());
-  byId('slider').addEventListener('input', (event) => page.go(Number(event.target.value)));
+  slider.addEventListener('input', () => page.go(Number(slider.value)));
   byId('lanes').addEventListener('scroll', () => page.draw());
   addEventListener('resize', () => page.fit());
   addEventListener('popstate', () => page.address.open());

@@ -1,11 +1,12 @@
 // The schedule as a text: typed, mended, opened from a file, saved and copied.
 
 import { bytesOf, lettersOf } from '../lib/bytes.js';
-import { Editor } from '../view/editor.js';
-import { bytesOfFile, saveAs } from '../view/verdict_view.js';
-import { tell, toClipboard } from '../view/notice.js';
+import { bytesOfFile, saveAs } from '../lib/files.js';
+import { MOST_BYTES } from '../machine/codes.js';
 import { texts } from '../texts/texts.js';
 import { withoutValues } from '../model/trace_text.js';
+import { Editor } from '../view/editor.js';
+import { tell, toClipboard } from '../view/notice.js';
 
 export class Editing {
   constructor(page) {
@@ -16,7 +17,9 @@ export class Editing {
   // Of several files the first is shown. The others are kept, and listed with the lessons.
   async openFiles([first, ...others]) {
     try {
-      for (const file of [...others.reverse(), first]) this.openText(await bytesOfFile(file));
+      for (const file of [...others.reverse(), first]) {
+        this.openText(await bytesOfFile(file, MOST_BYTES));
+      }
       if (others.length) tell(texts.own.several(first.name, others.length));
     } catch {
       tell(texts.couldNotRead);

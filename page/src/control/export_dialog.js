@@ -1,14 +1,14 @@
-// To take away: the state as a picture, the report, the schedule, and a frame for a slide.
+// To export: the state as a picture, the report, the schedule, and a frame for a slide.
 
 import { animated } from '../lib/animated_png.js';
+import { byId, closesBeside, dataOf, dialogOf, focusIn, inputOf } from '../lib/elements.js';
+import { saveAs } from '../lib/files.js';
+import { texts } from '../texts/texts.js';
 import { withoutLooks } from '../model/looks.js';
-import { byId } from '../lib/markup.js';
 import { isAsked } from '../model/remarks.js';
-import { statePicture, stripPicture } from '../view/state_picture.js';
-import { saveAs } from '../view/verdict_view.js';
 import { reportOf } from '../model/report.js';
 import { tell, toClipboard } from '../view/notice.js';
-import { texts } from '../texts/texts.js';
+import { statePicture, stripPicture } from '../view/state_picture.js';
 import { tikzOf } from '../view/tikz.js';
 
 const T = texts.take;
@@ -40,13 +40,14 @@ async function png({ width, height, text }, [wide, tall] = [width, height]) {
 }
 
 // What is in the picture, as the dialog says it.
-const wantedNow = () => Object.fromEntries([...byId('take').querySelectorAll('[type=checkbox]')]
-  .map(({ name, checked }) => [name, checked]));
+const wantedNow = () => Object.fromEntries(
+  ['take-title', 'take-legend', 'take-code', 'take-answered'].map((id) => inputOf(id))
+    .map(({ name, checked }) => [name, checked]));
 
 // From which move to which one, as the dialog says it.
 function stretchNow({ session: { run: { count } } }) {
   const [from, to] = ['take-from', 'take-to'].map((id) => (
-    Math.min(count, Math.max(0, Math.trunc(byId(id).value) || 0))));
+    Math.min(count, Math.max(0, Math.trunc(Number(inputOf(id).value)) || 0))));
   return from <= to ? [from, Math.min(to, from + MOST - 1)] : [to, Math.min(from, to + MOST - 1)];
 }
 
@@ -83,7 +84,8 @@ export function frameOf(address) {
     + `height="${FRAME.height}"></iframe>`;
 }
 
-export function takeAway(page) {
+// What each export does.
+export function exportsOf(page) {
   const { session, address } = page;
   return {
     svg: () => saveAs(nameOf(session, 'svg'), encoded(pictureOf(page).text), 'image/svg+xml'),
@@ -104,20 +106,22 @@ export function takeAway(page) {
 }
 
 // The dialog in which it is chosen.
-export function takeDialog(page) {
-  const dialog = byId('take');
-  const does = takeAway(page);
+export function exportDialog(page) {
+  const dialog = dialogOf('take');
+  const does = exportsOf(page);
+  closesBeside(dialog);
   dialog.addEventListener('click', (event) => {
-    const { take } = event.target.closest('[data-take]')?.dataset ?? {};
-    if (event.target === dialog || take) dialog.close();
-    if (take) does[take]();
+    const { take } = dataOf(event, '[data-take]');
+    if (!take) return;
+    dialog.close();
+    does[take]();
   });
   return () => {
     const { move, run: { count } } = page.session;
-    byId('take-from').value = Math.max(0, move - 3);
-    byId('take-to').value = Math.min(count, Math.max(3, move));
+    inputOf('take-from').value = String(Math.max(0, move - 3));
+    inputOf('take-to').value = String(Math.min(count, Math.max(3, move)));
     byId('take-answer').hidden = !isAsked(page.session.view({ answered: page.answered }));
     dialog.showModal();
-    dialog.querySelector('[data-take]').focus();
+    focusIn(dialog, '[data-take]');
   };
 }

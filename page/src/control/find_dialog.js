@@ -2,14 +2,16 @@
 // The schedule that the module finds is opened at the move that was looked for: of lines the last.
 
 import { bytesOf } from '../lib/bytes.js';
-import { ANSWER, OUTCOMES } from '../machine/codes.js';
-import { firstOf, kindsOf } from '../model/kinds.js';
+import {
+  buttonOf, byId, closesBeside, dialogOf, elementOf, formOf, inputOf, selectOf,
+} from '../lib/elements.js';
+import { html, show, write } from '../lib/markup.js';
+import { ANSWER, LOCK_NAMES, OUTCOMES } from '../machine/codes.js';
+import { find, FOUND } from '../machine/search.js';
 import { language } from '../texts/language.js';
-import { LOCK_NAMES } from '../locks/locks.js';
-import { byId, html, show, write } from '../lib/markup.js';
-import { lockOptions, newHeader } from '../view/choices_view.js';
-import { FOUND, find } from '../machine/search.js';
 import { texts } from '../texts/texts.js';
+import { firstOf, kindsOf } from '../model/kinds.js';
+import { lockOptions, newHeader } from '../view/choices_view.js';
 
 const T = texts.find;
 
@@ -44,25 +46,28 @@ function scheduleOf(header, run, { title, sketch, threads, rounds }) {
 class Finding {
   constructor(page) {
     this.page = page;
-    this.form = byId('find-form');
+    this.form = formOf('find-form');
+    this.dialog = dialogOf('find');
     this.kinds = [];
+    this.fields = {
+      lock: selectOf('find-lock'), kind: selectOf('find-kind'), rounds: inputOf('find-rounds'),
+      sketch: elementOf('find-sketch', HTMLTextAreaElement),
+    };
   }
 
   get machine() { return this.page.session.machine; }
 
-  get fields() { return this.form.elements; }
-
   open() {
     const { stored } = this.machine;
-    byId('find-search').disabled = Boolean(stored);
+    buttonOf('find-search').disabled = Boolean(stored);
     write(byId('find-answer'), stored ? texts.play.noMachine : '');
-    if (!stored) this.takeLock(this.page.session.run);
-    byId('find').showModal();
+    if (!stored) this.chooseLock(this.page.session.run);
+    this.dialog.showModal();
     this.fields.kind.focus();
   }
 
   // The lock that is shown, unless it was shown already when the dialog was last opened.
-  takeLock({ hasLock, kind }) {
+  chooseLock({ hasLock, kind }) {
     if (hasLock && kind !== this.shown) {
       this.shown = kind;
       this.fields.lock.value = LOCK_NAMES[kind];
@@ -83,8 +88,10 @@ class Finding {
     this.fields.sketch.placeholder = this.kinds[this.kinds.length >> 1].sketch;
   }
 
+  get chosen() { return this.kinds[Number(this.fields.kind.value || NaN)]; }
+
   chooseKind() {
-    const chosen = this.kinds[this.fields.kind.value];
+    const { chosen } = this;
     if (chosen) this.fields.sketch.value = chosen.sketch;
   }
 
@@ -94,7 +101,7 @@ class Finding {
     const { state } = this.machine.play(bytesOf(header), 0, false);
     if (state.answer === ANSWER.fault) return null;
     const sketch = this.fields.sketch.value || this.fields.sketch.placeholder;
-    const chosen = this.kinds[this.fields.kind.value];
+    const { chosen } = this;
     const kind = chosen?.sketch === sketch ? chosen : null;
     const title = kind?.name ?? sketch.trim().split(/\s*\n\s*/).join('; ');
     const rounds = Number(this.fields.rounds.value);
@@ -112,7 +119,7 @@ class Finding {
       write(byId('find-answer'), refusal(found, asked));
       return;
     }
-    byId('find').close();
+    this.dialog.close();
     const text = scheduleOf(asked.header, found.moves, asked);
     const run = this.page.session.runOf(text);
     this.page.open(text, null, (asked.kind && firstOf(run, asked.kind)) || run.count, run);
@@ -122,8 +129,7 @@ class Finding {
 
 export function findDialog(page) {
   const finding = new Finding(page);
-  const dialog = byId('find');
-  dialog.addEventListener('click', (event) => { if (event.target === dialog) dialog.close(); });
+  closesBeside(finding.dialog);
   show(byId('find-lock'), lockOptions());
   const { lock, kind } = finding.fields;
   lock.addEventListener('change', () => finding.listKinds());

@@ -1,8 +1,8 @@
 // What a lecturer does in hall mode by key or by clicker: blanks the screen, fills it, and leaves.
 
+import { texts } from '../texts/texts.js';
 import { looks } from '../model/looks.js';
 import { tell } from '../view/notice.js';
-import { texts } from '../texts/texts.js';
 
 export class Hall {
   constructor(page) {

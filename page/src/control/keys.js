@@ -1,10 +1,10 @@
 // Keys for everything. A key that a field or a button needs for itself is left to it.
 
-import { signList } from '../view/legend.js';
-import { byId, html, show } from '../lib/markup.js';
-import { looks } from '../model/looks.js';
-import { toggleTheme, zoom } from '../view/draw_page.js';
+import { byId, closesBeside, dialogOf, targetOf } from '../lib/elements.js';
+import { html, show } from '../lib/markup.js';
 import { texts } from '../texts/texts.js';
+import { looks } from '../model/looks.js';
+import { signList } from '../view/legend.js';
 
 const IN_FIELDS = 'textarea, select, '
   + 'input:not([type=range]):not([type=radio]):not([type=checkbox])';
@@ -24,13 +24,13 @@ function actions(page) {
     q: () => modes.toggleQuiz(),
     w: () => page.mode === 'play' && playing.toggleEvery(),
     c: () => comparing.toggle(), u: () => playing.undo(), l: () => address.copy(),
-    t: () => page.showTake(), m: () => page.showFind(),
+    t: () => page.showExports(), m: () => page.showFind(),
     h: () => page.toggleHall(), s: () => hall.fillScreen(), Escape: () => hall.leave(),
     v: () => page.showView(), f: () => page.toggleFuture(),
-    p: () => page.showSheets(), d: () => toggleTheme(page), '?': () => page.showKeys(),
+    p: () => page.showSheets(), d: () => page.toggleTheme(), '?': () => page.showKeys(),
     '.': () => (looks.hall ? hall.blank(true) : stepping.faster(1)), ',': () => stepping.faster(-1),
     2: () => presenter.open(),
-    '+': () => zoom(page, WIDER), '=': () => zoom(page, WIDER), '-': () => zoom(page, 1 / WIDER),
+    '+': () => page.zoom(WIDER), '=': () => page.zoom(WIDER), '-': () => page.zoom(1 / WIDER),
   };
 }
 
@@ -57,14 +57,15 @@ export function listenForKeys(page) {
       page.hall.blank(false);
       return;
     }
+    const target = targetOf(event);
     const undoes = (event.ctrlKey || event.metaKey) && event.key === 'z'
-      && !event.target.closest(IN_FIELDS);
+      && !target.closest(IN_FIELDS);
     if (undoes) page.playing.undo();
     if (event.ctrlKey || event.metaKey || event.altKey) return;
-    if (event.key === 'Escape' && event.target.closest(IN_FIELDS)) event.target.blur();
-    if (document.querySelector('dialog[open]') || isTheirs(event.key, event.target)) return;
+    if (event.key === 'Escape' && target.closest(IN_FIELDS)) target.blur();
+    if (document.querySelector('dialog[open]') || isTheirs(event.key, target)) return;
     const key = event.key.length === 1 ? event.key.toLowerCase() : event.key;
-    const onLane = event.target.id === 'lanes' && lanes[key];
+    const onLane = target.id === 'lanes' && lanes[key];
     const thread = page.mode === 'play' && /^[0-9]$/.test(key);
     const digit = thread && (() => page.playing.chooseFor(Number(key)));
     const act = onLane || digit || does[key];
@@ -75,8 +76,8 @@ export function listenForKeys(page) {
 }
 
 export function keysDialog() {
-  const dialog = byId('keys');
-  dialog.addEventListener('click', (event) => { if (event.target === dialog) dialog.close(); });
+  const dialog = dialogOf('keys');
+  closesBeside(dialog);
   return () => {
     const rows = texts.keys.list
       .map(([key, does]) => html`<dt><kbd>${key}</kbd></dt><dd>${does}</dd>`);

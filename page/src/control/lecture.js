@@ -1,10 +1,12 @@
 // A lecture after one of the plans: its steps in hall mode, each at its place, and a clock with the
 // minutes that are left.
 
-import { looks, partsOf } from '../model/looks.js';
-import { byId, html, show, write } from '../lib/markup.js';
-import { minutesOf, plansDialog, titleOf } from '../view/lesson_plans.js';
+import { show } from '../lib/markup.js';
 import { texts } from '../texts/texts.js';
+import { looks, partsOf } from '../model/looks.js';
+import { drawClock } from '../view/lecture_view.js';
+import { minutesOf } from '../view/lesson_plans.js';
+import { plansDialog } from './plans_dialog.js';
 
 const T = texts.plans;
 const SECOND = 1000;
@@ -30,8 +32,8 @@ export class Lecture {
   }
 
   get isOn() { return this.plan !== null; }
-  get step() { return this.plan.steps[this.at]; }
-  get following() { return this.plan.steps[this.at + 1]; }
+  get step() { return this.plan?.steps[this.at]; }
+  get following() { return this.plan?.steps[this.at + 1]; }
 
   // The clock begins with the minute of the step.
   begin(lock, at) {
@@ -70,31 +72,7 @@ export class Lecture {
   get clock() { return clockText(this.left); }
 
   tick() {
-    const clock = byId('lecture-clock');
-    if (clock) write(clock, this.clock);
+    drawClock(this);
     this.page.presenter.draw();
   }
-
-  draw() {
-    if (!this.isOn) {
-      show(byId('lecture'), html``);
-      return;
-    }
-    const { plan, at, step } = this;
-    show(byId('lecture'), html`<span title="${titleOf(plan)}">${
-  T.step(at + 1, plan.steps.length)}</span> <span>${T.minutes(step.from, step.to)}</span>
-      <b id="lecture-clock" title="${T.left}">${this.clock}</b>
-      <button type="button" data-lecture="back" aria-label="${T.back}">‹</button>
-      <button type="button" data-lecture="next">${this.following ? T.next : T.last}</button>`);
-  }
-}
-
-// A plan's own question above the parts, beside that of the lesson.
-export function lectureView({ lecture, answered }) {
-  if (!lecture.isOn) return null;
-  const { say, ask, answer, play } = lecture.step;
-  return html`${say && html`<p class="plan-say">${say}</p>`}
-    ${play && html`<div class="question"><p><b>${texts.question}</b> ${ask}</p>
-      <details ${answered && 'open'}><summary>${texts.showAnswer}</summary><p>${answer}</p>
-      </details></div>`}`;
 }

@@ -1,14 +1,15 @@
 // The start: what the page is, the lessons of each lock in their order, what was kept, and what one
 // can do oneself. It is also where a lesson is chosen later.
 
-import { doneLessons } from '../model/done_lessons.js';
-import { LANGUAGE_NAMES, language } from '../texts/language.js';
-import { LiveCards } from '../view/live_cards.js';
-import { LOCKS } from '../locks/locks.js';
-import { byId, html, show } from '../lib/markup.js';
-import { remarksOf } from '../model/remarks.js';
-import { withTerms } from '../view/terms.js';
+import { byId, closesBeside, dataOf, dialogOf, focusIn } from '../lib/elements.js';
+import { html, show } from '../lib/markup.js';
+import { language, LANGUAGE_NAMES } from '../texts/language.js';
 import { texts } from '../texts/texts.js';
+import { doneLessons } from '../model/done_lessons.js';
+import { remarksOf } from '../model/remarks.js';
+import { LOCKS } from '../locks/locks.js';
+import { withTerms } from '../view/terms.js';
+import { LiveCards } from './live_cards.js';
 
 export const FIRST_LESSON = 'ticket-hand-over';
 const T = texts.lessons;
@@ -77,20 +78,22 @@ function startView(lessons, current, kept, isStored) {
 
 // At once, so that its pictures are none of the page's.
 export function closeLessons() {
-  byId('lessons').close();
+  dialogOf('lessons').close();
   show(byId('lesson-list'), html``);
 }
 
 // `choose` has what each choice does; `session` plays the lessons that are pictured.
 export function lessonsDialog(lessons, session, choose) {
-  const dialog = byId('lessons');
+  const dialog = dialogOf('lessons');
   const live = new LiveCards(lessons, session);
   let all = null;
+  closesBeside(dialog);
   dialog.addEventListener('click', (event) => {
-    const chosen = event.target.closest('[data-lesson], [data-kept], [data-way], [data-lang]');
-    if (event.target === dialog || chosen) dialog.close();
-    const [what, value] = Object.entries(chosen?.dataset ?? {})[0] ?? [];
-    if (what) choose[what](value);
+    const chosen = dataOf(event, '[data-lesson], [data-kept], [data-way], [data-lang]');
+    const [what, value] = Object.entries(chosen)[0] ?? [];
+    if (!what) return;
+    dialog.close();
+    choose[what](value);
   });
   dialog.addEventListener('close', () => {
     live.stop();
@@ -101,6 +104,6 @@ export function lessonsDialog(lessons, session, choose) {
     show(byId('lesson-list'), startView(all, current, kept, session.machine.stored));
     dialog.showModal();
     live.draw(dialog);
-    dialog.querySelector('[aria-current]')?.focus();
+    focusIn(dialog, '[aria-current]');
   };
 }

@@ -1,21 +1,21 @@
 // Starts the page: the machine, or what was stored of it, the lessons, and the controls.
 
 import { fromBase64 } from '../lib/bytes.js';
-import { listen } from './controls.js';
-import { learnKinds } from '../model/kinds.js';
-import { language, learnLessons, translatedTerms } from '../texts/language.js';
+import { buttonOf, byId } from '../lib/elements.js';
 import { linesOf } from '../machine/locks_code.js';
-import { looks } from '../model/looks.js';
 import { Machine } from '../machine/machine.js';
-import { byId } from '../lib/markup.js';
-import { Page } from './page.js';
-import { drawTheme } from '../view/draw_page.js';
-import { Session } from '../model/session.js';
 import { StoredMachine } from '../machine/stored_machine.js';
-import { learnTerms } from '../view/terms.js';
-import { testPort } from './test_port.js';
-import { texts } from '../texts/texts.js';
 import { learnWords } from '../machine/word_names.js';
+import { language, learnLessons, translatedTerms } from '../texts/language.js';
+import { texts } from '../texts/texts.js';
+import { learnKinds } from '../model/kinds.js';
+import { looks } from '../model/looks.js';
+import { Session } from '../model/session.js';
+import { learnTerms } from '../view/terms.js';
+import { listen } from './controls.js';
+import { Page } from './page.js';
+import { testPort } from './test_port.js';
+import { drawTheme } from './theme.js';
 
 // The machine if the browser can run it, else what it answered when the page was built.
 function runOrStored(data) {
@@ -63,7 +63,9 @@ function begin(data) {
   drawTheme();
   page.stepping.draw();
   byId('banner').hidden = !machine.stored;
-  for (const id of ['mode-own', 'mode-play', 'show-find']) byId(id).disabled = machine.stored;
+  for (const id of ['mode-own', 'mode-play', 'show-find']) {
+    buttonOf(id).disabled = Boolean(machine.stored);
+  }
   page.address.begin();
   if (looks.sheet) page.showSheets(looks.sheet);
   window.lockreplay = { test: testPort(page) };

@@ -1,10 +1,10 @@
 // The modes: which panel is beside the schedule, and whether moves are asked for first.
 
-import { byId } from '../lib/markup.js';
-import { saveAs } from '../view/verdict_view.js';
-import { givenOf } from '../model/quiz.js';
-import { tell } from '../view/notice.js';
+import { byId, focusIn, inputOf } from '../lib/elements.js';
+import { saveAs } from '../lib/files.js';
 import { texts } from '../texts/texts.js';
+import { tell } from '../view/notice.js';
+import { givenOf } from '../view/quiz_view.js';
 
 export class Modes {
   constructor(page) {
@@ -37,11 +37,11 @@ export class Modes {
     if (quiz.asks(session)) this.askFocus();
   }
 
-  askFocus() { byId('quiz-form')?.querySelector('input')?.focus(); }
+  askFocus() { focusIn(document, '#quiz-form input'); }
 
   saveQuiz() {
     const { quiz } = this.page;
-    quiz.name = byId('quiz-name').value.trim();
+    quiz.name = inputOf('quiz-name').value.trim();
     saveAs(texts.quiz.fileName, new TextEncoder().encode(quiz.report(location.href)));
   }
 

@@ -1,27 +1,32 @@
 // The page as a whole: what is shown, and at which move. What the controls do is in the parts
 // that it is made of, each with the page at hand.
 
+import { noteDone } from '../model/done_lessons.js';
+import { looks, toggleHall } from '../model/looks.js';
+import { Quiz } from '../model/quiz.js';
+import { drawPage } from '../view/draw_page.js';
+import { titleOf } from '../view/draw_texts.js';
+import { drawLecture } from '../view/lecture_view.js';
+import { plansWith } from '../view/lesson_plans.js';
 import { aboutDialog } from './about_dialog.js';
 import { Address } from './address.js';
 import { Comparing } from './comparing.js';
-import { noteDone } from '../model/done_lessons.js';
-import { titleOf } from '../view/draw_texts.js';
 import { Editing } from './editing.js';
+import { exportDialog } from './export_dialog.js';
 import { findDialog } from './find_dialog.js';
 import { Hall } from './hall.js';
 import { keysDialog } from './keys.js';
 import { Lecture } from './lecture.js';
 import { closeLessons, lessonsDialog } from './lessons_dialog.js';
 import { Modes } from './modes.js';
-import { plansWith } from '../view/lesson_plans.js';
 import { Playing } from './playing.js';
 import { Presenter } from './presenter.js';
-import { Quiz } from '../model/quiz.js';
-import { looks, toggleHall } from '../model/looks.js';
-import { drawPage } from '../view/draw_page.js';
 import { Stepping } from './stepping.js';
-import { takeDialog } from './export_dialog.js';
+import { drawTheme, switchTheme } from './theme.js';
 import { sheetsDialog, viewDialog } from './view_dialogs.js';
+
+// How many times wider than usual columns are.
+const ZOOM = { least: 0.4, most: 2.5 };
 
 export class Page {
   constructor(session, lessons, plans) {
@@ -29,6 +34,8 @@ export class Page {
     this.lessons = lessons;
     this.quiz = new Quiz();
     this.zoomed = 1;
+    // Where the lanes are that were drawn last.
+    this.layout = null;
     // The thread whose lane is chosen.
     this.lane = null;
     this.address = new Address(this);
@@ -43,7 +50,7 @@ export class Page {
     this.openLessons = lessonsDialog(lessons, session.twin(), this.choices());
     this.showKeys = keysDialog();
     this.showAbout = aboutDialog(this);
-    this.showTake = takeDialog(this);
+    this.showExports = exportDialog(this);
     this.showView = viewDialog(this);
     this.showFind = findDialog(this);
     this.sheet = 'worked';
@@ -77,6 +84,17 @@ export class Page {
   toggleHall() {
     toggleHall();
     this.show();
+  }
+
+  toggleTheme() {
+    switchTheme();
+    drawTheme();
+    this.address.writeSoon();
+  }
+
+  zoom(by) {
+    this.zoomed = Math.min(ZOOM.most, Math.max(ZOOM.least, this.zoomed * by));
+    this.draw();
   }
 
   toggleFuture() {
@@ -139,7 +157,7 @@ export class Page {
   go(move) {
     const { session, quiz } = this;
     quiz.clear();
-    session.go(Math.min(move, session.run.last, quiz.limit(session)));
+    session.go(Math.min(move, session.run.last, quiz.limit()));
     this.show();
   }
 
@@ -152,14 +170,14 @@ export class Page {
 
   // The parts may have other sizes: what counts is brought into view again.
   fit() {
-    this.moved = true;
-    this.draw();
+    if (this.quiz.on) this.quiz.meet(this.session);
+    this.draw(true);
   }
 
-  draw() {
+  draw(reveals = false) {
     this.comparing.settle();
-    drawPage(this);
-    this.lecture.draw();
+    this.layout = drawPage(this, reveals) ?? this.layout;
+    drawLecture(this.lecture);
     this.presenter.draw();
     this.address.writeSoon();
   }

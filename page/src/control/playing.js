@@ -1,9 +1,10 @@
 // Playing: a chosen move goes on from the one that is shown, and undo takes it back.
 
 import { bytesOf } from '../lib/bytes.js';
-import { byId } from '../lib/markup.js';
-import { hasRoom, newHeader } from '../view/choices_view.js';
-import { Soon } from '../view/next_kinds.js';
+import { byId, focusIn } from '../lib/elements.js';
+import { choicesOf, hasRoom } from '../model/choices.js';
+import { NextKinds } from '../model/next_kinds.js';
+import { newHeader } from '../view/choices_view.js';
 
 const MOST_UNDONE_BYTES = 16000000;
 
@@ -13,8 +14,7 @@ export class Playing {
     this.undone = [];
     // Whether moves are offered that would be refused.
     this.every = false;
-    // What can happen next, if the reader wants to see it.
-    this.soon = new Soon(page.session);
+    this.nextKinds = new NextKinds();
   }
 
   get possible() {
@@ -25,7 +25,7 @@ export class Playing {
   choose(thread, word) { this.goOn([`${thread} ${word}`]); }
 
   // Goes on with the moves to a transition that can happen next.
-  chooseSoon(at) { this.goOn(this.soon.now().ways[at][1]); }
+  chooseKind(at) { this.goOn(this.nextKinds.after(this.page.session).ways[at][1]); }
 
   goOn(moves) { if (this.possible) this.branch(moves); }
 
@@ -43,14 +43,13 @@ export class Playing {
   // The thread's one choice is made; of several the first is focused.
   chooseFor(thread) {
     if (!this.possible) return;
-    const choices = byId('choices').querySelectorAll(`[data-thread="${thread}"]`);
-    if (choices.length > 1) choices[0].focus();
-    else choices[0]?.click();
+    const choices = choicesOf(this.page.session, thread, this.every);
+    if (choices.length === 1) this.choose(thread, choices[0].word);
+    else focusIn(byId('choices'), `[data-thread="${thread}"]`);
   }
 
   toggleEvery() {
     this.every = !this.every;
-    byId('every').checked = this.every;
     this.page.draw();
   }
 
@@ -60,9 +59,8 @@ export class Playing {
     const last = this.undone[this.undone.length - 1];
     if (!session.run || (why === 'edit' && last?.why === 'edit')) return;
     this.undone.push({ ...session.shown, work: address.work, why });
-    let room = MOST_UNDONE_BYTES;
-    const kept = this.undone.findLastIndex(({ text }) => { room -= text.length; return room < 0; });
-    if (kept >= 0) this.undone.splice(0, kept + 1);
+    let bytes = this.undone.reduce((sum, { text }) => sum + text.length, 0);
+    while (bytes > MOST_UNDONE_BYTES) bytes -= this.undone.shift().text.length;
   }
 
   undo() {

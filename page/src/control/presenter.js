@@ -1,11 +1,11 @@
 // A second window for who gives the lecture: what the hall does not see yet. It is drawn by this
 // window, since a page from disk may not open itself twice and talk to itself.
 
-import { whoRows } from '../view/move_view.js';
 import { html, show } from '../lib/markup.js';
-import { sentence } from '../locks/sentences.js';
-import { tell } from '../view/notice.js';
 import { texts } from '../texts/texts.js';
+import { sentence } from '../locks/sentences.js';
+import { whoRows } from '../view/move_view.js';
+import { tell } from '../view/notice.js';
 
 const T = texts.presenter;
 const NAME = 'lockreplay-presenter';

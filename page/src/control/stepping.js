@@ -1,16 +1,18 @@
 // Stepping: from move to move by hand, and by itself at a pace.
 
-import { byId } from '../lib/markup.js';
-import { tell } from '../view/notice.js';
+import { byId, elementOf, focusIn, selectOf } from '../lib/elements.js';
 import { texts } from '../texts/texts.js';
+import { tell } from '../view/notice.js';
 
-// Milliseconds for a move, by the speed that is chosen.
+// The speeds that can be chosen, the slowest first, and how many milliseconds a move takes at each.
+const SPEEDS = ['0.5', '1', '2', '4'];
 const PACES = { '0.5': 1800, 1: 900, 2: 450, 4: 225 };
 
 export class Stepping {
   constructor(page) {
     this.page = page;
     this.timer = 0;
+    this.speed = '1';
   }
 
   step(by) {
@@ -25,7 +27,7 @@ export class Stepping {
   // There is no further move, but perhaps another lesson.
   atEnd() {
     const next = document.querySelector('[data-next]');
-    if (next?.checkVisibility()) next.focus();
+    if (next?.getClientRects().length) focusIn(document, '[data-next]');
     else tell(texts.lessons.noMore);
   }
 
@@ -62,7 +64,7 @@ export class Stepping {
     const at = lanes.indexOf(page.lane);
     page.lane = lanes[Math.min(lanes.length - 1, Math.max(0, at + by))];
     page.draw();
-    byId(`lane-${page.lane}`)?.scrollIntoView({ block: 'nearest' });
+    elementOf(`lane-${page.lane}`, SVGElement)?.scrollIntoView({ block: 'nearest' });
   }
 
   // The next move of the lane that is chosen.
@@ -88,20 +90,22 @@ export class Stepping {
     if (this.timer) return this.pause();
     const { place, run } = this.page.session;
     if (place >= run.last) this.page.go(0);
-    this.timer = setInterval(() => this.runOn(), PACES[byId('speed').value]);
+    this.timer = setInterval(() => this.runOn(), PACES[this.speed]);
     return this.draw();
   }
 
   setSpeed(speed) {
-    byId('speed').value = speed;
-    if (!this.timer) return;
-    clearInterval(this.timer);
-    this.timer = setInterval(() => this.runOn(), PACES[speed]);
+    this.speed = speed;
+    if (this.timer) {
+      clearInterval(this.timer);
+      this.timer = setInterval(() => this.runOn(), PACES[speed]);
+    }
+    this.draw();
   }
 
   faster(by) {
-    const { options, selectedIndex } = byId('speed');
-    this.setSpeed((options[selectedIndex + by] ?? options[selectedIndex]).value);
+    const at = SPEEDS.indexOf(this.speed) + by;
+    this.setSpeed(SPEEDS[Math.min(SPEEDS.length - 1, Math.max(0, at))]);
   }
 
   // Stops when a question is asked, and at the end.
@@ -119,10 +123,11 @@ export class Stepping {
   }
 
   draw() {
+    selectOf('speed').value = this.speed;
     const button = byId('run');
     const label = this.timer ? texts.tools.pause : texts.tools.run;
     button.setAttribute('aria-label', label);
     button.title = label;
-    button.setAttribute('aria-pressed', Boolean(this.timer));
+    button.setAttribute('aria-pressed', String(Boolean(this.timer)));
   }
 }

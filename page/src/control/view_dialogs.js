@@ -1,8 +1,9 @@
 // The dialogs that say which parts are shown, and what is printed.
 
-import { looks, PARTS, partsShown, toggleHall, togglePart } from '../model/looks.js';
-import { byId, html, show } from '../lib/markup.js';
+import { byId, closesBeside, dialogOf, focusIn, targetOf } from '../lib/elements.js';
+import { html, showAnew } from '../lib/markup.js';
 import { texts } from '../texts/texts.js';
+import { looks, PARTS, partsShown, toggleHall, togglePart } from '../model/looks.js';
 
 const T = texts.view;
 
@@ -11,10 +12,9 @@ const box = (name, checked, label) => html`<label class="check"><input type="che
 
 function drawView() {
   const shown = partsShown();
-  show(byId('view-list'), html`${PARTS.map((part) => box(part, shown.includes(part),
+  showAnew(byId('view-list'), html`${PARTS.map((part) => box(part, shown.includes(part),
     T.parts[part]))}<hr>${box('future', looks.future, T.future)}
     ${box('hall', looks.hall, T.hall)}`);
-  byId('view-list').shown = null;
 }
 
 function toggle(name) {
@@ -23,40 +23,36 @@ function toggle(name) {
   else togglePart(name);
 }
 
-// A click beside a dialog closes it.
-const closes = (dialog) => dialog.addEventListener('click', (event) => {
-  if (event.target === dialog) dialog.close();
-});
-
 export function viewDialog(page) {
-  const dialog = byId('view');
-  closes(dialog);
-  dialog.addEventListener('change', (event) => {
-    const { name } = event.target;
+  const dialog = dialogOf('view');
+  closesBeside(dialog);
+  dialog.addEventListener('change', ({ target }) => {
+    if (!(target instanceof HTMLInputElement)) return;
+    const { name } = target;
     toggle(name);
     page.show();
     drawView();
-    dialog.querySelector(`[name=${name}]`).focus();
+    focusIn(dialog, `[name=${name}]`);
   });
   return () => {
     drawView();
     dialog.showModal();
-    dialog.querySelector('input').focus();
+    focusIn(dialog, 'input');
   };
 }
 
 // Which sheet is printed: `print(sheet)` prints it.
 export function sheetsDialog(print) {
-  const dialog = byId('sheets');
-  closes(dialog);
+  const dialog = dialogOf('sheets');
+  closesBeside(dialog);
   dialog.addEventListener('click', (event) => {
-    const { sheet } = event.target.dataset;
+    const { sheet } = targetOf(event).dataset;
     if (!sheet) return;
     dialog.close();
     print(sheet);
   });
   return (sheet = 'worked') => {
     dialog.showModal();
-    dialog.querySelector(`[data-sheet=${sheet}]`).focus();
+    focusIn(dialog, `[data-sheet=${sheet}]`);
   };
 }

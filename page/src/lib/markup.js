@@ -22,10 +22,16 @@ export function html(pieces, ...values) {
   return new Markup(text);
 }
 
+const shownIn = new WeakMap();
+
 // Shows markup in a node, or nothing if it is what the node shows already.
 export function show(node, markup) {
-  if (node.shown === markup.text) return;
-  node.shown = markup.text;
+  if (shownIn.get(node) !== markup.text) showAnew(node, markup);
+}
+
+// The same for a node whose fields a reader may have changed.
+export function showAnew(node, markup) {
+  shownIn.set(node, markup.text);
   node.innerHTML = markup.text;
 }
 
@@ -33,5 +39,3 @@ export function show(node, markup) {
 export function write(node, text) {
   if (node.textContent !== text) node.textContent = text;
 }
-
-export const byId = (id) => document.getElementById(id);

@@ -10,6 +10,5 @@ import { ticket } from './ticket.js';
 // generated: modules by number
 export const LOCKS = [ticket, mcs, rwSimple, rwFifo];
 // end
-export const LOCK_NAMES = LOCKS.map(({ name }) => name);
 
 export const lockOf = (run) => LOCKS[run.kind];

@@ -2,18 +2,18 @@
 // the order of the queue that the machine names. A link is drawn if the word says so; one that
 // is missing is drawn as missing.
 
-import { PHASES } from '../machine/codes.js';
-import { firstFitting, fitted, widthOf } from './fitting.js';
-import { folding, movingThread } from './folding.js';
-import { translated } from '../texts/language.js';
-import { looks } from '../model/looks.js';
+import { folding } from '../lib/folding.js';
 import { html } from '../lib/markup.js';
-import { covers } from '../model/remarks.js';
-import {
-  BOX_EDGES, enteredNow, movingMark, picture, standingIn, standingOf, useOf, wordBox,
-} from './shapes.js';
-import { unlinkedAfter } from '../model/spans.js';
+import { PHASES } from '../machine/codes.js';
+import { translated } from '../texts/language.js';
 import { say, texts } from '../texts/texts.js';
+import { looks } from '../model/looks.js';
+import { covers } from '../model/remarks.js';
+import { unlinkedAfter } from '../model/spans.js';
+import { firstFitting, fitted, widthOf } from './fitting.js';
+import {
+  BOX_EDGES, enteredNow, movingMark, movingThread, picture, standingIn, standingOf, useOf, wordBox,
+} from './shapes.js';
 
 const T = translated('mcs', {
   title: 'MCS queue lock', memory: 'Memory, in the order of the queue', noLink: 'no link',
@@ -72,7 +72,7 @@ function order(view, state, most) {
 }
 
 const standingWidth = (standing) => widthOf(texts.standing[standing], 'small');
-const STANDINGS = ['holds', 'line', 'call', 'rest'];
+const STANDINGS = ['holds', 'queue', 'call', 'rest'];
 
 // As wide as the longest name needs as a word's value.
 const valueWidth = (names) => Math.max(0,
@@ -155,7 +155,7 @@ function record(view, state, thread, place, width) {
     <title>${view.names.of(thread)}</title>
     <rect class="frame" width="${width}" height="${RECORD.height}" rx="10"/>
     <path class="head" d="M0 10a10 10 0 0 1 10 -10h${width - 20}a10 10 0 0 1 10 10v22h-${width}z"/>
-    ${standing === 'line' && html`<rect class="plate" x="6" y="4" width="${width - 12}"
+    ${standing === 'queue' && html`<rect class="plate" x="6" y="4" width="${width - 12}"
       height="23" rx="6"/>`}
     <text class="name" x="${HEAD.left}" y="21">${name}</text>
     <text class="standing" x="${width - HEAD.right}" y="21" text-anchor="end">${label}</text>
@@ -284,7 +284,7 @@ function mark(view, move) {
 
 export const mcs = {
   name: 'mcs', title: T.title, lesson: 'mcs', memory: T.memory, hasRecords: true,
-  signs: ['fails', 'inCall', 'line', 'holds', 'unlinked', 'ended'],
+  signs: ['fails', 'inCall', 'queue', 'holds', 'unlinked', 'ended'],
   mark, values,
   wordName, valueText, draw, caption, leastWidth,
 };

@@ -1,15 +1,15 @@
 // What the read-write locks share: the picture of the room inside and of who is at the monitor, and
 // what is said below it.
 
-import { OUTCOME, PHASES } from '../machine/codes.js';
-import { translated } from '../texts/language.js';
+import { folding } from '../lib/folding.js';
 import { html } from '../lib/markup.js';
-import { fitted } from './fitting.js';
-import { folding, movingThread } from './folding.js';
-import { covers } from '../model/remarks.js';
-import { foldedToken, standingIn, token, tokensAt } from './shapes.js';
-import { say, texts } from '../texts/texts.js';
+import { OUTCOME, PHASES } from '../machine/codes.js';
 import { wordNames } from '../machine/word_names.js';
+import { translated } from '../texts/language.js';
+import { say, texts } from '../texts/texts.js';
+import { covers } from '../model/remarks.js';
+import { fitted } from './fitting.js';
+import { foldedToken, movingThread, standingIn, token, tokensAt } from './shapes.js';
 
 const T = translated('readWrite', {
   memory: 'Memory, and the threads beside it', inside: 'inside', nobody: 'nobody',

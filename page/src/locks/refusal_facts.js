@@ -2,11 +2,11 @@
 // name and which step is due, the machine said; who moved and which line of code is due is read
 // off its state and the text.
 
-import { CALLS, MOVES, NO_WORD } from '../machine/codes.js';
 import { lineOf } from '../lib/bytes.js';
+import { CALLS, MOVES, NO_WORD } from '../machine/codes.js';
+import { fill, say, texts } from '../texts/texts.js';
 import { moveText } from '../model/report.js';
 import { lockOf } from './locks.js';
-import { fill, say, texts } from '../texts/texts.js';
 
 const T = texts.refused;
 // The refusals that the header decides, each with the place of the word in it.

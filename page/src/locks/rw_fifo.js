@@ -1,15 +1,15 @@
 // The FIFO read-write lock: what is said of its sections, and its memory: both counts of readers,
 // on a wheel if words are narrow, the flag, who is inside, and who is at the monitor.
 
-import { translated } from '../texts/language.js';
 import { html } from '../lib/markup.js';
+import { wordNamed, wordNames } from '../machine/word_names.js';
+import { translated } from '../texts/language.js';
+import { say } from '../texts/texts.js';
 import {
   monitor, monitorEnd, readersCaption, readWrite, room, roomHeight, sectionMark,
 } from './read_write.js';
 import { picture, useOf, wordBox } from './shapes.js';
-import { say } from '../texts/texts.js';
 import { handLegend, HANDS, hasWheel, wheelOf, wheelPlaced } from './wheel.js';
-import { wordNamed, wordNames } from '../machine/word_names.js';
 
 const T = translated('rwFifo', {
   title: 'FIFO read-write lock',
@@ -84,7 +84,7 @@ const leastWidth = (view) => (hasWheel(view.run.bits) ? 494 : 380);
 
 export const rwFifo = {
   ...readWrite, name: NAME, title: T.title, lesson: 'fifo',
-  signs: ['inCall', 'line', 'reads', 'writes', 'ended'],
+  signs: ['inCall', 'queue', 'reads', 'writes', 'ended'],
   wraps: { text: T.wraps, kinds: ['rlock: entered', 'runlock: left', 'downgrade: entered'] },
   mark: sectionMark(NAME, { [ACQUIRES]: 'acq.', [RELEASES]: 'rel.' }),
   wordName: (word) => wordNames(NAME)[word], draw, caption, leastWidth,

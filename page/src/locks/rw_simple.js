@@ -1,13 +1,13 @@
 // The simple read-write lock: what is said of its sections, and its memory: the count of readers,
 // the writer's flag, who is inside, and who is at the monitor.
 
-import { translated } from '../texts/language.js';
 import { html } from '../lib/markup.js';
+import { wordNamed, wordNames } from '../machine/word_names.js';
+import { translated } from '../texts/language.js';
 import {
   monitor, monitorEnd, readersCaption, readWrite, room, roomHeight, sectionMark,
 } from './read_write.js';
 import { picture, useOf, wordBox } from './shapes.js';
-import { wordNamed, wordNames } from '../machine/word_names.js';
 
 const T = translated('rwSimple', {
   title: 'Simple read-write lock',

@@ -1,10 +1,10 @@
 // One sentence on what a move did: that of its kind of transition, with the move's values.
 
 import { NO_WORD } from '../machine/codes.js';
+import { wordNames } from '../machine/word_names.js';
+import { say, texts } from '../texts/texts.js';
 import { kindOf } from '../model/kinds.js';
 import { lockOf } from './locks.js';
-import { say, texts } from '../texts/texts.js';
-import { wordNames } from '../machine/word_names.js';
 
 // What fills the places of a sentence. A word's place has its value after the move.
 function valuesOf(view, move) {

@@ -1,11 +1,15 @@
 // Shapes that more than one picture uses.
 
-import { MOVES, OUTCOME } from '../machine/codes.js';
-import { fitted } from './fitting.js';
-import { folding, movingThread } from './folding.js';
+import { folding } from '../lib/folding.js';
 import { html } from '../lib/markup.js';
+import { MOVES, OUTCOME } from '../machine/codes.js';
 import { covers } from '../model/remarks.js';
 import { standingAfter } from '../model/spans.js';
+import { fitted } from './fitting.js';
+
+// The thread of the move that is shown, and of a refused one.
+export const movingThread = ({ run, move, refused }) => (refused ? run.refusal.thread
+  : move ? run.records.thread(move) : null);
 
 // How a picture shows a thread's standing: by a class, and always also by a word or a pattern.
 export const standingOf = (run, move, thread) => standingAfter(run, run.lastMoveOf(thread, move));
@@ -14,7 +18,7 @@ export const standingOf = (run, move, thread) => standingAfter(run, run.lastMove
 export const standingIn = (view, thread) => (covers(view, 'standing') ? 'asked'
   : standingOf(view.run, view.move, thread));
 
-const HATCHED = { line: 'hatch', reads: 'ruled' };
+const HATCHED = { queue: 'hatch', reads: 'ruled' };
 export const fillOf = (standing) => (HATCHED[standing] ? `url(#${HATCHED[standing]})` : '');
 
 // A sign for what has to be in view: the thread of the move that is shown.

@@ -1,15 +1,15 @@
 // The ticket lock: what is said of its steps, and its memory: both counters, on a wheel if words
 // are narrow, and who has which ticket.
 
-import { PHASES } from '../machine/codes.js';
-import { translated } from '../texts/language.js';
-import { firstFitting } from './fitting.js';
+import { folding } from '../lib/folding.js';
 import { html } from '../lib/markup.js';
-import { folding, movingThread } from './folding.js';
-import { foldedToken, picture, token, useOf, wordBox } from './shapes.js';
-import { say, texts } from '../texts/texts.js';
-import { handLegend, HANDS, hasWheel, wheelOf, wheelPlaced } from './wheel.js';
+import { PHASES } from '../machine/codes.js';
 import { wordNamed, wordNames } from '../machine/word_names.js';
+import { translated } from '../texts/language.js';
+import { say, texts } from '../texts/texts.js';
+import { firstFitting } from './fitting.js';
+import { foldedToken, movingThread, picture, token, useOf, wordBox } from './shapes.js';
+import { handLegend, HANDS, hasWheel, wheelOf, wheelPlaced } from './wheel.js';
 
 const NAME = 'ticket';
 const NEXT_TICKET = 'next_ticket';
@@ -24,7 +24,7 @@ const T = translated('ticket', {
   wraps: 'After {found} comes {left}: the numbers wrap around.',
   captions: {
     nobody: 'No ticket is in use: the next one is {next}.',
-    line: 'Ticket {serving} is served; the next ticket is {next}.',
+    queue: 'Ticket {serving} is served; the next ticket is {next}.',
     wraps: 'The tickets have wrapped around: {first} is served before {last}.',
   },
 });
@@ -175,7 +175,7 @@ function caption(view, state) {
   const all = holdersOfTickets(state);
   const first = all[0].number;
   const last = all[all.length - 1].number;
-  const text = say(captions.line, { serving, next });
+  const text = say(captions.queue, { serving, next });
   const wraps = last < first && say(captions.wraps, { first, last });
   return { text: wraps ? `${text} ${wraps}` : text };
 }
@@ -186,7 +186,7 @@ const leastWidth = (view) => (hasWheel(view.run.bits) ? 466 : 446);
 
 export const ticket = {
   name: NAME, title: T.title, lesson: 'ticket', memory: T.memory,
-  signs: ['inCall', 'line', 'holds', 'ended'],
+  signs: ['inCall', 'queue', 'holds', 'ended'],
   wraps: { text: T.wraps, kinds: ['acquire: took a ticket', 'release: served the next ticket'] },
   mark,
   wordName, valueText, draw, caption, leastWidth,

@@ -1,5 +1,9 @@
 // The numbers of the machine's records and states, by name, as crates/lk_page writes them.
 
+// generated: locks by number
+export const LOCK_NAMES = ['ticket', 'mcs', 'rw-simple', 'rw-fifo'];
+// end
+
 // The word in a schedule of each move: of calls, and from FIRST_STEP on of steps.
 export const MOVES = {
   // generated: numbers of moves
@@ -47,7 +51,7 @@ export const PHASE = Object.fromEntries(PHASES.map((name, code) => [name, code])
 // the build asks the module for.
 // generated: constants
 export const HOLDS = 1;
-export const IN_LINE = 2;
+export const IN_QUEUE = 2;
 export const AS_WRITER = 4;
 export const UNLINKED = 8;
 export const WAITS = 16;

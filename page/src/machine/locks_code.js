@@ -1,8 +1,7 @@
 // The locks' code, as docs/LOCKS.md has it: the build takes its blocks from there. A line knows
 // its kind of step, its phase, and the words that a waiting section looks at.
 
-import { PHASE } from './codes.js';
-import { LOCK_NAMES } from '../locks/locks.js';
+import { LOCK_NAMES, PHASE } from './codes.js';
 
 const LINE = /^(?<code>.*?)\s*(?:-- (?<kind>\w+) (?<phase>\w+)(?: looks at (?<words>.+))?)?$/;
 

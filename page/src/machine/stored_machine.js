@@ -2,9 +2,9 @@
 // lessons' texts with their records, and of the states in the beginning and at the end what differs
 // from the one before; and of the lines with a fault where they stop.
 
+import { fromBase64, sameBytes, toBase64 } from '../lib/bytes.js';
 import { ANSWER } from './codes.js';
 import { State, STATE_BYTES } from './machine.js';
-import { fromBase64, sameBytes, toBase64 } from '../lib/bytes.js';
 
 // Written by the build: passes each question on, and keeps what came of it.
 export class Recorder {

@@ -2,8 +2,8 @@
 // its own, its record says. A wait begins with the first such move and goes on through failed
 // polls. It was ended by the last change of a word that is polled.
 
-import { NO_WORD, OUTCOME } from '../machine/codes.js';
 import { placeAfter } from '../lib/ascending.js';
+import { NO_WORD, OUTCOME } from '../machine/codes.js';
 
 // The words whose last change ended a wait in this phase. A section's are in its line of code; a
 // step of one operation looks at the word that its record names.

@@ -1,8 +1,7 @@
 // Two runs beside each other: which lock has the same calls, how many moves they have in common,
 // and where they differ first.
 
-import { OUTCOMES } from '../machine/codes.js';
-import { LOCK_NAMES } from '../locks/locks.js';
+import { LOCK_NAMES, OUTCOMES } from '../machine/codes.js';
 import { holdersText, moveText, queueText } from './report.js';
 
 // The two locks whose calls are the same.

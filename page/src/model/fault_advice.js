@@ -2,10 +2,9 @@
 // line to write instead. That there is a fault, in which line, and at which column the line stops,
 // the machine says. Which numbers it takes the build asked it.
 
-import { ANSWER } from '../machine/codes.js';
 import { bytesOf, lineOf } from '../lib/bytes.js';
-import { LOCK_NAMES } from '../locks/locks.js';
 import { nearest } from '../lib/nearest_word.js';
+import { ANSWER, LOCK_NAMES } from '../machine/codes.js';
 import { fill, say, texts } from '../texts/texts.js';
 import { unseenAdvice } from './unseen_signs.js';
 

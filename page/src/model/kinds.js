@@ -1,8 +1,8 @@
 // The kinds of transition of each lock, as the module gave them when the page was built: their
 // names, the lines of a sketch of which each shortest run has one, and their sentences.
 
+import { LOCK_NAMES } from '../machine/codes.js';
 import { translated } from '../texts/language.js';
-import { lockOf } from '../locks/locks.js';
 
 const tables = {};
 
@@ -19,7 +19,7 @@ export function learnKinds(kinds) {
 // By the lock's name in schedules.
 export const kindsOf = (lock) => tables[lock];
 
-export const kindOf = (run, move) => kindsOf(lockOf(run).name)[run.records.kind(move)];
+export const kindOf = (run, move) => kindsOf(LOCK_NAMES[run.kind])[run.records.kind(move)];
 
 // The first move of a run that is a transition of this kind, or 0.
 export function firstOf(run, kind) {

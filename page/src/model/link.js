@@ -3,8 +3,8 @@
 
 import { fromLink, toLink } from '../lib/bytes.js';
 import { askedLanguage } from '../texts/language.js';
-import { isLooksAlone, looksText } from './looks.js';
 import { texts } from '../texts/texts.js';
+import { isLooksAlone, looksText } from './looks.js';
 
 const MOST_IN_LINK = 24000;
 

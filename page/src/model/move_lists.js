@@ -1,7 +1,7 @@
 // The moves of each thread and on each word, and with which move a thread joined the queue: what
 // is needed to find the state after any move.
 
-import { IN_LINE, NO_WORD } from '../machine/codes.js';
+import { IN_QUEUE, NO_WORD } from '../machine/codes.js';
 
 // Moves by what `keyOf` gives of each.
 function movesBy(records, keyOf) {
@@ -29,7 +29,7 @@ export function joinedByMove(records) {
   const before = new Uint32Array(256);
   for (let move = 1; move <= records.count; move += 1) {
     const thread = records.thread(move);
-    if (records.standing(move) & IN_LINE) joined[move] = joined[before[thread]] || move;
+    if (records.standing(move) & IN_QUEUE) joined[move] = joined[before[thread]] || move;
     before[thread] = move;
   }
   return joined;

@@ -1,10 +1,9 @@
 // The quiz: one question on the next move before it is shown, each move once, and a score that
 // stays when the quiz is closed or another schedule is opened.
 
+import { texts } from '../texts/texts.js';
 import { questionsOf } from './questions.js';
 import { moveText } from './report.js';
-import { html } from '../lib/markup.js';
-import { texts } from '../texts/texts.js';
 
 const T = texts.quiz;
 
@@ -18,17 +17,17 @@ export class Quiz {
     this.name = '';
   }
 
-  // What a reload brings back, as a text; empty if there is nothing.
-  get kept() {
+  // What a reload brings back, as a text; null if there is nothing.
+  get saved() {
     const { on, name, sheets } = this;
     if (!on && ![...sheets.values()].some(({ answers }) => answers.size)) return null;
     const all = [...sheets].map(([key, sheet]) => [key, { ...sheet, answers: [...sheet.answers] }]);
     return JSON.stringify({ on, name, sheets: all });
   }
 
-  bringBack(kept) {
-    if (!kept) return;
-    const { on, name, sheets } = JSON.parse(kept);
+  bringBack(saved) {
+    if (!saved) return;
+    const { on, name, sheets } = JSON.parse(saved);
     this.sheets = new Map(sheets.map(([key, sheet]) => (
       [key, { ...sheet, answers: new Map(sheet.answers) }])));
     Object.assign(this, { on, name });
@@ -44,7 +43,7 @@ export class Quiz {
 
   clear() { this.result = null; }
 
-  // The questions of a run, made once, and what was answered of its schedule.
+  // Before a run is asked for: its questions, made once, and what was answered of its schedule.
   meet(session) {
     if (this.run === session.run) return;
     this.run = session.run;
@@ -56,9 +55,8 @@ export class Quiz {
   }
 
   // The question on the next move; null when it has none, or was answered.
-  question(session) {
-    this.meet(session);
-    const move = session.place + 1;
+  question({ place }) {
+    const move = place + 1;
     return (this.isOpen(move) && this.questions.get(move)) || null;
   }
 
@@ -67,15 +65,14 @@ export class Quiz {
   asks(session) { return this.on && !this.result && this.question(session) !== null; }
 
   // How far one may go: to the move before the first question that is not answered.
-  limit(session) {
+  limit() {
     if (!this.on) return Infinity;
-    this.meet(session);
     return Math.min(...[...this.questions.keys()].filter((move) => this.isOpen(move))) - 1;
   }
 
   // Whether what comes is hidden.
   hides(session) {
-    return this.on && session.place < session.run.last && this.limit(session) < Infinity;
+    return this.on && session.place < session.run.last && this.limit() < Infinity;
   }
 
   check(session, given) {
@@ -111,7 +108,8 @@ export class Quiz {
   }
 }
 
-const answerText = ({ move, said, kind, given, truth, right }) => (
+// An answer in one line, as it is shown and saved.
+export const answerText = ({ move, said, kind, given, truth, right }) => (
   `${move} ${said} ${kind}: ${given}${right ? '' : ` (${truth})`}`);
 
 // An answer as the report would write it: with a thread's number for its name.
@@ -120,50 +118,3 @@ function normalised(text, names) {
     left.replaceAll(name.toLowerCase(), thread)), text.toLowerCase());
   return given.replace(/\s+/g, '') || '-';
 }
-
-// What the form says; nothing if nothing was chosen or typed.
-export function givenOf(form) {
-  const { outcome, answer } = Object.fromEntries(new FormData(form));
-  return outcome ?? answer.trim();
-}
-
-// The outcomes that a step can have.
-const STEP_OUTCOMES = ['moved', 'waits', 'entered', 'left'];
-
-const radio = (name) => html`<label><input type="radio" name="outcome" value="${name}" required>
-  ${T.outcomes[name]}</label>`;
-
-export function quizForm(view, question) {
-  const { run, names } = view;
-  const [thread, word] = moveText(run, question.move).split(' ');
-  const asked = question.kind === 'outcome'
-    ? html`<fieldset><legend>${T.outcome}</legend>${STEP_OUTCOMES.map(radio)}</fieldset>`
-    : html`<label class="field"><span>${T[question.kind]}</span>
-      <input class="mono" name="answer" required spellcheck="false"></label>
-      <p class="hint">${T.hint[question.kind]}</p>`;
-  return html`<form id="quiz-form" autocomplete="off"
-    data-kind="${question.kind}" data-move="${question.move}"><h3>${T.title}</h3>
-    <p class="say">${T.next(question.move, names.of(Number(thread)), word)}</p>${asked}
-    <button class="strong">${T.check}<kbd>Enter</kbd></button></form>`;
-}
-
-// Whether it was right, and why: the move's outcome says what becomes of holders and queue.
-export function resultView({ kind, truth, given, right }, outcome) {
-  return html`<div class="result"><p class="${right ? 'right' : 'wrong'}">
-    <b>${right ? '✓' : '✕'}</b> <span>${T.short[kind]}</span> <code>${truth}</code>
-    ${!right && html`<span class="soft">${T.wrong(given)}</span>`}</p>
-    ${!right && html`<p class="why">${T.why[outcome]}</p>`}</div>`;
-}
-
-export function scoreView(quiz) {
-  const score = quiz.score();
-  const some = score.right + score.wrong > 0;
-  return html`<p class="score">${T.score(score)} ${some && html`<input id="quiz-name"
-    placeholder="${T.nameLabel}" aria-label="${T.nameLabel}" value="${quiz.name}">
-    <button type="button" data-save-quiz="true">${T.save}</button>`}</p>`;
-}
-
-// After the last move: what was wrong.
-export const endView = ({ wrong }) => html`<div class="quiz-end"><p class="hint">${
-  wrong.length ? T.lastWrong : T.last}</p>
-  <ul class="mono">${wrong.map((one) => html`<li>${answerText(one)}</li>`)}</ul></div>`;

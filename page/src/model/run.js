@@ -1,16 +1,16 @@
 // One schedule text as the machine plays it: its records, its states, and where it ends.
 
-import {
-  ANSWER, CALLS, FAULTS, MOST_BYTES, MOST_MOVES, MOVES, REFUSALS,
-} from '../machine/codes.js';
-import { answerInLines, Records } from '../machine/machine.js';
-import { Moment } from './state_after.js';
-import { Owned } from './owned_words.js';
-import { joinedByMove, movesByThread, movesByWord } from './move_lists.js';
 import { lastUpTo, placeAfter } from '../lib/ascending.js';
 import {
   beforeLine, beginsWith, lineOf, linesIn, sameBytes, throughLine, withoutLines,
 } from '../lib/bytes.js';
+import {
+  ANSWER, CALLS, FAULTS, MOST_BYTES, MOST_MOVES, MOVES, REFUSALS,
+} from '../machine/codes.js';
+import { answerInLines, Records } from '../machine/machine.js';
+import { joinedByMove, movesByThread, movesByWord } from './move_lists.js';
+import { Owned } from './owned_words.js';
+import { Moment } from './state_after.js';
 
 const RLOCK = CALLS.find((call) => MOVES[call] === 'rlock');
 // Faults that moves may come before.

@@ -1,13 +1,14 @@
 // What is shown: one schedule, the move that is shown, and everything derived from the two.
 
-import { arrowsOf } from './arrows.js';
-import { Bound } from './stale_remarks.js';
 import { lettersOf, throughLine, withoutLines } from '../lib/bytes.js';
+import { LOCK_NAMES } from '../machine/codes.js';
 import { awaitedLines } from '../machine/locks_code.js';
-import { lockOf } from '../locks/locks.js';
+import { wordNames } from '../machine/word_names.js';
+import { arrowsOf } from './arrows.js';
 import { Names } from './names.js';
 import { covers, remarksOf } from './remarks.js';
 import { runOf } from './run.js';
+import { Bound } from './stale_remarks.js';
 
 const NO_ARROWS = { arrows: [], arrowEnds: [] };
 
@@ -82,23 +83,28 @@ export class Session {
 
   arrowsNow() {
     const { run } = this;
-    const words = Array.from({ length: run.end.wordCount },
-      (_, word) => lockOf(run).wordName(word, this));
+    const words = wordNames(LOCK_NAMES[run.kind]);
     const arrows = arrowsOf(run, awaitedLines(this.lines[run.kind]), words);
     return { arrows, arrowEnds: arrows.map(({ to }) => to) };
   }
 
+  placeNear(move) { return Math.min(this.run.last, Math.max(0, Math.trunc(move) || 0)); }
+
   // To a move, or to the refused one after the last.
   go(move) {
-    this.place = Math.min(this.run.last, Math.max(0, Math.trunc(move) || 0));
+    this.place = this.placeNear(move);
     this.move = Math.min(this.run.count, this.place);
   }
 
-  view(extra) {
-    const { run, move, names, remarks, place, refused } = this;
+  // What texts and pictures are drawn from, of the move that is shown or of another one.
+  view(wishes = {}, wanted = this.place) {
+    const { run, names, remarks, arrows } = this;
+    const place = this.placeNear(wanted);
+    const move = Math.min(run.count, place);
+    const refused = place > run.count;
     // The move whose words are marked: of a refused one its thread's last, which decided it.
     const marked = refused ? run.lastMoveOf(run.refusal.thread, move) : move;
-    const view = { run, move, names, remarks, place, refused, marked, ...this.arrows, ...extra };
+    const view = { run, move, names, remarks, place, refused, marked, ...arrows, ...wishes };
     // What the move did is not marked if a question asks for it.
     return covers(view, 'facts') ? { ...view, marked: 0 } : view;
   }

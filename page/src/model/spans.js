@@ -2,10 +2,10 @@
 // All of it is read off the records that the machine wrote; a stretch of moves is found by
 // bisection.
 
-import { AS_WRITER, HOLDS, IN_LINE } from '../machine/codes.js';
 import { placeAfter } from '../lib/ascending.js';
+import { AS_WRITER, HOLDS, IN_QUEUE } from '../machine/codes.js';
 
-// One of holds, reads, writes, line, call, rest.
+// One of holds, reads, writes, queue, call, rest.
 export function standingAfter(run, move) {
   if (!move) return 'rest';
   const standing = run.records.standing(move);
@@ -13,7 +13,7 @@ export function standingAfter(run, move) {
     if (standing & AS_WRITER) return 'writes';
     return run.hasReaders ? 'reads' : 'holds';
   }
-  if (standing & IN_LINE) return 'line';
+  if (standing & IN_QUEUE) return 'queue';
   return run.records.due(move) ? 'call' : 'rest';
 }
 

@@ -2,8 +2,8 @@
 // as the last move that touched it left it; before such a move both are as in the beginning. That
 // holds since nobody but a thread itself changes its phase, or lets it hold, join or leave.
 
-import { AS_WRITER, HOLDS, IN_LINE } from '../machine/codes.js';
 import { lastUpTo } from '../lib/ascending.js';
+import { AS_WRITER, HOLDS, IN_QUEUE } from '../machine/codes.js';
 
 // Who holds, as the machine counts it.
 const HELD = { nobody: 0, one: 1, readers: 2, writer: 3 };
@@ -57,7 +57,7 @@ export class Moment {
   // The oldest first.
   get queue() {
     const since = (thread) => this.run.joined[this.last[thread]];
-    return (this.inLine ??= this.threadsThat(IN_LINE)
+    return (this.waiting ??= this.threadsThat(IN_QUEUE)
       .sort((one, other) => since(one) - since(other)));
   }
 

@@ -1,9 +1,9 @@
 // What the page says, in English, but for what it says of one lock alone: that is in the lock's
 // file. {..} is what the machine or the schedule gave.
 
-import { translated } from './language.js';
-import { hall, lessons, plans, presenter } from './english_lessons.js';
 import { keys } from './english_keys.js';
+import { hall, lessons, plans, presenter } from './english_lessons.js';
+import { translated } from './language.js';
 
 const english = {
   product: 'lockreplay',
@@ -125,18 +125,18 @@ const english = {
   wrote: (word, left, found) => `${word} = ${left} (was ${found})`,
   legend: {
     call: 'called', vain: 'waits: failed poll', enters: 'entered', leaves: 'left',
-    fails: 'cas fails', inCall: 'in a call', line: 'in the queue', holds: 'holds',
+    fails: 'cas fails', inCall: 'in a call', queue: 'in the queue', holds: 'holds',
     reads: 'reads', writes: 'writes', unlinked: 'in the queue, not linked',
     moves: 'the call goes on', blank: 'to fill in',
     ended: 'the write that ended a wait',
   },
   marks: {
     fails: 'fails', done: 'done', unlinked: 'in the queue, not linked',
-    holds: 'holds', reads: 'reads', writes: 'writes', line: 'queue',
+    holds: 'holds', reads: 'reads', writes: 'writes', queue: 'queue',
   },
 
   standing: {
-    holds: 'holds', reads: 'reads', writes: 'writes', line: 'queue', call: 'in a call',
+    holds: 'holds', reads: 'reads', writes: 'writes', queue: 'queue', call: 'in a call',
     rest: 'idle', asked: '?',
   },
   ownVariable: (name) => `${name}’s own variable`,
@@ -159,7 +159,7 @@ const english = {
     entered: 'the thread holds from this move on', left: 'the thread no longer holds',
     fails: 'the compare-and-swap fails',
   },
-  facts: { wrote: 'Wrote', holds: 'Holds', line: 'Queue', report: 'Report' },
+  facts: { wrote: 'Wrote', holds: 'Holds', queue: 'Queue', report: 'Report' },
   noWord: 'no word',
   nobody: 'nobody',
   asReader: 'reads',
@@ -174,7 +174,7 @@ const english = {
     start: (count) => `Before the first of ${count} moves.`,
     did: (who, word, outcome) => `${who}, ${word}, ${outcome}.`,
     holds: (names) => `Holds: ${names}.`,
-    line: (names) => `Queue: ${names}.`,
+    queue: (names) => `Queue: ${names}.`,
     ask: (question) => `Question: ${question}`,
     hidden: 'What comes of the next move is asked before it is shown.',
   },
@@ -276,7 +276,7 @@ const english = {
     after: (move) => (move ? `after move ${move}` : 'before the first move'),
     move: 'Move', thread: 'Thread',
     what: 'Call or step', outcome: 'Outcome', says: 'What it did', holds: 'Holds',
-    line: 'Queue',
+    queue: 'Queue',
     part: (from, to, count) => `Moves ${from} to ${to} of ${count}`,
     name: 'Name:', date: 'Date:', blankMemory: 'Memory to be filled in',
     memoryAfter: (move) => `Memory after move ${move}`,

@@ -1,9 +1,9 @@
 // How the parts are arranged, by the room that there is. It is counted in the page's own pixels,
 // which are larger on a projector, and in a hall so large that every text is seen from the back.
 
-import { LOCKS } from '../locks/locks.js';
+import { byId } from '../lib/elements.js';
 import { looks, PARTS, partsShown } from '../model/looks.js';
-import { byId } from '../lib/markup.js';
+import { LOCKS } from '../locks/locks.js';
 
 const HALL = { share: 0.025, smallest: 14.5 };
 const PROJECTOR = { width: 1700, height: 900, zoom: 1.25 };
@@ -48,19 +48,18 @@ function arrangementOf(width, height, parts, isPlain, run) {
   return height > width ? 'tall' : 'medium';
 }
 
-let threadsNow = 1;
-
-function comparedHeight(height) {
+function comparedHeight(height, threads) {
   const { height: lane, foot, most } = COMPARED_LANE;
-  if (looks.hall) return lane * Math.min(most, threadsNow) + foot;
+  if (looks.hall) return lane * Math.min(most, threads) + foot;
   return Math.max(LANES_LEAST, height * COMPARED);
 }
 
-// How tall the lanes may be.
-export function lanesHeight() {
+// How tall the lanes of a run may be.
+export function lanesHeight(run) {
   const height = innerHeight / zoomNow();
   const { layout } = document.body.dataset;
-  if (document.body.classList.contains('compares')) return comparedHeight(height);
+  const threads = run.hasLock ? run.threads : 1;
+  if (document.body.classList.contains('compares')) return comparedHeight(height, threads);
   const low = LOW[layout];
   const isAbove = looks.hall && partsShown().includes('memory');
   const share = isAbove ? ABOVE : height < low?.height ? low.share : LANES[layout];
@@ -96,7 +95,6 @@ export function arrange({ mode, session, comparing: { isOn } }) {
   }
   for (const name of ['hall', 'embed']) body.classList.toggle(name, looks[name]);
   body.classList.toggle('compares', isOn);
-  threadsNow = session.run.hasLock ? session.run.threads : 1;
   for (const id of ['other', 'there']) byId(id).hidden = !isOn;
   hideParts(parts, session.run.hasLock);
 }

@@ -1,10 +1,10 @@
 // Memory to be filled in on paper: a box for each word, the records of an MCS lock apart so that
 // arrows can be drawn between them, and places for who holds and who is in the queue.
 
-import { widthOf } from '../locks/fitting.js';
-import { lockOf } from '../locks/locks.js';
 import { html } from '../lib/markup.js';
 import { texts } from '../texts/texts.js';
+import { widthOf } from '../locks/fitting.js';
+import { lockOf } from '../locks/locks.js';
 
 const T = texts.print;
 const BOX = { height: 34, least: 74, gap: 22 };
@@ -64,5 +64,5 @@ export function blankMemory(view, room) {
   return html`<svg viewBox="0 0 ${width} ${below + 84}" role="img" aria-label="${T.blankMemory}">
     ${words(view)}${owned.map((thread, at) => record(view, thread, at))}
     ${places(texts.facts.holds, 1, below, false)}
-    ${places(texts.facts.line, most, below + 44, true)}</svg>`;
+    ${places(texts.facts.queue, most, below + 44, true)}</svg>`;
 }

@@ -1,26 +1,12 @@
-// Choosing who moves: for each thread its due step, or the calls that the machine would accept.
+// Choosing who moves: the moves of each thread, and what can happen next.
 
-import { CALLS, MOST_BYTES, MOST_MOVES, MOVES } from '../machine/codes.js';
-import { movingThread } from '../locks/folding.js';
-import { ownWords } from '../machine/locks_code.js';
-import { LOCKS } from '../locks/locks.js';
 import { html } from '../lib/markup.js';
-import { standingOf } from '../locks/shapes.js';
 import { texts } from '../texts/texts.js';
+import { choicesOf, hasRoom } from '../model/choices.js';
+import { LOCKS } from '../locks/locks.js';
+import { movingThread, standingOf } from '../locks/shapes.js';
 
 const T = texts.play;
-const LONGEST_LINE = 32;
-
-// The moves that the machine accepts next from this thread, as words of a schedule.
-function choicesOf(state, thread) {
-  const due = state.dueStep(thread);
-  if (due) return [{ word: MOVES[due], look: 'due' }];
-  return CALLS.filter((call) => state.allows(thread, call))
-    .map((call) => ({ word: MOVES[call], look: 'may' }));
-}
-
-// Every move of the lock, whether it would be accepted or not; nothing shows which would be.
-const everyMove = (lines) => ownWords(lines).map((word) => ({ word }));
 
 function threadRow(view, thread, choices) {
   const name = view.names.of(thread);
@@ -33,22 +19,23 @@ function threadRow(view, thread, choices) {
     <span class="who">${name}</span><span class="choices">${buttons}</span></li>`;
 }
 
-// Whether one line more stays within what a schedule may have.
-export function hasRoom(session) {
-  return session.move < MOST_MOVES && session.run.text.length + LONGEST_LINE <= MOST_BYTES;
-}
-
-export function playView(session, state, every) {
+export function choicesView(session, every) {
   if (session.machine.stored) return html`<p class="hint">${T.noMachine}</p>`;
   if (!session.run.hasLock) return html`<p class="hint">${T.faulty}</p>`;
   if (!hasRoom(session)) return html`<p class="hint">${T.full}</p>`;
   const { run, move } = session;
   const view = session.view();
   const threads = Array.from({ length: run.threads }, (_, thread) => thread);
-  const all = everyMove(session.lines[run.kind]);
-  const row = (thread) => threadRow(view, thread, every ? all : choicesOf(state, thread));
+  const row = (thread) => threadRow(view, thread, choicesOf(session, thread, every));
   return html`<p class="hint">${move < run.last ? T.branch(move) : T.hint}</p>
     <ul class="threads">${threads.map(row)}</ul>`;
+}
+
+// Of each kind of move that can be reached in how many moves.
+export function nextKindsView({ ways, whole }) {
+  const rows = ways.map(([name, moves], at) => html`<li><button type="button"
+    data-soon="${at}">${T.inMoves(moves.length)}</button> ${name}</li>`);
+  return html`<ul>${rows}</ul>${!whole && html`<p class="hint">${T.soonCut}</p>`}`;
 }
 
 const headerOf = (lock, threads, bits) => (

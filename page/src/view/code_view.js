@@ -1,9 +1,8 @@
 // The lock's code, with the line of the move just made and the line that each thread does next.
 
-import { MOVES, PHASES } from '../machine/codes.js';
-import { movingThread } from '../locks/folding.js';
 import { html } from '../lib/markup.js';
-import { standingIn } from '../locks/shapes.js';
+import { MOVES, PHASES } from '../machine/codes.js';
+import { movingThread, standingIn } from '../locks/shapes.js';
 
 // The phase or the call whose lines of code the move was; of a refused move the phase that is due.
 function madeLine({ run, move, refused }, state) {

@@ -1,26 +1,25 @@
 // Draws the whole page from what is shown.
 
-import { arrange } from './arrange.js';
-import { drawHead, drawTexts } from './draw_texts.js';
+import { buttonOf, byId, elementOf, inputOf } from '../lib/elements.js';
+import { html, show } from '../lib/markup.js';
 import { looks } from '../model/looks.js';
-import { byId, html, show } from '../lib/markup.js';
-import { adviceOf, nothingView, verdictView } from './verdict_view.js';
+import { arrange } from './arrange.js';
+import { choicesView, nextKindsView } from './choices_view.js';
 import { drawPictures, measured } from './draw_pictures.js';
-import { playView } from './choices_view.js';
+import { drawHead, drawTexts } from './draw_texts.js';
 import { paper } from './paper.js';
-import { texts } from '../texts/texts.js';
-import { isDark, switchTheme } from './theme.js';
 import { wrongOnPaper } from './paper_faults.js';
+import { adviceOf, nothingView, verdictView } from './verdict_view.js';
 
-const ZOOM = { least: 0.4, most: 2.5 };
-
-export function drawPage(page) {
+// Gives the layout of the lanes, or null. `reveals` says that what counts is to be brought into
+// view.
+export function drawPage(page, reveals) {
   const { session } = page;
   const { run } = session;
   drawSide(page);
   arrange(page);
   // Read before anything is written, so that a step lays the page out once.
-  const sizes = measured();
+  const sizes = measured(run);
   drawHead(session);
   const { hides, answered } = page;
   const { first: different, columns } = page.comparing;
@@ -31,11 +30,15 @@ export function drawPage(page) {
   const view = session.view(wanted);
   const state = run.hasLock && run.state(view.move);
   if (run.hasLock) drawTexts(page, view, state);
-  if (run.hasLock && page.mode === 'play') {
-    show(byId('choices'), playView(session, state, page.playing.every));
-    if (byId('soon').open) show(byId('soon-list'), page.playing.soon.view());
-  }
-  drawPictures(page, view, state, sizes);
+  if (run.hasLock && page.mode === 'play') drawChoices(page);
+  return drawPictures({ page, view, state, reveals }, sizes);
+}
+
+function drawChoices({ session, playing }) {
+  show(byId('choices'), choicesView(session, playing.every));
+  inputOf('every').checked = playing.every;
+  if (!elementOf('soon', HTMLDetailsElement).open) return;
+  show(byId('soon-list'), nextKindsView(playing.nextKinds.after(session)));
 }
 
 function drawSide(page) {
@@ -43,13 +46,13 @@ function drawSide(page) {
   byId('side').hidden = mode === 'lessons';
   byId('play').hidden = mode !== 'play';
   document.body.dataset.mode = mode;
-  byId('mode-own').setAttribute('aria-pressed', mode === 'own');
-  byId('mode-play').setAttribute('aria-pressed', mode === 'play');
-  byId('mode-quiz').setAttribute('aria-pressed', page.quiz.on);
-  byId('mode-hall').setAttribute('aria-pressed', looks.hall);
-  byId('compare').setAttribute('aria-pressed', page.comparing.isOn);
-  if (!session.run.hasLock) show(byId('choices'), playView(session, null));
-  for (const id of ['undo', 'undo-own']) byId(id).disabled = !page.playing.undone.length;
+  const pressed = {
+    'mode-own': mode === 'own', 'mode-play': mode === 'play', 'mode-quiz': page.quiz.on,
+    'mode-hall': looks.hall, compare: page.comparing.isOn,
+  };
+  for (const [id, is] of Object.entries(pressed)) byId(id).setAttribute('aria-pressed', String(is));
+  if (!session.run.hasLock) show(byId('choices'), choicesView(session, false));
+  for (const id of ['undo', 'undo-own']) buttonOf(id).disabled = !page.playing.undone.length;
   const advice = adviceOf(session);
   const verdict = verdictView(session, advice);
   show(byId('verdict'), verdict);
@@ -70,19 +73,4 @@ export function drawPaper({ session }, sheet) {
   const moves = run.hasLock && run.last > 0
     && paper(session.view({ hidden: false, future: true }), session.lines[run.kind], sheet);
   show(byId('paper'), html`${wrongOnPaper(session)}${moves}`);
-}
-
-export function drawTheme() {
-  byId('theme').firstChild.data = `${isDark() ? texts.tools.light : texts.tools.dark} `;
-}
-
-export function toggleTheme({ address }) {
-  switchTheme();
-  drawTheme();
-  address.writeSoon();
-}
-
-export function zoom(page, by) {
-  page.zoomed = Math.min(ZOOM.most, Math.max(ZOOM.least, page.zoomed * by));
-  page.draw();
 }

@@ -1,62 +1,76 @@
 // Draws the pictures into the room that they have. The room may depend on what is drawn, so it is
 // measured again afterwards, and what it no longer fits is drawn anew.
 
-import { lanesHeight } from './arrange.js';
-import { lanesPicture, numbersPicture } from './lanes.js';
-import { columnX, layOutLanes } from './layout.js';
-import { legend } from './legend.js';
-import { lockOf } from '../locks/locks.js';
-import { looks } from '../model/looks.js';
-import { byId, show, write } from '../lib/markup.js';
-import { sliderPicture } from './slider.js';
+import { byId } from '../lib/elements.js';
+import { show, write } from '../lib/markup.js';
 import { texts } from '../texts/texts.js';
+import { looks } from '../model/looks.js';
+import { lockOf } from '../locks/locks.js';
+import { lanesHeight } from './arrange.js';
+import { drawCompared } from './compared.js';
+import { lanesPicture, numbersPicture } from './lanes.js';
+import { layOutLanes } from './layout.js';
+import { legend } from './legend.js';
+import { sliderPicture } from './slider.js';
 
 const ROUNDS = 4;
 
-// The sizes of the parts with pictures.
-export function measured() {
+// The sizes of the parts with pictures, of a page that shows this run.
+export function measured(run) {
   const size = (id) => {
     const { clientWidth: width, clientHeight: height } = byId(id);
     return { width, height };
   };
   return {
-    lanes: { width: size('lanes').width, height: lanesHeight() },
+    lanes: { width: size('lanes').width, height: lanesHeight(run) },
     memory: size('memory-picture'), slider: size('slider-picture'), there: size('there-picture'),
   };
 }
 
-const DRAWS = {
-  lanes: (page, view, state, size) => {
-    if (view.run.hasLock) drawTime(page, view, size);
-    if (page.comparing.isOn) page.comparing.draw(page.layout, size);
-  },
-  memory: (page, view, state, size) => { if (state) drawMemory('memory', view, state, size); },
-  there: ({ comparing }, view, state, size) => {
+// Draws the lanes, and gives their layout; of a text without a lock there is none.
+function drawLanes({ page, view, reveals }, size) {
+  if (!view.run.hasLock) return null;
+  const layout = drawTime(page, view, size, reveals);
+  if (page.comparing.isOn) drawCompared(page, layout, size);
+  return layout;
+}
+
+const OTHERS = {
+  memory: ({ view, state }, size) => { if (state) drawMemory('memory', view, state, size); },
+  there: ({ page: { comparing } }, size) => {
     if (!comparing.isOn) return;
     const there = comparing.there();
     drawMemory('there', there.view, there.state, size);
   },
-  slider: (page, view, state, size) => drawSlider(view, size.width),
+  slider: ({ view }, size) => drawSlider(view, size.width),
 };
+const PARTS = ['lanes', ...Object.keys(OTHERS)];
 
 const differs = (one, other) => one.width !== other.width || one.height !== other.height;
 
-export function drawPictures(page, view, state, sizes) {
-  const parts = Object.keys(DRAWS);
-  parts.forEach((part) => DRAWS[part](page, view, state, sizes[part]));
+// `shown` has the page, its view and state, and whether what counts is to be brought into view.
+// Gives the layout of the lanes.
+export function drawPictures(shown, sizes) {
+  let layout = null;
+  let { reveals } = shown;
+  const draw = (parts, room) => {
+    if (parts.includes('lanes')) layout = drawLanes({ ...shown, reveals }, room.lanes);
+    parts.forEach((part) => OTHERS[part]?.(shown, room[part]));
+  };
+  draw(PARTS, sizes);
   let fitted = sizes;
   for (let round = 1; round < ROUNDS; round += 1) {
     fitNow();
     fitCode();
-    const now = measured();
-    const changed = parts.filter((part) => differs(now[part], fitted[part]));
-    changed.forEach((part) => DRAWS[part](page, view, state, now[part]));
+    const now = measured(shown.view.run);
+    const changed = PARTS.filter((part) => differs(now[part], fitted[part]));
     if (!changed.length) break;
-    page.moved = true;
+    draw(changed, now);
+    reveals = true;
     fitted = now;
   }
-  reveal(page, view);
-  page.moved = false;
+  if (layout && reveals) reveal(shown.page, layout);
+  return layout;
 }
 
 // What is left free below the code.
@@ -85,7 +99,7 @@ function fitCode() {
   if (box.scrollTop % line) box.scrollTop = Math.round(box.scrollTop / line) * line;
 }
 
-function drawTime(page, view, room) {
+function drawTime(page, view, room, reveals) {
   const box = byId('lanes');
   const layout = layOutLanes(view, page.mode === 'play', room, page.zoomed);
   const { lanes } = layout;
@@ -93,14 +107,14 @@ function drawTime(page, view, room) {
   box.setAttribute('aria-activedescendant', layout.chosen === null ? '' : `lane-${page.lane}`);
   const height = `${Math.min(layout.height, room.height)}px`;
   if (box.style.height !== height) box.style.height = height;
-  const at = page.moved ? laneInView(box.scrollTop, room.height, view, layout) : box.scrollTop;
+  const at = reveals ? laneInView(box.scrollTop, room.height, view, layout) : box.scrollTop;
   const top = Math.max(0, Math.floor(at / layout.laneHeight) - 1);
   const bottom = Math.min(lanes.length - 1, Math.ceil((at + room.height) / layout.laneHeight));
   show(byId('numbers'), numbersPicture(view, layout));
   show(box, lanesPicture(view, layout, top, bottom));
   show(byId('legend'), legend(view.run));
   write(byId('resting'), foldedText(view, layout, room));
-  page.layout = { ...layout, at, x: (move) => columnX(layout, move) };
+  return { ...layout, at };
 }
 
 // How many threads have no lane, and how many lanes are out of view.
@@ -195,10 +209,9 @@ function revealIn(box, selector) {
 }
 
 // Called last: the lane, the line of code, and what moves in memory are in view.
-function reveal(page, view) {
+function reveal(page, layout) {
   const lanes = byId('lanes');
-  if (!view.run.hasLock || !page.moved) return;
-  if (lanes.scrollTop !== page.layout.at) lanes.scrollTop = page.layout.at;
+  if (lanes.scrollTop !== layout.at) lanes.scrollTop = layout.at;
   revealIn(byId('code-lines'), '.here');
   revealIn(byId('memory-picture'), '[data-moving]');
   if (page.mode === 'play') revealIn(byId('choices'), '[data-here]');

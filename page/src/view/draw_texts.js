@@ -1,19 +1,20 @@
 // Puts what is said of the move into the page's parts.
 
+import { byId } from '../lib/elements.js';
+import { html, show, write } from '../lib/markup.js';
 import { OUTCOMES } from '../machine/codes.js';
-import { codeView, linesMade } from './code_view.js';
+import { texts } from '../texts/texts.js';
 import { commonMoves } from '../model/compare_runs.js';
-import { lockOf } from '../locks/locks.js';
-import { lectureView } from '../control/lecture.js';
 import { looks, partsShown } from '../model/looks.js';
-import { byId, html, show, write } from '../lib/markup.js';
-import { nowView, questionView, spokenText, whoRows } from './move_view.js';
-import { endView, quizForm, resultView, scoreView } from '../model/quiz.js';
-import { refusalFacts } from '../locks/refusal_facts.js';
-import { refusedView } from './refused_view.js';
 import { covers } from '../model/remarks.js';
 import { moveText } from '../model/report.js';
-import { texts } from '../texts/texts.js';
+import { lockOf } from '../locks/locks.js';
+import { refusalFacts } from '../locks/refusal_facts.js';
+import { codeView, linesMade } from './code_view.js';
+import { lectureView } from './lecture_view.js';
+import { nowView, questionView, spokenText, whoRows } from './move_view.js';
+import { endView, quizForm, resultView, scoreView } from './quiz_view.js';
+import { refusedView } from './refused_view.js';
 
 export function drawTexts(page, view, state) {
   const lines = page.session.lines[view.run.kind];

@@ -3,7 +3,8 @@
 // own.
 
 import { bytesOf, lettersOf, sameBytes } from '../lib/bytes.js';
-import { byId, html, show } from '../lib/markup.js';
+import { byId } from '../lib/elements.js';
+import { html, show } from '../lib/markup.js';
 import { texts } from '../texts/texts.js';
 
 const MOST_EDITED = 400000;

@@ -1,12 +1,12 @@
 // An exercise sheet: the moves with empty marks, memory to be filled in, the code, a table of what
 // came of each move, and the questions. Nothing on it says an answer.
 
+import { html } from '../lib/markup.js';
+import { MOVES } from '../machine/codes.js';
+import { texts } from '../texts/texts.js';
 import { blankMemory } from './blank_memory.js';
 import { codeView } from './code_view.js';
-import { MOVES } from '../machine/codes.js';
 import { blankLegend } from './legend.js';
-import { html } from '../lib/markup.js';
-import { texts } from '../texts/texts.js';
 
 const T = texts.print;
 const ROOM = 460;
@@ -22,7 +22,7 @@ function row({ run: { records }, names }, move) {
 }
 
 function table(view, { from, to }) {
-  const heads = [T.move, T.thread, T.what, T.outcome, T.holds, T.line];
+  const heads = [T.move, T.thread, T.what, T.outcome, T.holds, T.queue];
   const rows = Array.from({ length: to - from + 1 }, (_, at) => row(view, from + at));
   return html`<table class="blanks"><caption>${T.table}</caption>
     <thead><tr>${heads.map((head) => html`<th>${head}</th>`)}</tr></thead>

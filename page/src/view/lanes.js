@@ -1,18 +1,18 @@
 // One lane a thread: its calls and steps, and what it was doing between them.
 
-import { MOVES, OUTCOME, OUTCOMES } from '../machine/codes.js';
-import { arrowsBetween } from '../model/arrows.js';
-import { fitted } from '../locks/fitting.js';
-import { columnX, laneMiddle, LOW_LANE, NAME_EDGES, placeOf, placeX } from './layout.js';
-import { lockOf } from '../locks/locks.js';
-import { html } from '../lib/markup.js';
-import { covers } from '../model/remarks.js';
-import { fillOf, standingIn } from '../locks/shapes.js';
-import { spansOf, unlinkedSpans } from '../model/spans.js';
 import { placeAfter } from '../lib/ascending.js';
+import { html } from '../lib/markup.js';
+import { MOVES, OUTCOME, OUTCOMES } from '../machine/codes.js';
 import { texts } from '../texts/texts.js';
+import { arrowsBetween } from '../model/arrows.js';
+import { covers } from '../model/remarks.js';
+import { spansOf, unlinkedSpans } from '../model/spans.js';
+import { fitted } from '../locks/fitting.js';
+import { lockOf } from '../locks/locks.js';
+import { fillOf, standingIn } from '../locks/shapes.js';
+import { columnX, laneMiddle, LOW_LANE, NAME_EDGES, placeOf, placeX } from './layout.js';
 
-const THICK = { call: 3, line: 14, holds: 24, reads: 24, writes: 24 };
+const THICK = { call: 3, queue: 14, holds: 24, reads: 24, writes: 24 };
 const NAMED_SPANS = ['reads', 'writes'];
 const ROOM_FOR_WORD = 84;
 const ROOM_FOR_UNLINKED = 170;

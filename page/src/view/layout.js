@@ -2,9 +2,9 @@
 // step costs the same in a schedule of 65,536 moves as in one of ten.
 
 import { placeAfter } from '../lib/ascending.js';
+import { standingAfter } from '../model/spans.js';
 import { widthOf } from '../locks/fitting.js';
 import { lockOf } from '../locks/locks.js';
-import { standingAfter } from '../model/spans.js';
 
 // Where the names of threads are: how wide, which share of the lanes at most, and what is
 // beside a name there.

@@ -1,9 +1,9 @@
 // What the signs of the lanes mean. Each lock names those that it has beside the common ones.
 
-import { lockOf } from '../locks/locks.js';
 import { html } from '../lib/markup.js';
-import { withTerms } from './terms.js';
 import { texts } from '../texts/texts.js';
+import { lockOf } from '../locks/locks.js';
+import { withTerms } from './terms.js';
 
 const T = texts.legend;
 
@@ -22,7 +22,7 @@ const SHAPES = {
 };
 const STRETCHES = {
   inCall: html`<rect class="span call" y="7.5" width="30" height="3"/>`,
-  line: bar('line', 'hatch'),
+  queue: bar('queue', 'hatch'),
   holds: bar('holds'),
   reads: bar('reads', 'ruled'),
   writes: bar('writes'),

@@ -1,10 +1,10 @@
-// The lesson plans: what their steps show, and the dialog in which one is begun.
+// The lesson plans: what their steps show, and a list of them.
 
+import { html } from '../lib/markup.js';
 import { translatedPlan } from '../texts/language.js';
-import { LOCKS } from '../locks/locks.js';
-import { byId, html, show } from '../lib/markup.js';
-import { remarksOf } from '../model/remarks.js';
 import { texts } from '../texts/texts.js';
+import { remarksOf } from '../model/remarks.js';
+import { LOCKS } from '../locks/locks.js';
 
 const T = texts.plans;
 
@@ -36,18 +36,4 @@ const planView = (plan) => html`<section><h3>${titleOf(plan)}</h3><p>${plan.aim}
   <p>${T.homework} ${plan.homework.ask}
   <button type="button" data-sheet="${plan.homework.lesson}">${T.sheet}</button></p></section>`;
 
-// `begin(lock, step)` begins a plan, `print(lesson)` asks for its exercise sheet.
-export function plansDialog(plans, { begin, print }) {
-  const dialog = byId('plans');
-  dialog.addEventListener('click', (event) => {
-    const { plan, step, sheet } = event.target.closest('[data-plan], [data-sheet]')?.dataset ?? {};
-    if (event.target === dialog || plan || sheet) dialog.close();
-    if (plan) begin(plan, Number(step));
-    if (sheet) print(sheet);
-  });
-  return () => {
-    show(byId('plan-list'), html`${plans.map(planView)}`);
-    dialog.showModal();
-    dialog.querySelector('[data-plan]').focus();
-  };
-}
+export const plansView = (plans) => html`${plans.map(planView)}`;

@@ -1,17 +1,17 @@
 // The move just made: its outcome, one sentence on what it did, what it wrote, who holds, who is
 // in the queue, and the report's own line.
 
-import { MOVES, OUTCOMES } from '../machine/codes.js';
-import { folding, movingThread } from '../locks/folding.js';
-import { casFails } from './lanes.js';
+import { folding } from '../lib/folding.js';
 import { html } from '../lib/markup.js';
-import { reportLine } from '../model/report.js';
-import { sentence, writtenWords } from '../locks/sentences.js';
-import { covers } from '../model/remarks.js';
-import { standingIn, useOf } from '../locks/shapes.js';
-import { unlinkedAfter } from '../model/spans.js';
-import { withTerms } from './terms.js';
+import { MOVES, OUTCOMES } from '../machine/codes.js';
 import { texts } from '../texts/texts.js';
+import { covers } from '../model/remarks.js';
+import { reportLine } from '../model/report.js';
+import { unlinkedAfter } from '../model/spans.js';
+import { sentence, writtenWords } from '../locks/sentences.js';
+import { movingThread, standingIn, useOf } from '../locks/shapes.js';
+import { casFails } from './lanes.js';
+import { withTerms } from './terms.js';
 
 function pill(view, thread) {
   const standing = standingIn(view, thread);
@@ -83,7 +83,7 @@ function factList(view, state, rows, hidden) {
 export function whoRows(view, state) {
   return html`<dt>${withTerms(texts.facts.holds)}</dt>
     <dd data-holders>${holdersList(view, state)}</dd>
-    <dt>${withTerms(texts.facts.line)}</dt><dd data-queue>${queueList(view, state)}</dd>`;
+    <dt>${withTerms(texts.facts.queue)}</dt><dd data-queue>${queueList(view, state)}</dd>`;
 }
 
 // Words between backticks are code.
@@ -158,13 +158,13 @@ function spokenMove({ run: { records }, names }, move) {
 export function spokenText(view, state) {
   const { run, move, names } = view;
   const holds = state.holders.length ? names.few(state.holders) : texts.nobody;
-  const line = state.queue.length ? names.few(state.queue) : texts.nobody;
+  const queue = state.queue.length ? names.few(state.queue) : texts.nobody;
   const question = view.remarks.ask.get(move);
   const own = view.remarks.say.get(move);
   const parts = [move ? texts.spoken.move(move, run.count) : texts.spoken.start(run.count)];
   if (move) parts.push(spokenMove(view, move));
   if (move && !covers(view, 'sentence')) parts.push(...[own].filter(Boolean), sentence(view, move));
-  if (!covers(view, 'facts')) parts.push(texts.spoken.holds(holds), texts.spoken.line(line));
+  if (!covers(view, 'facts')) parts.push(texts.spoken.holds(holds), texts.spoken.queue(queue));
   if (question) parts.push(texts.spoken.ask(question));
   if (view.hidden) parts.push(texts.spoken.hidden);
   return parts.join(' ');

@@ -1,6 +1,6 @@
 // A short notice to the reader, which goes by itself.
 
-import { byId } from '../lib/markup.js';
+import { byId } from '../lib/elements.js';
 
 const SHOWN = 4000;
 

@@ -1,17 +1,17 @@
 // On paper: strips of moves, memory and code at the move that is shown, the questions, and the
 // table of moves. With answers, or with blanks as an exercise.
 
-import { codeView } from './code_view.js';
+import { html } from '../lib/markup.js';
 import { MOVES, OUTCOMES } from '../machine/codes.js';
+import { texts } from '../texts/texts.js';
+import { holdersText, queueText } from '../model/report.js';
+import { lockOf } from '../locks/locks.js';
+import { sentence } from '../locks/sentences.js';
+import { codeView } from './code_view.js';
 import { exercise } from './exercise_sheet.js';
 import { lanesPicture, numbersPicture } from './lanes.js';
 import { legend } from './legend.js';
-import { lockOf } from '../locks/locks.js';
-import { html } from '../lib/markup.js';
-import { holdersText, queueText } from '../model/report.js';
-import { sentence } from '../locks/sentences.js';
 import { sheetPlan } from './sheet_plan.js';
-import { texts } from '../texts/texts.js';
 
 const T = texts.print;
 const MEMORY = { width: 640, height: 420, scale: 1 };
@@ -85,7 +85,7 @@ function questions(view) {
 }
 
 function table(view, from, to) {
-  const heads = [T.move, T.thread, T.what, T.outcome, T.says, T.holds, T.line];
+  const heads = [T.move, T.thread, T.what, T.outcome, T.says, T.holds, T.queue];
   const rows = Array.from({ length: to - from + 1 }, (_, i) => row(view, from + i));
   return html`<table><caption>${T.table}</caption>
     <thead><tr>${heads.map((head) => html`<th>${head}</th>`)}</tr></thead>

@@ -2,11 +2,11 @@
 
 import { lettersOf } from '../lib/bytes.js';
 import { html } from '../lib/markup.js';
-import { adviceOf, verdictView } from './verdict_view.js';
+import { texts } from '../texts/texts.js';
+import { lastLine } from '../model/report.js';
 import { refusalFacts } from '../locks/refusal_facts.js';
 import { refusedFacts, refusedLine } from './refused_view.js';
-import { lastLine } from '../model/report.js';
-import { texts } from '../texts/texts.js';
+import { adviceOf, verdictView } from './verdict_view.js';
 
 // The lines around one that is wrong.
 const AROUND = 6;

@@ -1,8 +1,8 @@
 // A refused move as a scene: the line with the word that is refused, why, and what decided it.
 
 import { html } from '../lib/markup.js';
-import { lastLine } from '../model/report.js';
 import { texts } from '../texts/texts.js';
+import { lastLine } from '../model/report.js';
 
 const T = texts.refused;
 

@@ -1,9 +1,9 @@
 // The slider, and over it where questions are and where threads enter or a compare-and-swap
 // fails.
 
+import { html } from '../lib/markup.js';
 import { OUTCOME } from '../machine/codes.js';
 import { casFails } from './lanes.js';
-import { html } from '../lib/markup.js';
 
 const EDGE = 12;
 // Closer together the ticks of a kind are a bar, which says nothing.
@@ -40,15 +40,22 @@ function ticks(view, width) {
     .filter((ofKind) => ofKind.length <= width / CLOSEST).flat();
 }
 
-let drawn = { run: null };
+// Of each run the ticks that were found last.
+const known = new WeakMap();
+
+function ticksOf(view, width) {
+  const { run, hidden } = view;
+  const found = known.get(run);
+  if (found?.width === width && found.hidden === hidden) return found.ticks;
+  const made = ticks(view, width);
+  known.set(run, { width, hidden, ticks: made });
+  return made;
+}
 
 export function sliderPicture(view, width) {
-  if (drawn.run !== view.run || drawn.width !== width || drawn.hidden !== view.hidden) {
-    drawn = { run: view.run, width, hidden: view.hidden, ticks: ticks(view, width) };
-  }
   const x = placeOf(view.run, width, view.place);
   const isShown = ({ kind, move }) => view.future || kind === 'ask' || move <= view.place;
-  const ticksShown = drawn.ticks.filter(isShown).map((one) => one.drawn);
+  const ticksShown = ticksOf(view, width).filter(isShown).map((one) => one.drawn);
   return html`<svg width="${width}" height="42" viewBox="0 0 ${width} 42" aria-hidden="true">
     <path class="track" d="M${EDGE} 21H${width - EDGE}"/>
     <path class="track done" d="M${EDGE} 21H${x}"/>

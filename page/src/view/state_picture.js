@@ -2,16 +2,16 @@
 // the marks and the code. It is well formed, and says what a question asks for only if that is
 // chosen.
 
-import { linesMade } from './code_view.js';
+import { html } from '../lib/markup.js';
+import { texts } from '../texts/texts.js';
 import { fitted, widthOf } from '../locks/fitting.js';
+import { lockOf } from '../locks/locks.js';
+import { sentence } from '../locks/sentences.js';
+import { linesMade } from './code_view.js';
+import { pictureIn } from './draw_pictures.js';
 import { lanesPicture, numbersPicture } from './lanes.js';
 import { layOutLanes } from './layout.js';
 import { legendEntries } from './legend.js';
-import { lockOf } from '../locks/locks.js';
-import { html } from '../lib/markup.js';
-import { pictureIn } from './draw_pictures.js';
-import { sentence } from '../locks/sentences.js';
-import { texts } from '../texts/texts.js';
 
 const XMLNS = 'http://www.w3.org/2000/svg';
 const EDGE = 20;
@@ -73,9 +73,8 @@ function memoryAndCode(column, view, state, lines, width, wanted) {
 // What is drawn of a move: the one that is shown, or another one of the same run.
 function viewAt({ session, answered, hides }, wanted, move) {
   const extra = { answered: wanted.answer || answered, hidden: hides, future: false };
-  if (move === undefined) return session.view(extra);
-  const there = { move, place: move, refused: false, marked: move };
-  return { ...session.view({ ...extra, answered: true }), ...there };
+  return move === undefined ? session.view(extra)
+    : session.view({ ...extra, answered: true }, move);
 }
 
 // `wanted` has title, legend, code and answer. {width, height, text}

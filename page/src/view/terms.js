@@ -1,6 +1,7 @@
 // Terms of art, each explained where one points at it, in the words of docs/GLOSSARY.md.
 
-import { byId, html, write } from '../lib/markup.js';
+import { byId } from '../lib/elements.js';
+import { html, write } from '../lib/markup.js';
 
 // Other forms of a term.
 const FORMS = {

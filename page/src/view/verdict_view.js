@@ -1,14 +1,13 @@
-// A schedule of one's own: opened, pasted, dropped or edited, and what is said of it.
+// What is said of a text: whether it is accepted, what is wrong with it, and what could be there.
 
-import { faultAdvice } from '../model/fault_advice.js';
-import { MOST_BYTES } from '../machine/codes.js';
 import { html } from '../lib/markup.js';
-import { LOCK_NAMES } from '../locks/locks.js';
+import { LOCK_NAMES } from '../machine/codes.js';
 import { ownWords } from '../machine/locks_code.js';
+import { texts } from '../texts/texts.js';
+import { faultAdvice } from '../model/fault_advice.js';
+import { lastLine } from '../model/report.js';
 import { refusalFacts } from '../locks/refusal_facts.js';
 import { refusedLine } from './refused_view.js';
-import { lastLine } from '../model/report.js';
-import { texts } from '../texts/texts.js';
 
 const T = texts.own;
 
@@ -53,16 +52,3 @@ function staleView({ stale }) {
 export const nothingView = (verdict, { threads }) => html`${verdict}<p>${T.begins}</p>
   <pre class="mono">${T.template}</pre>
   <p class="hint">${T.forms(LOCK_NAMES.join(', '), threads)}</p>`;
-
-// A file's bytes; of a long one just enough to show that it is too long.
-export async function bytesOfFile(file) {
-  return new Uint8Array(await file.slice(0, MOST_BYTES + 1).arrayBuffer());
-}
-
-export function saveAs(name, bytes, type = 'text/plain') {
-  const link = document.createElement('a');
-  link.href = URL.createObjectURL(new Blob([bytes], { type }));
-  link.download = name;
-  link.click();
-  setTimeout(() => URL.revokeObjectURL(link.href), 10000);
-}

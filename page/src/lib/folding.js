@@ -39,7 +39,3 @@ export function folding(list, isKept, most) {
   });
   return found;
 }
-
-// The thread of the move that is shown, and of a refused one.
-export const movingThread = ({ run, move, refused }) => (refused ? run.refusal.thread
-  : move ? run.records.thread(move) : null);

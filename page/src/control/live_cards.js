@@ -1,8 +1,8 @@
 // The pictures of the start: of each lock the memory of one of its lessons, at a move with a
 // question. While one points at a card, or has chosen something in it, its lesson is played.
 
-import { lockOf } from '../locks/locks.js';
 import { show } from '../lib/markup.js';
+import { lockOf } from '../locks/locks.js';
 
 const PACE = 800;
 const ROOM = { height: 108, least: 560 };
@@ -23,12 +23,11 @@ function posterOf({ remarks: { ask } }) {
   return moves[Math.floor(moves.length / 2)] ?? 1;
 }
 
-function drawAt(node, session, move) {
-  session.go(move);
+function drawCard(node, session) {
   const view = session.view({ answered: true });
   const scale = Math.min(1, node.clientWidth / ROOM.least);
   const room = { width: node.clientWidth / scale, height: ROOM.height / scale, scale };
-  show(node, lockOf(view.run).draw({ ...view, ...room, tight: true }, view.run.state(move)));
+  show(node, lockOf(view.run).draw({ ...view, ...room, tight: true }, view.run.state(view.move)));
 }
 
 export class LiveCards {
@@ -43,7 +42,8 @@ export class LiveCards {
         this.pictured.set(lock, picturedOf(this.lessons, this.session, lock));
       }
       const session = this.pictured.get(lock);
-      drawAt(node, session, posterOf(session));
+      session.go(posterOf(session));
+      drawCard(node, session);
       const card = node.parentElement;
       for (const event of ['pointerenter', 'focusin']) {
         card.addEventListener(event, () => this.play(node, session));
@@ -58,7 +58,8 @@ export class LiveCards {
     this.stop();
     if (matchMedia('(prefers-reduced-motion: reduce)').matches) return;
     this.timer = setInterval(() => {
-      drawAt(node, session, session.place < session.run.last ? session.place + 1 : 0);
+      session.go(session.place < session.run.last ? session.place + 1 : 0);
+      drawCard(node, session);
     }, PACE);
   }
 

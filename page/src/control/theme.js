@@ -1,5 +1,7 @@
 // Dark or light: as the link says, else as the reader chose last, else as the system has it.
 
+import { byId } from '../lib/elements.js';
+import { texts } from '../texts/texts.js';
 import { looks } from '../model/looks.js';
 
 const KEY = 'lockreplay.theme';
@@ -35,4 +37,10 @@ export function switchTheme() {
   looks.theme = isDark() ? 'light' : 'dark';
   remember(looks.theme);
   showTheme();
+}
+
+// Before its key the button says what it would choose.
+export function drawTheme() {
+  const label = `${isDark() ? texts.tools.light : texts.tools.dark} `;
+  byId('theme').firstChild.nodeValue = label;
 }

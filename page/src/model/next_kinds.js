@@ -1,0 +1,31 @@
+// What can happen next: in how few moves from the state that is shown each kind of transition can
+// be reached, if each thread begins at most one more round. The module searches.
+
+import { LOCK_NAMES } from '../machine/codes.js';
+import { findNext, FOUND } from '../machine/search.js';
+import { kindsOf } from './kinds.js';
+
+// Of each kind that can be reached its name and the moves to it, a nearest one first; and whether
+// no other kind can be.
+function searched(machine, run, move) {
+  const kinds = kindsOf(LOCK_NAMES[run.kind])
+    .map(({ name }, kind) => ({ name, ...findNext(machine, run, move, kind) }));
+  const ways = kinds.filter(({ answer }) => answer === FOUND.run)
+    .map(({ name, moves }) => [name, moves])
+    .sort(([, one], [, other]) => one.length - other.length);
+  const whole = kinds.every(({ answer }) => answer === FOUND.run || answer === FOUND.nowhere);
+  return { ways, whole };
+}
+
+export class NextKinds {
+  constructor() { this.known = new WeakMap(); }
+
+  // {ways, whole} after the move that is shown, which are searched once.
+  after({ machine, run, move }) {
+    if (machine.stored || !run.hasLock) return { ways: [], whole: true };
+    if (!this.known.has(run)) this.known.set(run, new Map());
+    const known = this.known.get(run);
+    if (!known.has(move)) known.set(move, searched(machine, run, move));
+    return known.get(move);
+  }
+}

@@ -1,0 +1,29 @@
+// The run that is compared, above the one that is shown and in its columns, and the lines of both.
+
+import { byId } from '../lib/elements.js';
+import { html, show } from '../lib/markup.js';
+import { texts } from '../texts/texts.js';
+import { lastLine, reportLine } from '../model/report.js';
+import { lanesPicture } from './lanes.js';
+import { layOutBeside } from './layout.js';
+
+const T = texts.compare;
+
+// As tall as the layout of what is shown.
+export function drawCompared({ comparing, session }, layout, room) {
+  const { columns, first, title } = comparing.other();
+  const { view } = comparing.there();
+  // None of its lanes can be chosen.
+  const beside = layOutBeside({ ...layout, chosen: undefined }, view, columns, room);
+  const differs = first && session.place >= first;
+  show(byId('other'), html`<h2>${T.title(title)} ${first ? html`<button type="button"
+      data-first="${first}">${T.first(first)}</button>` : html`<span>${T.same}</span>`}</h2>
+    <div class="other-lanes">${lanesPicture(view, beside, 0, beside.lanes.length - 1)}</div>
+    <p class="compared ${differs && 'differs'}"><code>${T.there} ${lineAt(view)}</code>
+    <code>${T.here} ${lineAt(session)}</code></p>`);
+}
+
+function lineAt({ run, move, refused }) {
+  if (refused) return lastLine(run);
+  return move ? reportLine(run, move) : texts.before;
+}

@@ -1,0 +1,35 @@
+// A lecture in the page: its bar with the clock, and the question of a step.
+
+import { byId } from '../lib/elements.js';
+import { html, show, write } from '../lib/markup.js';
+import { texts } from '../texts/texts.js';
+import { titleOf } from './lesson_plans.js';
+
+const T = texts.plans;
+
+export function drawLecture({ isOn, plan, at, step, following, clock }) {
+  if (!isOn) {
+    show(byId('lecture'), html``);
+    return;
+  }
+  show(byId('lecture'), html`<span title="${titleOf(plan)}">${
+  T.step(at + 1, plan.steps.length)}</span> <span>${T.minutes(step.from, step.to)}</span>
+    <b id="lecture-clock" title="${T.left}">${clock}</b>
+    <button type="button" data-lecture="back" aria-label="${T.back}">‹</button>
+    <button type="button" data-lecture="next">${following ? T.next : T.last}</button>`);
+}
+
+export function drawClock({ clock }) {
+  const box = byId('lecture-clock');
+  if (box) write(box, clock);
+}
+
+// A plan's own question above the parts, beside that of the lesson.
+export function lectureView({ lecture, answered }) {
+  if (!lecture.isOn) return null;
+  const { say, ask, answer, play } = lecture.step;
+  return html`${say && html`<p class="plan-say">${say}</p>`}
+    ${play && html`<div class="question"><p><b>${texts.question}</b> ${ask}</p>
+      <details ${answered && 'open'}><summary>${texts.showAnswer}</summary><p>${answer}</p>
+      </details></div>`}`;
+}

@@ -1,0 +1,55 @@
+// The quiz's form, what came of an answer, and the points.
+
+import { html } from '../lib/markup.js';
+import { texts } from '../texts/texts.js';
+import { answerText } from '../model/quiz.js';
+import { moveText } from '../model/report.js';
+
+const T = texts.quiz;
+
+// What the form says; nothing if nothing was chosen or typed.
+export function givenOf(form) {
+  const { outcome, answer } = Object.fromEntries(new FormData(form));
+  return outcome ?? answer.trim();
+}
+
+// The outcomes that a step can have.
+const STEP_OUTCOMES = ['moved', 'waits', 'entered', 'left'];
+
+const radio = (name) => html`<label><input type="radio" name="outcome" value="${name}" required>
+  ${T.outcomes[name]}</label>`;
+
+export function quizForm(view, question) {
+  const { run, names } = view;
+  const [thread, word] = moveText(run, question.move).split(' ');
+  const asked = question.kind === 'outcome'
+    ? html`<fieldset><legend>${T.outcome}</legend>${STEP_OUTCOMES.map(radio)}</fieldset>`
+    : html`<label class="field"><span>${T[question.kind]}</span>
+      <input class="mono" name="answer" required spellcheck="false"></label>
+      <p class="hint">${T.hint[question.kind]}</p>`;
+  return html`<form id="quiz-form" autocomplete="off"
+    data-kind="${question.kind}" data-move="${question.move}"><h3>${T.title}</h3>
+    <p class="say">${T.next(question.move, names.of(Number(thread)), word)}</p>${asked}
+    <button class="strong">${T.check}<kbd>Enter</kbd></button></form>`;
+}
+
+// Whether it was right, and why: the move's outcome says what becomes of holders and queue.
+export function resultView({ kind, truth, given, right }, outcome) {
+  return html`<div class="result"><p class="${right ? 'right' : 'wrong'}">
+    <b>${right ? '✓' : '✕'}</b> <span>${T.short[kind]}</span> <code>${truth}</code>
+    ${!right && html`<span class="soft">${T.wrong(given)}</span>`}</p>
+    ${!right && html`<p class="why">${T.why[outcome]}</p>`}</div>`;
+}
+
+export function scoreView(quiz) {
+  const score = quiz.score();
+  const some = score.right + score.wrong > 0;
+  return html`<p class="score">${T.score(score)} ${some && html`<input id="quiz-name"
+    placeholder="${T.nameLabel}" aria-label="${T.nameLabel}" value="${quiz.name}">
+    <button type="button" data-save-quiz="true">${T.save}</button>`}</p>`;
+}
+
+// After the last move: what was wrong.
+export const endView = ({ wrong }) => html`<div class="quiz-end"><p class="hint">${
+  wrong.length ? T.lastWrong : T.last}</p>
+  <ul class="mono">${wrong.map((one) => html`<li>${answerText(one)}</li>`)}</ul></div>`;

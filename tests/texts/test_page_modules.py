@@ -1,0 +1,56 @@
+"""The page's modules keep to their folders, whose order page/README.md gives.
+
+A pattern here finds a way to write that the modules do not use; it knows no scopes.
+"""
+import re
+
+import pytest
+
+from tree import TOP
+
+SOURCES = TOP / "page" / "src"
+MODULES = {path.relative_to(SOURCES).as_posix(): path.read_text()
+           for path in sorted(SOURCES.rglob("*.js"))}
+# The folders in the order of the table, those first that know least.
+FOLDERS = re.findall(r"(?m)^\| `(\w+)` \| \w", (TOP / "page" / "README.md").read_text().split(
+    "## What is where")[1].split("## ")[0])
+IMPORT = re.compile(r"(?m)^(?:import|\}).* from '([^']+)';$")
+# What is given to functions that draw, and remembered by the page.
+REMEMBERED = "page|session|quiz|comparing|playing|stepping|lecture|modes|editing|address|looks|run"
+CHANGES = re.compile(rf"\b(?:{REMEMBERED})(?:\.\w+)*\.\w+ (?:[-+|&?*]{{0,2}})= "
+                     rf"|\bObject\.assign\((?:{REMEMBERED})\b"
+                     rf"|\b(?:{REMEMBERED})(?:\.\w+)*\.(?:go|set|open|derive|load|clear|toggle)\(")
+
+
+def folder(module):
+    return module.split("/")[0]
+
+
+def test_folders():
+    """Each module is in a folder of the table, and each folder has one."""
+    assert FOLDERS[0] == "lib" and FOLDERS[-1] == "control"
+    assert {folder(module) for module in MODULES} == {*FOLDERS}
+
+
+def imported(module):
+    """The modules that a module imports from, by their paths."""
+    return [(SOURCES / module).parent.joinpath(path).resolve().relative_to(SOURCES).as_posix()
+            for path in IMPORT.findall(MODULES[module])]
+
+
+@pytest.mark.parametrize("module", MODULES)
+def test_imports_go_down(module):
+    height = FOLDERS.index(folder(module))
+    assert MODULES[module].count(" from '") == len(imported(module))
+    assert [path for path in imported(module)
+            if path not in MODULES or FOLDERS.index(folder(path)) > height] == []
+
+
+def test_drawing_changes_nothing():
+    assert {module: found for module, text in MODULES.items() if folder(module) == "view"
+            for found in [CHANGES.findall(text)] if found} == {}
+
+
+def test_no_action_is_a_click():
+    """But on the link with which a browser saves, and the field with which it opens files."""
+    assert [module for module, text in MODULES.items() if ".click(" in text] == ["lib/files.js"]
