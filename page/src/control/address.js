@@ -5,7 +5,7 @@ import { byId } from '../lib/elements.js';
 import { write } from '../lib/markup.js';
 import { askedLanguage, language } from '../texts/language.js';
 import { texts } from '../texts/texts.js';
-import { allKept, keep, kept, newName } from '../model/kept_schedules.js';
+import { keepSchedule, keptSchedule, keptSchedules, newName } from '../model/kept_schedules.js';
 import { endOf, fragmentOf, readFragment } from '../model/link.js';
 import { readLooks } from '../model/looks.js';
 import { tell, toClipboard } from '../view/notice.js';
@@ -19,7 +19,7 @@ export class Address {
   constructor(page) {
     this.page = page;
     // The name under which what is shown is kept; null for a lesson.
-    this.work = null;
+    this.keptName = null;
     this.unkept = new Map();
     this.returning = false;
   }
@@ -58,13 +58,13 @@ export class Address {
   openAsked({ lesson, kept: name, text, move, cut, play, compare }) {
     const { page } = this;
     if (name && page.session.run) this.keep();
-    const work = name && kept(name);
-    if (name && !work) return T.notKept;
+    const found = name && keptSchedule(name);
+    if (name && !found) return T.notKept;
     if (lesson && !page.lessons.some((one) => one.name === lesson)) return T.noLesson(lesson);
     this.returning = true;
     if (lesson) page.openLesson(lesson, move);
-    else page.openOwn(text ?? work.text, move);
-    this.work = name ?? this.work;
+    else page.openOwn(text ?? found.text, move);
+    this.keptName = name ?? this.keptName;
     if (play || compare) page.goOnWith(play, compare);
     this.returning = false;
     return cut ? T.cut : '';
@@ -86,7 +86,7 @@ export class Address {
       this.warn('');
       this.push();
     }
-    this.work = lesson ? null : newName();
+    this.keptName = lesson ? null : newName();
   }
 
   push() {
@@ -124,7 +124,7 @@ export class Address {
 
   fragment() {
     const { session } = this.page;
-    return fragmentOf(session) ?? `#kept=${this.work}${endOf(session.place)}`;
+    return fragmentOf(session) ?? `#kept=${this.keptName}${endOf(session.place)}`;
   }
 
   // Notes a schedule of one's own, to be kept when there is time, if that is not done yet.
@@ -132,24 +132,24 @@ export class Address {
     const { held, place, lesson, remarks } = this.page.session;
     if (lesson || held === this.noted) return;
     this.noted = held;
-    this.unkept.set(this.work, [held, place, remarks.title]);
+    this.unkept.set(this.keptName, [held, place, remarks.title]);
   }
 
   keep() {
     this.note();
-    for (const [name, what] of this.unkept) keep(name, ...what);
+    for (const [name, what] of this.unkept) keepSchedule(name, ...what);
     this.unkept.clear();
   }
 
-  keptNow() {
+  keptAll() {
     this.keep();
-    return allKept();
+    return keptSchedules();
   }
 
   openKept(name) {
-    const { text, place } = kept(name);
+    const { text, place } = keptSchedule(name);
     this.page.openOwn(text, place);
-    this.work = name;
+    this.keptName = name;
   }
 
   write(fragment) {

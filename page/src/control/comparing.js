@@ -56,7 +56,7 @@ export class Comparing {
   }
 
   // {session, at, columns, first, title} of what is compared, made once for a run.
-  other() {
+  compared() {
     const { run, origin } = this.page.session;
     if (this.made.run === run && this.made.kind === this.kind) return this.made;
     const session = this.page.session.twin();
@@ -77,18 +77,18 @@ export class Comparing {
   }
 
   // The first difference in the schedule that is shown; 0 for none.
-  get first() { return this.isOn ? this.other().first : 0; }
+  get first() { return this.isOn ? this.compared().first : 0; }
 
   // How many columns both need.
   get columns() {
     if (this.kind !== 'origin') return 0;
-    return Math.max(this.page.session.run.last, this.other().session.run.last);
+    return Math.max(this.page.session.run.last, this.compared().session.run.last);
   }
 
   // The other run beside the move that is shown: {view, state}.
-  there() {
+  comparedView() {
     const { page } = this;
-    const { session, at, first } = this.other();
+    const { session, at, first } = this.compared();
     const view = session.view({
       hidden: page.hides, future: looks.future, different: first, compares: true,
     }, at(page.session.place));
@@ -96,5 +96,5 @@ export class Comparing {
   }
 
   // The move here beside which a move of the other run is.
-  beside(move) { return this.other().columns[move] ?? move; }
+  moveBeside(move) { return this.compared().columns[move] ?? move; }
 }

@@ -60,7 +60,7 @@ function partsThatAreDrawn(page) {
   byId('other').addEventListener('click', (event) => {
     const { first, move } = dataOf(event, '[data-move], [data-first]');
     if (first) page.go(Number(first));
-    if (move) page.go(page.comparing.beside(Number(move)));
+    if (move) page.go(page.comparing.moveBeside(Number(move)));
   });
   byId('choices').addEventListener('click', (event) => {
     const { thread, word } = dataOf(event, '[data-word]');

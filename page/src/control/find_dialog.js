@@ -7,7 +7,7 @@ import {
 } from '../lib/elements.js';
 import { html, show, write } from '../lib/markup.js';
 import { ANSWER, LOCK_NAMES, OUTCOMES } from '../machine/codes.js';
-import { find, FOUND } from '../machine/search.js';
+import { findRun, FOUND } from '../machine/search.js';
 import { language } from '../texts/language.js';
 import { texts } from '../texts/texts.js';
 import { firstOf, kindsOf } from '../model/kinds.js';
@@ -114,7 +114,7 @@ class Finding {
       write(byId('find-answer'), T.notAsked);
       return;
     }
-    const found = find(this.machine, asked.state, asked.rounds, asked.sketch);
+    const found = findRun(this.machine, asked.state, asked.rounds, asked.sketch);
     if (found.answer !== FOUND.run) {
       write(byId('find-answer'), refusal(found, asked));
       return;

@@ -108,7 +108,7 @@ export class Page {
     this.sheet = 'worked';
   }
 
-  chooseLesson() { this.openLessons(this.session.lesson, this.address.keptNow()); }
+  chooseLesson() { this.openLessons(this.session.lesson, this.address.keptAll()); }
 
   openLesson(name, move = 0) {
     const { text } = this.lessons.find((lesson) => lesson.name === name);
@@ -148,8 +148,8 @@ export class Page {
 
   // A schedule that was shown before.
   restore(before) {
-    if (before.work !== this.address.work) this.address.leave(before.lesson);
-    this.address.work = before.work;
+    if (before.keptName !== this.address.keptName) this.address.leave(before.lesson);
+    this.address.keptName = before.keptName;
     this.session.restore(before);
     this.show();
   }

@@ -58,7 +58,7 @@ export class Playing {
     const { session, address } = this.page;
     const last = this.undone[this.undone.length - 1];
     if (!session.run || (why === 'edit' && last?.why === 'edit')) return;
-    this.undone.push({ ...session.shown, work: address.work, why });
+    this.undone.push({ ...session.shown, keptName: address.keptName, why });
     let bytes = this.undone.reduce((sum, { text }) => sum + text.length, 0);
     while (bytes > MOST_UNDONE_BYTES) bytes -= this.undone.shift().text.length;
   }

@@ -16,7 +16,7 @@ function distance(one, other) {
 const LONGEST = 20;
 
 // Near means at most one change in three letters. Upper case and `_` for `-` are no change.
-export function nearest(found, words) {
+export function nearestWord(found, words) {
   if (!found || found.length > LONGEST || !words.length) return null;
   const plain = found.toLowerCase().replaceAll('_', '-');
   const ranked = words.map((word) => ({ word, far: distance(plain, word) }))

@@ -8,7 +8,7 @@ import { PHASES } from '../machine/codes.js';
 import { translated } from '../texts/language.js';
 import { say, texts } from '../texts/texts.js';
 import { looks } from '../model/looks.js';
-import { covers } from '../model/remarks.js';
+import { isCovered } from '../model/remarks.js';
 import { unlinkedAfter } from '../model/spans.js';
 import { firstFitting, fitted, widthOf } from './fitting.js';
 import {
@@ -222,7 +222,7 @@ function tail(view, state, layout) {
   const path = place && tailPath(left + wide, place.x + layout.width / 2, place.y - 4);
   return html`<text class="mono word-name strong" x="24" y="43">tail</text>
     ${wordBox(left, 24, wide, value, useOf(view.run, view.marked, owned.tail))}
-    ${path && !covers(view, 'memory') && html`<path
+    ${path && !isCovered(view, 'memory') && html`<path
       class="link ${redirected(view, owned.tail)}" pathLength="1" d="${path}"/>`}`;
 }
 
@@ -242,11 +242,11 @@ function draw(view, state) {
   const layout = layOut(view, state);
   const { width } = layout;
   const height = RECORD.top + (layout.rows - 1) * RECORD.row + RECORD.last;
-  const text = covers(view, 'memory') ? T.memory : caption(view, state).text;
+  const text = isCovered(view, 'memory') ? T.memory : caption(view, state).text;
   const drawn = picture(view, height, text, html`${tail(view, state, layout)}
     ${layout.entries.map((entry) => (entry.folded ? foldedRecords(view, entry, width)
     : record(view, state, entry.one, entry.place, width)))}
-    ${!covers(view, 'memory') && links(view, state, layout)}`);
+    ${!isCovered(view, 'memory') && links(view, state, layout)}`);
   return Object.assign(drawn, { note: restingNote(view, layout.hidden) });
 }
 

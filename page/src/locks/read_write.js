@@ -7,7 +7,7 @@ import { OUTCOME, PHASES } from '../machine/codes.js';
 import { wordNames } from '../machine/word_names.js';
 import { translated } from '../texts/language.js';
 import { say, texts } from '../texts/texts.js';
-import { covers } from '../model/remarks.js';
+import { isCovered } from '../model/remarks.js';
 import { fitted } from './fitting.js';
 import { foldedToken, movingThread, standingIn, token, tokensAt } from './shapes.js';
 
@@ -44,7 +44,7 @@ export function room(view, state, x, y, width) {
   const most = view.tight ? ROOM_ROWS * inRow : Infinity;
   const tokens = tokensAt(view, state.holders, most, (i) => (
     { x: x + 24 + SPACE * (i % inRow), y: y + 50 + SPACE * Math.floor(i / inRow) }));
-  const asked = covers(view, 'standing');
+  const asked = isCovered(view, 'standing');
   const standing = state.holders.length && !asked ? standingIn(view, state.holders[0]) : '';
   const label = standing ? `${T.inside}: ${texts.standing[standing]}` : T.inside;
   const nobody = html`<text class="note" x="${x + 14}" y="${y + 54}">${

@@ -3,7 +3,7 @@
 import { folding } from '../lib/folding.js';
 import { html } from '../lib/markup.js';
 import { MOVES, OUTCOME } from '../machine/codes.js';
-import { covers } from '../model/remarks.js';
+import { isCovered } from '../model/remarks.js';
 import { standingAfter } from '../model/spans.js';
 import { fitted } from './fitting.js';
 
@@ -15,7 +15,7 @@ export const movingThread = ({ run, move, refused }) => (refused ? run.refusal.t
 export const standingOf = (run, move, thread) => standingAfter(run, run.lastMoveOf(thread, move));
 
 // The same, unless a question asks for it.
-export const standingIn = (view, thread) => (covers(view, 'standing') ? 'asked'
+export const standingIn = (view, thread) => (isCovered(view, 'standing') ? 'asked'
   : standingOf(view.run, view.move, thread));
 
 const HATCHED = { queue: 'hatch', reads: 'ruled' };

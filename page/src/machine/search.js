@@ -60,7 +60,7 @@ function searched(machine, state, mostCells, text, call) {
 
 // A shortest run of a new lock with the lines of the sketch. `state` is the lock's in the
 // beginning, as played; each thread takes the lock at most `rounds` times.
-export function find(machine, state, rounds, sketch) {
+export function findRun(machine, state, rounds, sketch) {
   const numbers = [state.kind, state.threads, state.bits, rounds].map(BigInt);
   return searched(machine, state, MOST_CELLS, bytesOf(sketch), (text, states, memory) => (
     machine.exports.find_moment(...text, ...numbers, states, ...memory)));

@@ -3,7 +3,7 @@
 // the machine says. Which numbers it takes the build asked it.
 
 import { bytesOf, lineOf } from '../lib/bytes.js';
-import { nearest } from '../lib/nearest_word.js';
+import { nearestWord } from '../lib/nearest_word.js';
 import { ANSWER, LOCK_NAMES } from '../machine/codes.js';
 import { fill, say, texts } from '../texts/texts.js';
 import { unseenAdvice } from './unseen_signs.js';
@@ -52,18 +52,18 @@ const IN_HEADER = {
   lock: (stopped) => (stopped.found.toLowerCase() === 'lock'
     ? headerFault(T.noLockWord, stopped.instead('lock')) : headerFault(T.headerShape)),
   name: (stopped) => {
-    const meant = nearest(stopped.found, LOCK_NAMES);
+    const meant = nearestWord(stopped.found, LOCK_NAMES);
     const unknown = say(T.unknownLock, { found: stopped.found });
     return {
       say: [unknown, meantOr(meant, LOCK_NAMES.join(', '))], mended: stopped.instead(meant),
     };
   },
   threads: (stopped) => headerFault(T.noThreadsWord,
-    stopped.instead(nearest(stopped.found, ['threads']))),
+    stopped.instead(nearestWord(stopped.found, ['threads']))),
   count: (stopped) => numberFault(stopped, T.badThreads, stopped.machine.ranges.threads),
   bits: (stopped) => {
     const isLast = stopped.words.length === stopped.at + 2;
-    const meant = isLast && nearest(stopped.found, ['bits']);
+    const meant = isLast && nearestWord(stopped.found, ['bits']);
     return headerFault(T.noBitsWord, meant ? stopped.instead(meant) : stopped.before);
   },
   width: (stopped) => numberFault(stopped, T.badBits, stopped.machine.ranges.bits),
@@ -108,12 +108,13 @@ function moveMeant(machine, line, ownWords) {
   const names = (line.match(/[a-z]+/gi) ?? []).filter((name) => !THREAD_WORD.test(name));
   if (numbers.length !== 1 || names.length !== 1) return null;
   const [number, name] = [numbers[0].replace(/^0+(?=.)/, ''), names[0].toLowerCase()];
-  const moves = [name, nearest(name, ownWords)].filter(Boolean).map((word) => `${number} ${word}`);
+  const moves = [name, nearestWord(name, ownWords)].filter(Boolean)
+    .map((word) => `${number} ${word}`);
   return moves.find((move) => !machine.stop(move, true)) ?? null;
 }
 
 function actionFault(stopped, ownWords) {
-  const meant = nearest(stopped.found, ownWords);
+  const meant = nearestWord(stopped.found, ownWords);
   const own = say(T.ownMoves, { moves: ownWords.join(', ') });
   const unknown = say(T.unknownMove, { found: stopped.found });
   return { say: [unknown, meant ? say(T.meant, { meant }) : own], mended: stopped.instead(meant) };

@@ -31,7 +31,7 @@ function store(key, text) {
 }
 
 // {name, place, title, size} of each, the newest first.
-export function allKept() {
+export function keptSchedules() {
   try {
     return JSON.parse(stored(LIST)) ?? [];
   } catch {
@@ -40,19 +40,19 @@ export function allKept() {
 }
 
 // {text, place}, or null.
-export function kept(name) {
+export function keptSchedule(name) {
   const coded = stored(keyOf(name));
-  const found = coded !== null && allKept().find((one) => one.name === name);
+  const found = coded !== null && keptSchedules().find((one) => one.name === name);
   return found ? { text: fromBase64(coded), place: found.place } : null;
 }
 
-export function keep(name, text, place, title) {
+export function keepSchedule(name, text, place, title) {
   const coded = toBase64(text);
   const size = coded.length;
   const same = (one) => one.name === name
     || (one.size === size && stored(keyOf(one.name)) === coded);
   let room = MOST_LETTERS;
-  const before = allKept();
+  const before = keptSchedules();
   const list = [{ name, place, title, size }, ...before.filter((one) => !same(one))]
     .slice(0, MOST).filter((one) => { room -= one.size; return room > 0; });
   const names = list.map((one) => one.name);

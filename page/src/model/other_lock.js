@@ -17,8 +17,8 @@ const atFirst = ({ begun }, thread) => ({
   due: begun.dueStep(thread), allows: (call) => begun.allows(thread, call),
 });
 
-// What came of the move here, unless it is of another kind, or another thing came of the last move
-// of this kind there.
+// A guess at what comes of a move there: the same as here, unless the last move of this kind there
+// ended in another way.
 function guess(run, move, kind, there) {
   const here = after(run, move);
   const word = moveText(run, move).split(' ')[1];
@@ -28,7 +28,7 @@ function guess(run, move, kind, there) {
 
 // The schedule there: as `known` has it up to the first move that is another one, and guessed from
 // there on.
-class There {
+class OtherSchedule {
   constructor(run, known) {
     const threads = Array.from({ length: run.threads }, (_, thread) => atFirst(known, thread));
     // What came of the last move of each kind there: of a call, or of a step from a phase.
@@ -36,7 +36,7 @@ class There {
   }
 
   // The thread takes the turn that it has here with a move.
-  take(thread, calls, move) {
+  takeTurn(thread, calls, move) {
     const { known, lines, seen, threads } = this;
     const { due, phase, allows } = threads[thread];
     if (!due && !(calls.length && allows(calls[0]))) return;
@@ -55,13 +55,13 @@ const headerOf = (run) => `lock ${otherLock(run)} threads ${run.threads} bits ${
 // {run, at}: the schedule of the same turns on the other lock, and for each move here how many
 // moves there have been made by then.
 function attempt(machine, run, known) {
-  const there = new There(run, known);
+  const there = new OtherSchedule(run, known);
   const at = [0];
   const calls = there.threads.map(() => []);
   for (let move = 1; move <= run.count; move += 1) {
     const thread = run.records.thread(move);
     if (run.records.isCall(move)) calls[thread].push(run.records.action(move));
-    there.take(thread, calls[thread], move);
+    there.takeTurn(thread, calls[thread], move);
     at.push(there.lines.length);
   }
   return { run: runOf(machine, bytesOf([headerOf(run), ...there.lines]), [known]), at };

@@ -1,7 +1,7 @@
 // Of an MCS lock: whose a word is, and whose record a value names. The module says of each thread
 // which words its record has and which value names it; the tail is the word that is nobody's.
 
-export class Owned {
+export class OwnedWords {
   // Of the threads of a state.
   constructor(state) {
     this.ofWord = new Map();

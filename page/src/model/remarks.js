@@ -80,5 +80,5 @@ export const isAsked = ({ remarks, move, answered, refused, whole }) => !answere
   && !whole && remarks.ask.has(move) && remarks.answer.has(move);
 
 // Whether a part is hidden until the answer is shown.
-export const covers = (view, part) => isAsked(view)
+export const isCovered = (view, part) => isAsked(view)
   && (view.remarks.hide.get(view.move) ?? UNSAID).includes(part);

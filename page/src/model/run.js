@@ -9,8 +9,8 @@ import {
 } from '../machine/codes.js';
 import { answerInLines, Records } from '../machine/machine.js';
 import { joinedByMove, movesByThread, movesByWord } from './move_lists.js';
-import { Owned } from './owned_words.js';
-import { Moment } from './state_after.js';
+import { OwnedWords } from './owned_words.js';
+import { StateAfter } from './state_after.js';
 
 const RLOCK = CALLS.find((call) => MOVES[call] === 'rlock');
 // Faults that moves may come before.
@@ -61,14 +61,14 @@ export class Run {
   // Whether one can hold the lock as a reader: at the beginning the machine accepts the call.
   get hasReaders() { return this.begun.allows(0, RLOCK); }
   // Whose the words of an MCS lock are.
-  get owned() { return (this.owners ??= new Owned(this.begun)); }
+  get owned() { return (this.owners ??= new OwnedWords(this.begun)); }
   get movesOfWord() { return (this.touches ??= movesByWord(this.records)); }
   get joined() { return (this.joins ??= joinedByMove(this.records)); }
   // The last place to step to: the last move, or the refused one after it.
   get last() { return this.count + (this.refusal ? 1 : 0); }
 
   // The state after so many moves.
-  state(moves) { return new Moment(this, moves); }
+  state(moves) { return new StateAfter(this, moves); }
 
   // The same as the machine has it: of fewer moves than all it plays them again, of the text up to
   // the line of the last one, or of the first one, by which the header has been read.

@@ -6,9 +6,9 @@ import { awaitedLines } from '../machine/locks_code.js';
 import { wordNames } from '../machine/word_names.js';
 import { arrowsOf } from './arrows.js';
 import { Names } from './names.js';
-import { covers, remarksOf } from './remarks.js';
+import { isCovered, remarksOf } from './remarks.js';
 import { runOf } from './run.js';
-import { Bound } from './stale_remarks.js';
+import { BoundRemarks } from './stale_remarks.js';
 
 const NO_ARROWS = { arrows: [], arrowEnds: [] };
 
@@ -30,7 +30,7 @@ export class Session {
 
   // A text of its own; `run` if it has been played before.
   open(text, lesson = null, move = 0, run = this.runOf(text)) {
-    this.bound = new Bound();
+    this.boundRemarks = new BoundRemarks();
     this.load(text, lesson, move, run);
     this.origin = { run: this.run, title: this.remarks.title || lesson };
   }
@@ -42,19 +42,19 @@ export class Session {
 
   // What `restore` brings back.
   get shown() {
-    const { run: { text }, lesson, place, bound, origin } = this;
-    return { text, lesson, place, bound, origin };
+    const { run: { text }, lesson, place, boundRemarks, origin } = this;
+    return { text, lesson, place, boundRemarks, origin };
   }
 
-  restore({ text, lesson, place, bound, origin }) {
-    this.bound = bound;
+  restore({ text, lesson, place, boundRemarks, origin }) {
+    this.boundRemarks = boundRemarks;
     this.origin = origin;
     this.load(text, lesson, place);
   }
 
   // The remarks hold as they are.
   keepRemarks() {
-    this.bound = new Bound();
+    this.boundRemarks = new BoundRemarks();
     this.load(this.run.text, this.lesson, this.place, this.run);
   }
 
@@ -72,7 +72,7 @@ export class Session {
   load(text, lesson, move, run = this.runOf(text)) {
     this.run = run;
     this.lesson = lesson;
-    this.stale = this.bound.stale(this.run);
+    this.stale = this.boundRemarks.stale(this.run);
     // What is saved and linked.
     this.held = withoutLines(text, this.stale);
     this.remarks = remarksOf(this.held);
@@ -106,7 +106,7 @@ export class Session {
     const marked = refused ? run.lastMoveOf(run.refusal.thread, move) : move;
     const view = { run, move, names, remarks, place, refused, marked, ...arrows, ...wishes };
     // What the move did is not marked if a question asks for it.
-    return covers(view, 'facts') ? { ...view, marked: 0 } : view;
+    return isCovered(view, 'facts') ? { ...view, marked: 0 } : view;
   }
 
   // The line of the text of the current move; before the first move the header's.

@@ -40,7 +40,7 @@ function boundLines(run) {
   return found;
 }
 
-export class Bound {
+export class BoundRemarks {
   constructor() {
     this.marks = new Map();
   }

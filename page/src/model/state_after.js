@@ -8,7 +8,7 @@ import { AS_WRITER, HOLDS, IN_QUEUE } from '../machine/codes.js';
 // Who holds, as the machine counts it.
 const HELD = { nobody: 0, one: 1, readers: 2, writer: 3 };
 
-export class Moment {
+export class StateAfter {
   constructor(run, move) {
     this.run = run;
     this.move = move;

@@ -11,8 +11,8 @@ const T = texts.compare;
 
 // As tall as the layout of what is shown.
 export function drawCompared({ comparing, session }, layout, room) {
-  const { columns, first, title } = comparing.other();
-  const { view } = comparing.there();
+  const { columns, first, title } = comparing.compared();
+  const { view } = comparing.comparedView();
   // None of its lanes can be chosen.
   const beside = layOutBeside({ ...layout, chosen: undefined }, view, columns, room);
   const differs = first && session.place >= first;

@@ -8,7 +8,7 @@ import { choicesView, nextKindsView } from './choices_view.js';
 import { drawPictures, measured } from './draw_pictures.js';
 import { drawHead, drawTexts } from './draw_texts.js';
 import { paper } from './paper.js';
-import { wrongOnPaper } from './paper_faults.js';
+import { faultsOnPaper } from './paper_faults.js';
 import { adviceOf, nothingView, verdictView } from './verdict_view.js';
 
 // Gives the layout of the lanes, or null. `reveals` says that what counts is to be brought into
@@ -72,5 +72,5 @@ export function drawPaper({ session }, sheet) {
   const { run } = session;
   const moves = run.hasLock && run.last > 0
     && paper(session.view({ hidden: false, future: true }), session.lines[run.kind], sheet);
-  show(byId('paper'), html`${wrongOnPaper(session)}${moves}`);
+  show(byId('paper'), html`${faultsOnPaper(session)}${moves}`);
 }

@@ -39,7 +39,7 @@ const OTHERS = {
   memory: ({ view, state }, size) => { if (state) drawMemory('memory', view, state, size); },
   there: ({ page: { comparing } }, size) => {
     if (!comparing.isOn) return;
-    const there = comparing.there();
+    const there = comparing.comparedView();
     drawMemory('there', there.view, there.state, size);
   },
   slider: ({ view }, size) => drawSlider(view, size.width),

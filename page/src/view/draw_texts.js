@@ -6,13 +6,13 @@ import { OUTCOMES } from '../machine/codes.js';
 import { texts } from '../texts/texts.js';
 import { commonMoves } from '../model/compare_runs.js';
 import { looks, partsShown } from '../model/looks.js';
-import { covers } from '../model/remarks.js';
+import { isCovered } from '../model/remarks.js';
 import { moveText } from '../model/report.js';
 import { lockOf } from '../locks/locks.js';
 import { refusalFacts } from '../locks/refusal_facts.js';
 import { codeView, linesMade } from './code_view.js';
 import { lectureView } from './lecture_view.js';
-import { nowView, questionView, spokenText, whoRows } from './move_view.js';
+import { moveView, questionView, spokenText, whoRows } from './move_view.js';
 import { endView, quizForm, resultView, scoreView } from './quiz_view.js';
 import { refusedView } from './refused_view.js';
 
@@ -31,7 +31,7 @@ function drawCaption(page, view, state) {
   const caption = lock.caption(view, state);
   write(byId('memory-title'), page.comparing.isOn ? texts.compare.hereMemory : lock.memory);
   write(byId('there-title'), page.comparing.isOn ? texts.compare.thereMemory : '');
-  const covered = covers(view, 'memory');
+  const covered = isCovered(view, 'memory');
   const missing = caption.missing && !covered && 'missing';
   const text = covered ? texts.covered : caption.text;
   show(byId('memory-says'), html`<span class="${missing}">${text}</span>`);
@@ -64,7 +64,7 @@ function drawNow(page, view, state) {
   const { score, form, came } = quizView(page, view);
   show(byId('now'), html`${isShown && score}
     ${facts && refusedView(session, facts, whoRows(view, state))}
-    ${!facts && ((isShown && form) || nowView(view, state))}${isShown && came}`);
+    ${!facts && ((isShown && form) || moveView(view, state))}${isShown && came}`);
   const question = quiz.asks(session);
   const said = question ? texts.spoken.hidden : spokenText(view, state);
   const checked = quiz.result ? `${texts.quiz.checked(quiz.result)} ` : '';

@@ -47,12 +47,12 @@ export class Editor {
 
   edited() {
     clearTimeout(this.timer);
-    this.timer = setTimeout(() => this.settle(), WAIT);
+    this.timer = setTimeout(() => this.handOn(), WAIT);
     this.drawGutter();
   }
 
   // Hands on what was typed, without more delay.
-  settle() {
+  handOn() {
     clearTimeout(this.timer);
     const letters = this.returns ? this.area.value.replaceAll(RETURN_SIGN, '\r') : this.area.value;
     this.text = bytesOf(letters, this.plain);

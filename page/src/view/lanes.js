@@ -5,7 +5,7 @@ import { html } from '../lib/markup.js';
 import { MOVES, OUTCOME, OUTCOMES } from '../machine/codes.js';
 import { texts } from '../texts/texts.js';
 import { arrowsBetween } from '../model/arrows.js';
-import { covers } from '../model/remarks.js';
+import { isCovered } from '../model/remarks.js';
 import { spansOf, unlinkedSpans } from '../model/spans.js';
 import { fitted } from '../locks/fitting.js';
 import { lockOf } from '../locks/locks.js';
@@ -128,7 +128,7 @@ function label(view, layout, move, at, tall) {
 
 function found(view, layout, move, at) {
   const fails = casFails(view.run.records, move);
-  const text = move === layout.now && covers(view, 'facts') ? '?' : foundText(view, move);
+  const text = move === layout.now && isCovered(view, 'facts') ? '?' : foundText(view, move);
   return html`<text class="found ${fails && 'fails'} ${move === layout.now && 'here'}" x="${at.x}"
     y="${at.y + 27}" text-anchor="middle"><title>${text}</title>${
   fitted(text, layout.column * FOUND_ROOM, 'small')}</text>`;
@@ -188,7 +188,7 @@ function refusedMark(view, layout, thread, middle) {
 function lane(view, layout, index) {
   const thread = layout.lanes[index];
   const middle = rounded(laneMiddle(layout, index));
-  const shown = { ...layout, last: lastDrawn(view, layout), asked: covers(view, 'standing') };
+  const shown = { ...layout, last: lastDrawn(view, layout), asked: isCovered(view, 'standing') };
   const missing = thread >= view.run.threads;
   const two = (missing || view.names.has(thread)) && layout.laneHeight >= LOW_LANE;
   const whole = view.names.of(thread);

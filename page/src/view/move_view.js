@@ -5,7 +5,7 @@ import { folding } from '../lib/folding.js';
 import { html } from '../lib/markup.js';
 import { MOVES, OUTCOMES } from '../machine/codes.js';
 import { texts } from '../texts/texts.js';
-import { covers } from '../model/remarks.js';
+import { isCovered } from '../model/remarks.js';
 import { reportLine } from '../model/report.js';
 import { unlinkedAfter } from '../model/spans.js';
 import { sentence, writtenWords } from '../locks/sentences.js';
@@ -118,18 +118,18 @@ function wroteRow(view) {
 function sentences(view) {
   const { remarks: { say }, move } = view;
   const own = say.get(move);
-  const hidden = covers(view, 'sentence') && 'hidden';
+  const hidden = isCovered(view, 'sentence') && 'hidden';
   return html`${hidden && html`<p class="plain">${texts.coveredSentence}</p>`}
     ${own && html`<p class="say own-say" ${hidden}>${withTerms(own)}</p>`}
     <p class="${own ? 'aside' : 'say'}" ${hidden}>${sentence(view, move)}</p>`;
 }
 
-export function nowView(view, state) {
+export function moveView(view, state) {
   const { run, move, names } = view;
   if (!move) return startView(view, state);
   const { records } = run;
   const word = MOVES[records.action(move)];
-  const hidden = covers(view, 'facts') && 'hidden';
+  const hidden = isCovered(view, 'facts') && 'hidden';
   return html`<h2 class="spoken">${texts.now}</h2>
     <div class="head"><b>${move}</b><span>${names.of(records.thread(move))},
       <span class="mono">${word}</span></span>${outcomePill(records, move)}</div>
@@ -163,8 +163,10 @@ export function spokenText(view, state) {
   const own = view.remarks.say.get(move);
   const parts = [move ? texts.spoken.move(move, run.count) : texts.spoken.start(run.count)];
   if (move) parts.push(spokenMove(view, move));
-  if (move && !covers(view, 'sentence')) parts.push(...[own].filter(Boolean), sentence(view, move));
-  if (!covers(view, 'facts')) parts.push(texts.spoken.holds(holds), texts.spoken.queue(queue));
+  if (move && !isCovered(view, 'sentence')) {
+    parts.push(...[own].filter(Boolean), sentence(view, move));
+  }
+  if (!isCovered(view, 'facts')) parts.push(texts.spoken.holds(holds), texts.spoken.queue(queue));
   if (question) parts.push(texts.spoken.ask(question));
   if (view.hidden) parts.push(texts.spoken.hidden);
   return parts.join(' ');

@@ -32,7 +32,7 @@ function refusedOnPaper(session) {
     <dl>${refusedFacts(facts)}</dl><p><code>${lastLine(session.run)}</code></p></section>`;
 }
 
-export function wrongOnPaper(session) {
+export function faultsOnPaper(session) {
   const { run } = session;
   if (run.refusal) return refusedOnPaper(session);
   if (!run.fault) return null;
