@@ -1,7 +1,7 @@
 """The rules of layout: a tool that Debian has finds what breaks them, if there is one.
 
 flake8 reads Python (tox.ini has its rules), shellcheck shell, rustfmt Rust, clang-format C
-(.clang-format), tsc the scripts for Node. For the rest:
+(.clang-format), tsc the types of the page and of the scripts for Node. For the rest:
 
 - A line has at most 100 columns. Rows of tables and lines of links in documents may be longer, and
   in a proof the path of a module.
@@ -152,8 +152,8 @@ def test_tool(kinds, words):
 
 
 def test_types():
-    """What tsc says of the page's own modules, which name no types, is left out."""
+    """Of the scripts for Node, and of the page with all that its first module needs."""
     files = (path.relative_to(TOP) for path in FILES if path.name.endswith((".mjs", ".d.ts")))
-    said = output("tsc", "--noEmit", "--allowJs", "--checkJs", "--target", "es2022",
-                  "--module", "es2022", "--moduleResolution", "node", *files, cwd=TOP)
-    assert re.findall(r"(?m)^(?!status|page/src/)\S.*", said) == []
+    assert output("tsc", "--noEmit", "--allowJs", "--checkJs", "--target", "es2022",
+                  "--module", "es2022", "--moduleResolution", "node", "--lib",
+                  "es2022,dom,dom.iterable", *files, "page/src/control/main.js", cwd=TOP) == ""

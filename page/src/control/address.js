@@ -54,7 +54,10 @@ export class Address {
     return !wrong || Boolean(this.page.session.run);
   }
 
-  // What is wrong with what was asked for, if anything is.
+  /**
+   * What is wrong with what was asked for, if anything is.
+   * @param {import('../model/link.js').Asked} asked
+   */
   openAsked({ lesson, kept: name, text, move, cut, play, compare }) {
     const { page } = this;
     if (name && page.session.run) this.keep();

@@ -9,11 +9,14 @@ import { onOtherLock } from '../model/other_lock.js';
 import { LOCKS } from '../locks/locks.js';
 import { tell } from '../view/notice.js';
 
+/** @typedef {import('../model/run.js').Run} Run */
+
 const T = texts.compare;
 
 const titleOfLock = (name) => LOCKS.find((lock) => lock.name === name).title;
 
 // The column of each move of the other run, from move 0 on: the move here after which it is made.
+/** @param {Run} run */
 function columnsOf(run, at) {
   const columns = [0];
   for (let move = 1; move <= run.count; move += 1) {

@@ -11,6 +11,8 @@ import { tell, toClipboard } from '../view/notice.js';
 import { statePicture, stripPicture } from '../view/state_picture.js';
 import { tikzOf } from '../view/tikz.js';
 
+/** @typedef {import('../model/session.js').Session} Session */
+
 const T = texts.take;
 const SHARPER = 2;
 // Of several moves: at most so many, each so long on the screen, and the last one longer.
@@ -18,22 +20,23 @@ const MOST = 40;
 const SHOWN = { each: 1200, last: 3000 };
 const FRAME = { width: 960, height: 480 };
 
+/** @param {Session} session */
 const nameOf = (session, ending) => `${session.lesson ?? 'schedule'}-${session.place}.${ending}`;
 
 const encoded = (text) => new TextEncoder().encode(text);
 
 // A picture with room below, so that all of an animation have one size.
-async function png({ width, height, text }, [wide, tall] = [width, height]) {
+async function png({ width, height, text }, size = { width, height }) {
   const image = new Image();
   image.src = `data:image/svg+xml;charset=utf-8,${encodeURIComponent(text)}`;
   await image.decode();
   const canvas = document.createElement('canvas');
-  canvas.width = wide * SHARPER;
-  canvas.height = tall * SHARPER;
+  canvas.width = size.width * SHARPER;
+  canvas.height = size.height * SHARPER;
   const context = canvas.getContext('2d');
   context.scale(SHARPER, SHARPER);
   context.fillStyle = getComputedStyle(document.documentElement).getPropertyValue('--card');
-  context.fillRect(0, 0, wide, tall);
+  context.fillRect(0, 0, size.width, size.height);
   context.drawImage(image, 0, 0);
   const blob = await new Promise((done) => { canvas.toBlob(done, 'image/png'); });
   return new Uint8Array(await blob.arrayBuffer());
@@ -68,7 +71,10 @@ export async function animatedOf(page) {
   const [from, to] = stretchNow(page);
   const pictures = Array.from({ length: to - from + 1 }, (_, at) => (
     statePicture(page, wantedNow(), from + at)));
-  const size = ['width', 'height'].map((what) => Math.max(...pictures.map((one) => one[what])));
+  const size = {
+    width: Math.max(...pictures.map(({ width }) => width)),
+    height: Math.max(...pictures.map(({ height }) => height)),
+  };
   const frames = [];
   for (const picture of pictures) frames.push(await png(picture, size));
   return animated(frames, SHOWN.each, SHOWN.last);

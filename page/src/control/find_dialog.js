@@ -35,12 +35,12 @@ function refusal({ answer, count }, { threads, rounds, sketch }) {
 }
 
 // The schedule with what was looked for, as comments.
-function scheduleOf(header, run, { title, sketch, threads, rounds }) {
+function scheduleOf(header, moves, { title, sketch, threads, rounds }) {
   const comments = [
     `#! title ${title}`, `# ${T.comment(texts.threads(threads), T.rounds(rounds))}`,
     ...sketch.split('\n').filter((line) => line.trim()).map((line) => `#   ${line}`),
   ];
-  return bytesOf(`${comments.join('\n')}\n${header}${run.map((move) => `${move}\n`).join('')}`);
+  return bytesOf(`${comments.join('\n')}\n${header}${moves.map((move) => `${move}\n`).join('')}`);
 }
 
 class Finding {

@@ -11,12 +11,16 @@ import { LOCKS } from '../locks/locks.js';
 import { withTerms } from '../view/terms.js';
 import { LiveCards } from './live_cards.js';
 
+/** @typedef {import('../model/run.js').Run} Run */
+/** @typedef {import('../model/session.js').Session} Session */
+
 export const FIRST_LESSON = 'ticket-hand-over';
 const T = texts.lessons;
 // Seconds for a move and for a question.
 const PACE = { move: 8, question: 30 };
 
 // Lessons with what one learns in them, how many moves they have and how long they take.
+/** @param {Run} run */
 export function described(lesson, run) {
   const { title, learn, ask } = remarksOf(lesson.text);
   const seconds = PACE.move * run.last + PACE.question * ask.size;
@@ -83,6 +87,7 @@ export function closeLessons() {
 }
 
 // `choose` has what each choice does; `session` plays the lessons that are pictured.
+/** @param {Session} session */
 export function lessonsDialog(lessons, session, choose) {
   const dialog = dialogOf('lessons');
   const live = new LiveCards(lessons, session);

@@ -4,10 +4,13 @@
 import { show } from '../lib/markup.js';
 import { lockOf } from '../locks/locks.js';
 
+/** @typedef {import('../model/session.js').Session} Session */
+
 const PACE = 800;
 const ROOM = { height: 108, least: 560 };
 
 // The lesson with the most questions says the most of its lock.
+/** @param {Session} session */
 function picturedOf(lessons, session, lock) {
   const all = lessons.filter(({ group }) => group === lock).map(({ name, text }) => {
     const one = session.twin();
@@ -23,6 +26,7 @@ function posterOf({ remarks: { ask } }) {
   return moves[Math.floor(moves.length / 2)] ?? 1;
 }
 
+/** @param {Session} session */
 function drawCard(node, session) {
   const view = session.view({ answered: true });
   const scale = Math.min(1, node.clientWidth / ROOM.least);
@@ -32,7 +36,10 @@ function drawCard(node, session) {
 
 export class LiveCards {
   constructor(lessons, session) {
-    Object.assign(this, { lessons, session, timer: 0, pictured: new Map() });
+    this.lessons = lessons;
+    this.session = session;
+    this.timer = 0;
+    this.pictured = new Map();
   }
 
   draw(dialog) {

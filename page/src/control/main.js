@@ -68,5 +68,5 @@ function begin(data) {
   }
   page.address.begin();
   if (looks.sheet) page.showSheets(looks.sheet);
-  window.lockreplay = { test: testPort(page) };
+  Object.assign(window, { lockreplay: { test: testPort(page) } });
 }

@@ -45,6 +45,7 @@ export function lettersOf(bytes) {
   }
 }
 
+/** @param {string} letters @param {boolean} [plain] */
 export function bytesOf(letters, plain) {
   if (!plain || /[^\0-\xff]/.test(letters)) return new TextEncoder().encode(letters);
   return Uint8Array.from(letters, (letter) => letter.charCodeAt(0));

@@ -7,8 +7,37 @@ import { rwFifo } from './rw_fifo.js';
 import { rwSimple } from './rw_simple.js';
 import { ticket } from './ticket.js';
 
+/** @typedef {import('../model/run.js').Run} Run */
+
+/**
+ * What the page knows of a lock.
+ * @typedef {import('../model/session.js').View} View
+ * @typedef {import('../machine/machine.js').AnyState} State
+ * @typedef {import('./shapes.js').Picture} Picture
+ * @typedef {object} Lock
+ * @property {string} name in schedules
+ * @property {string} title
+ * @property {string} lesson the first word of its lessons' names
+ * @property {string} memory what the picture of its memory is of
+ * @property {boolean} [hasRecords] whether each thread has words of its own
+ * @property {number} [leastColumn] how wide its calls are
+ * @property {string[]} signs of its lanes, by their names in the legend
+ * @property {{text: string, kinds: string[]}} [wraps] what is said when a count wraps around
+ * @property {(view: View, move: number) => string} mark what is below a move's mark
+ * @property {(view: View, move: number, phase: number) => Object<string, string>} [values] further
+ *   values of its sentences
+ * @property {(word: number, named: {run: View['run'], names: View['names']}) => string} wordName
+ * @property {(word: number, value: bigint, named: {run: View['run'], names: View['names']}) =>
+ *   string} valueText
+ * @property {(view: View, state: State) => Picture} draw its memory
+ * @property {(view: View, state: State) => {text: string, missing?: boolean}} caption below it
+ * @property {(view: View, state: State) => number} leastWidth of the picture at its full size
+ */
+
+/** @type {Lock[]} */
 // generated: modules by number
 export const LOCKS = [ticket, mcs, rwSimple, rwFifo];
 // end
 
+/** @param {Run} run */
 export const lockOf = (run) => LOCKS[run.kind];

@@ -15,6 +15,10 @@ import {
   BOX_EDGES, enteredNow, movingMark, movingThread, picture, standingIn, standingOf, useOf, wordBox,
 } from './shapes.js';
 
+/** @typedef {import('../view/layout.js').Layout} Layout */
+/** @typedef {import('../machine/machine.js').AnyState} State */
+/** @typedef {import('../model/session.js').View} View */
+
 const T = translated('mcs', {
   title: 'MCS queue lock', memory: 'Memory, in the order of the queue', noLink: 'no link',
   atRest: (who) => `Idle: ${who}`,
@@ -60,6 +64,7 @@ function wordName(word, { run, names }) {
 
 // Who is drawn: the queue in its order, then who is in a call, then who rests, if there is
 // room.
+/** @param {View} view @param {State} state */
 function order(view, state, most) {
   const { run, move } = view;
   const others = Array.from({ length: run.threads }, (_, thread) => thread)
@@ -89,7 +94,10 @@ function widestRecord(names) {
   return Math.min(WIDEST, Math.max(RECORD.widest, wanted));
 }
 
+/** @typedef {ReturnType<typeof layOut>} Places */
+
 // Of more records than have room some are folded: `places` has for each thread where it is.
+/** @param {View} view @param {State} state */
 function layOut(view, state) {
   const room = view.width - 2 * RECORD.left;
   const most = Math.max(1, Math.floor((room + gapNow()) / (RECORD.narrowest + gapNow())));
@@ -112,6 +120,7 @@ function layOut(view, state) {
   return { places, entries, hidden, width, rows: Math.max(1, Math.ceil(all.length / inRow)) };
 }
 
+/** @param {View} view @param {State} state */
 function recordField(view, y, label, word, state, width) {
   const value = valueText(word, state.word(word), view);
   const use = useOf(view.run, view.marked, word);
@@ -122,6 +131,7 @@ function recordField(view, y, label, word, state, width) {
 // A label below a record may be wider than it, up to its neighbours and the edges of the picture.
 const roomOfLabel = (width) => width + Math.min(gapNow() - BOX_EDGES, 2 * RECORD.left - 2);
 
+/** @param {View} view @param {State} state */
 function ownVariable(view, state, thread, width) {
   const name = OWN_VARIABLE[PHASES[state.phase(thread)]];
   if (!name) return null;
@@ -144,6 +154,7 @@ function headName(names, thread, standing, width) {
   return fitted(names.short(thread), room, 'name');
 }
 
+/** @param {View} view @param {State} state */
 function record(view, state, thread, place, width) {
   const { begun } = view.run;
   const standing = standingIn(view, thread);
@@ -187,9 +198,11 @@ function link(from, to, width, linked, moved) {
 const isLinked = ({ run, move }, thread) => !unlinkedAfter(run, run.lastMoveOf(thread, move));
 
 // Whether the move that is shown wrote the word that an arrow is drawn for.
+/** @param {View} view */
 const redirected = (view, word) => useOf(view.run, view.marked, word) === 'changed'
   && 'redirected';
 
+/** @param {View} view @param {State} state @param {Places} layout */
 function links(view, state, layout) {
   return state.queue.slice(1).map((after, i) => {
     const before = state.queue[i];
@@ -200,6 +213,7 @@ function links(view, state, layout) {
 }
 
 // Records that are folded.
+/** @param {View} view */
 function foldedRecords(view, { folded, place }, width) {
   return html`<g class="fold" transform="translate(${place.x},${place.y})">
     <title>${view.names.list(folded)}</title>
@@ -212,6 +226,7 @@ function foldedRecords(view, { folded, place }, width) {
 const tailPath = (right, x, y) => (x < right + 4
   ? `M${x} 52V${y}` : `M${right} 38H${x - 10}q10 0 10 10V${y}`);
 
+/** @param {View} view @param {State} state @param {Places} layout */
 function tail(view, state, layout) {
   const { owned } = view.run;
   const held = state.word(owned.tail);
@@ -226,6 +241,7 @@ function tail(view, state, layout) {
       class="link ${redirected(view, owned.tail)}" pathLength="1" d="${path}"/>`}`;
 }
 
+/** @param {View} view @param {State} state */
 function caption(view, state) {
   const { queue } = state;
   const gap = queue.findIndex((after, i) => i > 0 && !isLinked(view, after));
@@ -238,6 +254,7 @@ function caption(view, state) {
     : captions.nobody };
 }
 
+/** @param {View} view @param {State} state */
 function draw(view, state) {
   const layout = layOut(view, state);
   const { width } = layout;
@@ -250,6 +267,7 @@ function draw(view, state) {
   return Object.assign(drawn, { note: restingNote(view, layout.hidden) });
 }
 
+/** @param {View} view @param {State} state */
 function leastWidth(view, state) {
   const busy = Math.max(state.queue.length, Math.min(view.run.threads, BESIDE));
   const beside = Math.min(BESIDE, busy);
@@ -260,6 +278,7 @@ function leastWidth(view, state) {
 }
 
 // Who is at rest and has no record.
+/** @param {View} view */
 function restingNote(view, hidden) {
   if (hidden.length > MOST_NAMED) return atRest(texts.threads(hidden.length));
   const named = hidden.map((thread) => view.names.short(thread)).join(', ');
@@ -277,6 +296,7 @@ function values({ run, names }, move, phase) {
 }
 
 // Below a lane's mark: what the move found.
+/** @param {View} view */
 function mark(view, move) {
   const { records } = view.run;
   return valueText(records.touched(move), records.found(move), view);

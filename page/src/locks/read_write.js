@@ -11,6 +11,9 @@ import { isCovered } from '../model/remarks.js';
 import { fitted } from './fitting.js';
 import { foldedToken, movingThread, standingIn, token, tokensAt } from './shapes.js';
 
+/** @typedef {import('../machine/machine.js').AnyState} State */
+/** @typedef {import('../model/session.js').View} View */
+
 const T = translated('readWrite', {
   memory: 'Memory, and the threads beside it', inside: 'inside', nobody: 'nobody',
   atMonitor: 'at the monitor', pollFailed: 'failed poll',
@@ -33,12 +36,14 @@ const inRoomRow = (width) => Math.max(1, Math.floor((width - 20) / SPACE));
 const ROOM_ROWS = 2;
 
 // How tall a room of this width is; of many readers some are folded if space is short.
+/** @param {View} view @param {State} state */
 export function roomHeight(view, state, width) {
   const rows = Math.max(1, Math.ceil(state.holders.length / inRoomRow(width)));
   return 44 + SPACE * (view.tight ? Math.min(ROOM_ROWS, rows) : rows);
 }
 
 // The threads inside, in a room of its own.
+/** @param {View} view @param {State} state */
 export function room(view, state, x, y, width) {
   const inRow = inRoomRow(width);
   const most = view.tight ? ROOM_ROWS * inRow : Infinity;
@@ -56,17 +61,20 @@ export function room(view, state, x, y, width) {
 }
 
 // The threads that have a section due.
+/** @param {View} view @param {State} state */
 export function callers(view, state) {
   return Array.from({ length: view.run.threads }, (_, thread) => thread)
     .filter((thread) => state.dueStep(thread) !== 0);
 }
 
+/** @param {View} view */
 function pollFailed(view, thread) {
   const last = view.run.lastMoveOf(thread, view.move);
   return last > 0 && view.run.records.outcome(last) === OUTCOME.waits;
 }
 
 // A caller's row: what it wants, and below it whether its poll failed.
+/** @param {View} view @param {State} state */
 function callerRow(view, state, thread, x, at) {
   const wanted = wants[PHASES[state.phase(thread)]];
   const failed = pollFailed(view, thread);
@@ -77,6 +85,7 @@ function callerRow(view, state, thread, x, at) {
 }
 
 // As many callers as have room from `y` on, if space is short.
+/** @param {View} view @param {State} state */
 function callersShown(view, state, y) {
   const most = Math.max(2, Math.floor((view.height - y - 22) / MONITOR_ROW));
   const moving = movingThread(view);
@@ -84,6 +93,7 @@ function callersShown(view, state, y) {
 }
 
 // Beside another run's memory there is no room for it, and the lanes say who waits.
+/** @param {View} view @param {State} state */
 export function monitor(view, state, x, y) {
   if (view.compares) return null;
   const rows = callersShown(view, state, y).map(({ one, folded }, i) => {
@@ -98,11 +108,13 @@ export function monitor(view, state, x, y) {
 }
 
 // How far down a monitor goes that begins at `y`.
+/** @param {View} view @param {State} state */
 export function monitorEnd(view, state, y) {
   if (view.compares) return 0;
   return y + 28 + MONITOR_ROW * Math.max(1, callersShown(view, state, y).length);
 }
 
+/** @param {State} state */
 const wordsText = (lock, state) => wordNames(lock)
   .map((name, word) => `${name} ${state.word(word)}`).join(', ');
 

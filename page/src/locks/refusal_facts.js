@@ -8,11 +8,15 @@ import { fill, say, texts } from '../texts/texts.js';
 import { moveText } from '../model/report.js';
 import { lockOf } from './locks.js';
 
+/** @typedef {import('../model/session.js').Session} Session */
+/** @typedef {import('../machine/machine.js').AnyState} State */
+
 const T = texts.refused;
 // The refusals that the header decides, each with the place of the word in it.
 const BY_HEADER = { NoSuchThread: 3, WrongLock: 1 };
 
 // The line of code whose step the thread has to make next; null between calls.
+/** @param {State} state */
 export function dueLine(lines, state, thread) {
   const due = state.dueStep(thread);
   if (!due) return null;
@@ -22,6 +26,7 @@ export function dueLine(lines, state, thread) {
 }
 
 // What the thread could do instead.
+/** @param {State} state */
 function possibleMoves(state, thread) {
   const due = state.dueStep(thread);
   if (due) return [fill(T.step, { word: MOVES[due] })];
@@ -30,6 +35,7 @@ function possibleMoves(state, thread) {
 }
 
 // One sentence on who holds the lock.
+/** @param {State} state */
 function holdsText(state, names) {
   if (!state.holders.length) return T.nobodyHolds;
   const list = names.few(state.holders);
@@ -41,6 +47,7 @@ function holdsText(state, names) {
 const WITH_DUE = ['Busy', 'WrongStep'];
 const WITH_HOLDERS = ['NotHolder', 'NoCall', 'AlreadyHolds'];
 
+/** @param {Session} session */
 function sentences(session) {
   const { run, names } = session;
   const { name, thread, word } = run.refusal;
@@ -59,6 +66,7 @@ function sentences(session) {
 }
 
 // The word of memory that the thread's last move found, and from which its due step follows.
+/** @param {Session} session */
 function foundWord(session, move) {
   const { run } = session;
   const { records } = run;
@@ -70,6 +78,7 @@ function foundWord(session, move) {
 }
 
 // What decided it: a word of the header, or the thread's last move and the word that it found.
+/** @param {Session} session */
 function decided(session) {
   const { run } = session;
   const { name, thread } = run.refusal;
@@ -82,6 +91,7 @@ function decided(session) {
 }
 
 // All of it: {name, line, thread, word, who, due, said: sentences, decided}
+/** @param {Session} session */
 export function refusalFacts(session) {
   const { refusal } = session.run;
   return { ...refusal, ...sentences(session), decided: decided(session) };

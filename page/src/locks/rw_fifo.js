@@ -11,6 +11,9 @@ import {
 import { picture, useOf, wordBox } from './shapes.js';
 import { handLegend, HANDS, hasWheel, wheelOf, wheelPlaced } from './wheel.js';
 
+/** @typedef {import('../machine/machine.js').AnyState} State */
+/** @typedef {import('../model/session.js').View} View */
+
 const T = translated('rwFifo', {
   title: 'FIFO read-write lock',
   announced: '{writer} is announced: no reader may pass.',
@@ -21,15 +24,19 @@ const NAME = 'rw-fifo';
 const ACQUIRES = 'readAcquires';
 const RELEASES = 'readReleases';
 const FLAG = 'flag';
+/** @param {State} state */
 const held = (state, name) => state.word(wordNamed(NAME, name));
 
 // What the hands are: beside the words, so that a picture on a phone is low, or below the wheel if
 // the picture is narrow.
 const LEGEND_BESIDE = 504;
+/** @param {View} view */
 const legendAt = ({ width }) => (width >= LEGEND_BESIDE ? [366, 46] : [36, 244]);
 
+/** @param {View} view */
 const wheelHeight = ({ width }) => (width >= LEGEND_BESIDE ? 246 : 272);
 
+/** @param {View} view @param {State} state */
 function counts(view, state) {
   const [x, y] = legendAt(view);
   const wheel = wheelPlaced(view.run.bits, 104, 160, 58);
@@ -47,6 +54,7 @@ const ROOM = 250;
 const CALLERS = 280;
 const GAP = 24;
 
+/** @param {View} view */
 function callersAt({ width }, left, below, wheelEnd) {
   if (width < left + ROOM) return [24, Math.max(below, wheelEnd)];
   if (width >= Math.max(WORDS, left + ROOM + GAP) + CALLERS) {
@@ -55,6 +63,7 @@ function callersAt({ width }, left, below, wheelEnd) {
   return width >= left + ROOM + GAP + CALLERS ? [left + ROOM + GAP, 92] : [left + 4, below];
 }
 
+/** @param {View} view @param {State} state */
 function draw(view, state) {
   const box = (name, x, width) => wordBox(x, 40, width, String(held(state, name)),
     useOf(view.run, view.marked, wordNamed(NAME, name)), name);
@@ -73,6 +82,7 @@ function draw(view, state) {
 
 const plain = readersCaption(NAME);
 
+/** @param {View} view @param {State} state */
 function caption(view, state) {
   const { text } = plain(view, state);
   if (!state.queue.length) return { text };
@@ -80,6 +90,7 @@ function caption(view, state) {
   return { text: `${text} ${announced}` };
 }
 
+/** @param {View} view */
 const leastWidth = (view) => (hasWheel(view.run.bits) ? 494 : 380);
 
 export const rwFifo = {

@@ -9,6 +9,9 @@ import {
 } from './read_write.js';
 import { picture, useOf, wordBox } from './shapes.js';
 
+/** @typedef {import('../machine/machine.js').AnyState} State */
+/** @typedef {import('../model/session.js').View} View */
+
 const T = translated('rwSimple', {
   title: 'Simple read-write lock',
 });
@@ -16,11 +19,13 @@ const T = translated('rwSimple', {
 const NAME = 'rw-simple';
 const READERS = 'readers';
 const FLAG = 'flag';
+/** @param {State} state */
 const held = (state, name) => state.word(wordNamed(NAME, name));
 
 const BESIDE = 600;
 
 // The monitor is beside the room, or below it if the picture is narrow.
+/** @param {View} view @param {State} state */
 function draw(view, state) {
   const box = (name, x) => wordBox(x, 40, 108, String(held(state, name)),
     useOf(view.run, view.marked, wordNamed(NAME, name)), name);

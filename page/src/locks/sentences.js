@@ -6,7 +6,10 @@ import { say, texts } from '../texts/texts.js';
 import { kindOf } from '../model/kinds.js';
 import { lockOf } from './locks.js';
 
+/** @typedef {import('../model/session.js').View} View */
+
 // What fills the places of a sentence. A word's place has its value after the move.
+/** @param {View} view */
 function valuesOf(view, move) {
   const { run, names } = view;
   const { records } = run;
@@ -21,6 +24,7 @@ function valuesOf(view, move) {
   };
 }
 
+/** @param {View} view */
 export function sentence(view, move) {
   const { run } = view;
   const { records } = run;
@@ -32,15 +36,17 @@ export function sentence(view, move) {
 }
 
 // What the move wrote, as `word = value`, and what was there; a section may write two.
+/** @param {View} view */
 export function writtenWords(view, move, useOf) {
   const { run } = view;
   const { records } = run;
   const lock = lockOf(run);
+  /** @type {[number, bigint, bigint][]} */
   const words = [
     [records.touched(move), records.left(move), records.found(move)],
     [records.alsoChanged(move), records.alsoLeft(move), records.alsoFound(move)],
   ];
   return words.filter(([word]) => word !== NO_WORD && useOf(run, move, word) === 'changed')
-    .map(([word, left, found]) => texts.wrote(lock.wordName(word, view),
-      ...[left, found].map((value) => lock.valueText(word, value, view))));
+    .map(([word, ...values]) => texts.wrote(lock.wordName(word, view),
+      ...values.map((value) => lock.valueText(word, value, view))));
 }

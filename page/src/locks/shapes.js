@@ -7,14 +7,20 @@ import { isCovered } from '../model/remarks.js';
 import { standingAfter } from '../model/spans.js';
 import { fitted } from './fitting.js';
 
+/** @typedef {import('../machine/machine.js').Records} Records */
+/** @typedef {import('../model/run.js').Run} Run */
+/** @typedef {import('../model/session.js').View} View */
+
 // The thread of the move that is shown, and of a refused one.
 export const movingThread = ({ run, move, refused }) => (refused ? run.refusal.thread
   : move ? run.records.thread(move) : null);
 
 // How a picture shows a thread's standing: by a class, and always also by a word or a pattern.
+/** @param {Run} run */
 export const standingOf = (run, move, thread) => standingAfter(run, run.lastMoveOf(thread, move));
 
 // The same, unless a question asks for it.
+/** @param {View} view */
 export const standingIn = (view, thread) => (isCovered(view, 'standing') ? 'asked'
   : standingOf(view.run, view.move, thread));
 
@@ -22,6 +28,7 @@ const HATCHED = { queue: 'hatch', reads: 'ruled' };
 export const fillOf = (standing) => (HATCHED[standing] ? `url(#${HATCHED[standing]})` : '');
 
 // A sign for what has to be in view: the thread of the move that is shown.
+/** @param {View} view */
 export const movingMark = (view, thread) => thread === movingThread(view) && 'data-moving';
 
 // Whether the thread entered with the move that is shown.
@@ -38,6 +45,7 @@ export function token(x, y, view, thread, radius = 13) {
 }
 
 // Threads at places: of more than `most` some are folded.
+/** @param {View} view */
 export function tokensAt(view, threads, most, placeOf) {
   const moving = movingThread(view);
   return folding(threads, (one) => one === moving, most).map(({ one, folded }, i) => {
@@ -46,6 +54,7 @@ export function tokensAt(view, threads, most, placeOf) {
   });
 }
 
+/** @param {View} view */
 export const foldedToken = (x, y, view, folded) => html`<g class="fold">
   <title>${view.names.list(folded)}</title><rect class="own" x="${x - 15}" y="${y - 13}"
     width="30" height="26" rx="6"/><text class="note" x="${x}" y="${y + 4.5}"
@@ -65,6 +74,7 @@ export function wordBox(x, y, width, value, use, label = '') {
 }
 
 // How the move used a word: 'changed', 'read' or ''.
+/** @param {Run} run */
 export function useOf(run, move, word) {
   if (!move) return '';
   const { records } = run;
@@ -75,9 +85,24 @@ export function useOf(run, move, word) {
 
 // The steps that count as a change, even if they write the value that the word had.
 const WRITING = ['write', 'swap', 'add'];
+/** @param {Records} records */
 const writes = (records, move) => WRITING.includes(MOVES[records.action(move)]);
 
-// A picture as wide as the view. Its `height` is how tall it is on the screen.
+/**
+ * A picture, how tall it is on the screen, what it shows in words, and what is written below it.
+ * @typedef {import('../lib/markup.js').Markup & {height: number, label: string, note?: string}}
+ *   Picture
+ */
+
+/**
+ * A picture as wide as the view.
+ * @param {import('../model/session.js').View} view
+ * @param {number} height
+ * @param {string} label
+ * @param {import('../lib/markup.js').Markup} body
+ * @returns {Picture}
+ */
+/** @param {View} view */
 export function picture(view, height, label, body) {
   const { width, scale } = view;
   const drawn = html`<svg viewBox="0 0 ${width} ${height}" width="${width * scale}"

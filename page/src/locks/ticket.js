@@ -11,6 +11,9 @@ import { firstFitting } from './fitting.js';
 import { foldedToken, movingThread, picture, token, useOf, wordBox } from './shapes.js';
 import { handLegend, HANDS, hasWheel, wheelOf, wheelPlaced } from './wheel.js';
 
+/** @typedef {import('../machine/machine.js').AnyState} State */
+/** @typedef {import('../model/session.js').View} View */
+
 const NAME = 'ticket';
 const NEXT_TICKET = 'next_ticket';
 const NOW_SERVING = 'now_serving';
@@ -34,15 +37,18 @@ const CELL = 74;
 const CELL_ROW = 92;
 
 const wordName = (word) => wordNames(NAME)[word];
+/** @param {State} state */
 const held = (state, name) => state.word(wordNamed(NAME, name));
 const valueText = (_, value) => String(value);
 
 // Who has a ticket, in the order of the queue that the machine names.
+/** @param {State} state */
 const holdersOfTickets = (state) => state.queue.map((thread) => ({
   thread, number: state.phaseNumber(thread), name: OWN_VARIABLE[PHASES[state.phase(thread)]],
 }));
 
 // Both words, beside each other or one below the other.
+/** @param {View} view @param {State} state */
 function words(view, state, x, beside, y) {
   const box = (name, at, y) => wordBox(at, y, 112, String(held(state, name)),
     useOf(view.run, view.marked, wordNamed(NAME, name)), name);
@@ -51,6 +57,7 @@ function words(view, state, x, beside, y) {
 }
 
 // The tickets, of which those between are folded if there are more than have room.
+/** @param {View} view @param {State} state */
 function tickets(view, state, most) {
   const moving = movingThread(view);
   return folding(holdersOfTickets(state), ({ thread }) => thread === moving, most);
@@ -65,6 +72,7 @@ const OWN_ROW = 34;
 const OWN_COLUMN = 176;
 
 // In rows of one or of two.
+/** @param {View} view */
 function ownVariables(view, all, left, top, inRow) {
   return all.map(({ one, folded }, i) => {
     const x = left + OWN_COLUMN * (i % inRow);
@@ -86,6 +94,7 @@ const LEGEND_BESIDE = 640;
 // Narrower than this, words and variables are below the wheel.
 const SLIM = 460;
 
+/** @param {View} view @param {State} state */
 function narrow(view, state) {
   const isSlim = view.width < SLIM;
   const middle = isSlim ? 122 : 150;
@@ -116,6 +125,7 @@ function narrow(view, state) {
 }
 
 // Wide words: the tickets that are out, one cell each, up to the next one.
+/** @param {View} view */
 function cell(view, { thread, number }, x, y) {
   const middle = x + (CELL - 8) / 2;
   const next = thread === undefined;
@@ -130,23 +140,26 @@ function cell(view, { thread, number }, x, y) {
 }
 
 // A place for tickets that are folded.
+/** @param {View} view */
 const foldedCell = (view, folded, x, y) => html`
   ${foldedToken(x + (CELL - 8) / 2, y + 17, view, folded.map(({ thread }) => thread))}
   <text class="note" x="${x + (CELL - 8) / 2}" y="${y + 52}"
     text-anchor="middle">${texts.folded(folded.length)}</text>`;
 
+/** @param {View} view @param {State} state */
 function strip(view, state, top) {
   const inRow = Math.max(1, Math.floor((view.width - 48) / CELL));
   const rows = Math.max(1, Math.floor((view.height - top - 24) / CELL_ROW));
   const all = tickets(view, state, view.tight ? Math.max(3, inRow * rows - 1) : Infinity);
   const cells = [...all, { one: { number: held(state, NEXT_TICKET) } }];
   const drawn = cells.map(({ one, folded }, i) => {
-    const at = [24 + CELL * (i % inRow), top + CELL_ROW * Math.floor(i / inRow)];
-    return folded ? foldedCell(view, folded, ...at) : cell(view, one, ...at);
+    const [x, y] = [24 + CELL * (i % inRow), top + CELL_ROW * Math.floor(i / inRow)];
+    return folded ? foldedCell(view, folded, x, y) : cell(view, one, x, y);
   });
   return { drawn, height: CELL_ROW * Math.ceil(cells.length / inRow) };
 }
 
+/** @param {View} view @param {State} state */
 function served(view, state) {
   const thread = state.queue.find((one) => PHASES[state.phase(one)] === 'PassOn');
   if (thread === undefined) return null;
@@ -155,6 +168,7 @@ function served(view, state) {
     <text class="note" x="352" y="84" text-anchor="middle">${whose}</text>`;
 }
 
+/** @param {View} view @param {State} state */
 function wide(view, state) {
   const box = (name, x) => wordBox(x, 40, 120, String(held(state, name)),
     useOf(view.run, view.marked, wordNamed(NAME, name)), name);
@@ -166,8 +180,10 @@ function wide(view, state) {
       ${drawn}${served(view, state)}`);
 }
 
+/** @param {View} view @param {State} state */
 const draw = (view, state) => (hasWheel(view.run.bits) ? narrow(view, state) : wide(view, state));
 
+/** @param {View} view @param {State} state */
 function caption(view, state) {
   const next = held(state, NEXT_TICKET);
   const serving = held(state, NOW_SERVING);
@@ -182,6 +198,7 @@ function caption(view, state) {
 
 const mark = ({ run }, move) => String(run.records.found(move));
 
+/** @param {View} view */
 const leastWidth = (view) => (hasWheel(view.run.bits) ? 466 : 446);
 
 export const ticket = {

@@ -26,12 +26,30 @@ function growBy(memory, pages) {
 // Moves are lines, so a text has no more of them.
 const recordsAsked = (text) => Math.min(linesIn(text), MOST_MOVES);
 
+/**
+ * What the module exports; page/MODULE.md says what each does.
+ * @typedef {(...numbers: bigint[]) => bigint} Call
+ * @typedef {object} Exports
+ * @property {WebAssembly.Memory} memory
+ * @property {WebAssembly.Global} __heap_base
+ * @property {Call} play
+ * @property {Call} stops_at
+ * @property {Call} expected
+ * @property {Call} find_moment
+ * @property {Call} soon
+ * @property {Call} kinds
+ * @property {Call} kind_text
+ */
+
 export class Machine {
+  /** @param {BufferSource} module */
   constructor(module) {
     const { exports } = new WebAssembly.Instance(new WebAssembly.Module(module));
-    this.exports = exports;
+    this.exports = /** @type {Exports} */ (exports);
+    // This one can play whatever is asked.
+    this.stored = false;
     // The next multiple of 8, so that what is put there begins with a whole word.
-    this.base = (Number(exports.__heap_base.value) + 7) & ~7;
+    this.base = (Number(this.exports.__heap_base.value) + 7) & ~7;
     this.text = null;
   }
 
@@ -69,7 +87,7 @@ export class Machine {
     this.text = null;
     const asked = [this.base, bytes.length, isMove].map(BigInt);
     const column = Number(this.exports.stops_at(...asked));
-    return column ? { column, expected: EXPECTED[this.exports.expected(...asked)] } : null;
+    return column ? { column, expected: EXPECTED[Number(this.exports.expected(...asked))] } : null;
   }
 }
 
@@ -92,8 +110,14 @@ export const answerInLines = (state, records, lineNow) => ({
 
 const threadAt = (thread) => THREADS_AT + THREAD_BYTES * thread;
 
+/**
+ * A state, as the machine has it or as it is read off the records.
+ * @typedef {State | import('../model/state_after.js').StateAfter} AnyState
+ */
+
 // The state after the moves played, or the fault of a text.
 export class State {
+  /** @param {Uint8Array} bytes */
   constructor(bytes) {
     this.bytes = bytes;
     this.view = new DataView(bytes.buffer, bytes.byteOffset, bytes.byteLength);
@@ -126,6 +150,7 @@ export class State {
 
 // The records of all moves played. Moves are counted from 1.
 export class Records {
+  /** @param {Uint8Array} bytes */
   constructor(bytes) {
     this.bytes = bytes;
     this.view = new DataView(bytes.buffer, bytes.byteOffset, bytes.byteLength);

@@ -5,6 +5,9 @@
 import { placeAfter } from '../lib/ascending.js';
 import { NO_WORD, OUTCOME } from '../machine/codes.js';
 
+/** @typedef {import('../machine/machine.js').Records} Records */
+/** @typedef {import('./run.js').Run} Run */
+
 // The words whose last change ended a wait in this phase. A section's are in its line of code; a
 // step of one operation looks at the word that its record names.
 function watchedWords(lines, wordNames, phase, touched) {
@@ -12,6 +15,7 @@ function watchedWords(lines, wordNames, phase, touched) {
   return line.words.length ? line.words.map((name) => wordNames.indexOf(name)) : [touched];
 }
 
+/** @param {Records} records */
 function noteChanges(records, move, changedAt) {
   if (records.touched(move) !== NO_WORD && records.left(move) !== records.found(move)) {
     changedAt.set(records.touched(move), move);
@@ -20,6 +24,7 @@ function noteChanges(records, move, changedAt) {
 }
 
 // The move with which the wait of the thread began; 0 if it does not wait after this move.
+/** @param {Records} records */
 function waitingSince(records, move, since) {
   if (!records.waits(move)) return 0;
   return records.outcome(move) === OUTCOME.waits && since ? since : move;
@@ -27,6 +32,7 @@ function waitingSince(records, move, since) {
 
 // Arrows {from, to} in the order of `to`. `awaited` has the waiting lines of the lock's code by
 // phase.
+/** @param {Run} run */
 export function arrowsOf(run, awaited, wordNames) {
   const { records } = run;
   const arrows = [];

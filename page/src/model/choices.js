@@ -3,6 +3,8 @@
 import { CALLS, MOST_BYTES, MOST_MOVES, MOVES } from '../machine/codes.js';
 import { ownWords } from '../machine/locks_code.js';
 
+/** @typedef {import('../machine/machine.js').AnyState} State */
+
 const LONGEST_LINE = 32;
 
 // Whether one line more stays within what a schedule may have.
@@ -11,6 +13,7 @@ export function hasRoom({ move, run }) {
 }
 
 // The moves that the machine accepts next from a thread, as words of a schedule.
+/** @param {State} state */
 function acceptedMoves(state, thread) {
   const due = state.dueStep(thread);
   if (due) return [{ word: MOVES[due], look: 'due' }];

@@ -4,6 +4,8 @@
 import { LOCK_NAMES, OUTCOMES } from '../machine/codes.js';
 import { holdersText, moveText, queueText } from './report.js';
 
+/** @typedef {import('./run.js').Run} Run */
+
 // The two locks whose calls are the same.
 const OTHER = { 'rw-simple': 'rw-fifo', 'rw-fifo': 'rw-simple' };
 // Longer runs are not compared with the other lock: they might be replayed too often.
@@ -22,10 +24,12 @@ export function commonMoves(one, other) {
   return move;
 }
 
+/** @param {Run} run */
 export const otherLock = (run) => run.hasLock && run.count <= MOST_MOVES
   && OTHER[LOCK_NAMES[run.kind]];
 
 // What the report says of a move, without its number.
+/** @param {Run} run */
 function said(run, move) {
   const state = run.state(move);
   const outcome = OUTCOMES[run.records.outcome(move)];
@@ -33,6 +37,7 @@ function said(run, move) {
 }
 
 // The first move here after which the two differ; 0 if none does. `at` is as above.
+/** @param {Run} run */
 export function firstDifference(run, other, at) {
   for (let move = 1; move <= run.count; move += 1) {
     const there = at(move);

@@ -8,6 +8,8 @@ import { ANSWER, LOCK_NAMES } from '../machine/codes.js';
 import { fill, say, texts } from '../texts/texts.js';
 import { unseenAdvice } from './unseen_signs.js';
 
+/** @typedef {import('./run.js').Run} Run */
+
 const T = texts.faults;
 
 const could = (what) => say(T.could, { could: what });
@@ -17,7 +19,11 @@ const headerFault = (says, mended = null) => ({ say: [says, could(T.header)], me
 // A line that cannot be read, with the word at which it stops.
 class Stopped {
   constructor(machine, line, isMove) {
-    Object.assign(this, { machine, isMove, ...machine.stop(line, isMove) });
+    this.machine = machine;
+    this.isMove = isMove;
+    const { column, expected } = machine.stop(line, isMove);
+    this.column = column;
+    this.expected = expected;
     this.words = line.split(' ');
     // A word that is missing would be after one blank more.
     this.at = `${line} `.slice(0, this.column - 1).split(' ').length - 1;
@@ -144,6 +150,7 @@ const OF_TEXT = {
 
 // {line, say: sentences, mended: the line that could be there, returns: whether carriage returns
 // are what is wrong}
+/** @param {Run} run */
 export function faultAdvice(run, ownWords) {
   const { fault, text, machine } = run;
   if (OF_TEXT[fault.name]) return OF_TEXT[fault.name](fault);

@@ -4,6 +4,8 @@
 import { LOCK_NAMES } from '../machine/codes.js';
 import { translated } from '../texts/language.js';
 
+/** @typedef {import('./run.js').Run} Run */
+
 const tables = {};
 
 // {lock: [{name, sketch, says}, ..]}, before anything is drawn.
@@ -19,9 +21,11 @@ export function learnKinds(kinds) {
 // By the lock's name in schedules.
 export const kindsOf = (lock) => tables[lock];
 
+/** @param {Run} run */
 export const kindOf = (run, move) => kindsOf(LOCK_NAMES[run.kind])[run.records.kind(move)];
 
 // The first move of a run that is a transition of this kind, or 0.
+/** @param {Run} run */
 export function firstOf(run, kind) {
   const moves = Array.from({ length: run.count }, (_, at) => at + 1);
   return moves.find((move) => kindOf(run, move) === kind) ?? 0;

@@ -6,6 +6,8 @@ import { askedLanguage } from '../texts/language.js';
 import { texts } from '../texts/texts.js';
 import { isLooksAlone, looksText } from './looks.js';
 
+/** @typedef {import('./session.js').Session} Session */
+
 const MOST_IN_LINK = 24000;
 
 // What comes after the schedule: the move, the language if the address asked for one, and what the
@@ -16,14 +18,33 @@ export function endOf(place) {
 }
 
 // Null for a schedule that is too long.
+/** @param {Session} session */
 export function fragmentOf(session) {
   const { lesson, held, place } = session;
   if (lesson) return `#lesson=${lesson}${endOf(place)}`;
   return held.length > MOST_IN_LINK ? null : `#schedule=${toLink(held)}${endOf(place)}`;
 }
 
-// {lesson, kept or text, move}, with moves to go on with and whether the run is compared then, if
-// that was asked for; or {wrong: what is wrong with it}; null for no fragment.
+/**
+ * What a link asks for: one of a lesson, the name of a kept schedule and a text, and a move; or
+ * what is wrong with it. `play` has moves to go on with, `compare` says whether the run is compared
+ * then, and `cut` whether the link has no end.
+ * @typedef {object} Asked
+ * @property {string} [lesson]
+ * @property {string} [kept]
+ * @property {Uint8Array} [text]
+ * @property {number} [move]
+ * @property {boolean} [cut]
+ * @property {string} [play]
+ * @property {boolean} [compare]
+ * @property {string} [wrong]
+ */
+
+/**
+ * Null for no fragment.
+ * @param {string} fragment
+ * @returns {Asked | null}
+ */
 export function readFragment(fragment) {
   const parts = new URLSearchParams(fragment.replace(/^#/, ''));
   const move = Number(parts.get('move') ?? 0);

@@ -3,7 +3,10 @@
 
 import { IN_QUEUE, NO_WORD } from '../machine/codes.js';
 
+/** @typedef {import('../machine/machine.js').Records} Records */
+
 // Moves by what `keyOf` gives of each.
+/** @param {Records} records */
 function movesBy(records, keyOf) {
   const moves = new Map();
   for (let move = 1; move <= records.count; move += 1) {
@@ -15,15 +18,18 @@ function movesBy(records, keyOf) {
   return moves;
 }
 
+/** @param {Records} records */
 export const movesByThread = (records) => movesBy(records, (move) => records.thread(move));
 
 // By the word that was touched, and by the second one that a section changed.
+/** @param {Records} records */
 export const movesByWord = (records) => ({
   touched: movesBy(records, (move) => records.touched(move)),
   alsoChanged: movesBy(records, (move) => records.alsoChanged(move)),
 });
 
 // By move: the one with which its thread joined the queue in which it is afterwards; else 0.
+/** @param {Records} records */
 export function joinedByMove(records) {
   const joined = new Uint32Array(records.count + 1);
   const before = new Uint32Array(256);

@@ -5,8 +5,11 @@ import { LOCK_NAMES } from '../machine/codes.js';
 import { findNext, FOUND } from '../machine/search.js';
 import { kindsOf } from './kinds.js';
 
+/** @typedef {import('./run.js').Run} Run */
+
 // Of each kind that can be reached its name and the moves to it, a nearest one first; and whether
 // no other kind can be.
+/** @param {Run} run */
 function searched(machine, run, move) {
   const kinds = kindsOf(LOCK_NAMES[run.kind])
     .map(({ name }, kind) => ({ name, ...findNext(machine, run, move, kind) }));

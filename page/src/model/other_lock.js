@@ -19,6 +19,7 @@ const atFirst = ({ begun }, thread) => ({
 
 // A guess at what comes of a move there: the same as here, unless the last move of this kind there
 // ended in another way.
+/** @param {Run} run */
 function guess(run, move, kind, there) {
   const here = after(run, move);
   const word = moveText(run, move).split(' ')[1];
@@ -30,9 +31,13 @@ function guess(run, move, kind, there) {
 // there on.
 class OtherSchedule {
   constructor(run, known) {
-    const threads = Array.from({ length: run.threads }, (_, thread) => atFirst(known, thread));
+    this.run = run;
+    this.known = known;
+    this.threads = Array.from({ length: run.threads }, (_, thread) => atFirst(known, thread));
+    this.lines = [];
     // What came of the last move of each kind there: of a call, or of a step from a phase.
-    Object.assign(this, { run, known, threads, lines: [], seen: new Map(), follows: true });
+    this.seen = new Map();
+    this.follows = true;
   }
 
   // The thread takes the turn that it has here with a move.
@@ -50,10 +55,12 @@ class OtherSchedule {
 }
 
 const bytesOf = (lines) => new TextEncoder().encode([...lines, ''].join('\n'));
+/** @param {Run} run */
 const headerOf = (run) => `lock ${otherLock(run)} threads ${run.threads} bits ${run.bits}`;
 
 // {run, at}: the schedule of the same turns on the other lock, and for each move here how many
 // moves there have been made by then.
+/** @param {Run} run */
 function attempt(machine, run, known) {
   const there = new OtherSchedule(run, known);
   const at = [0];
@@ -68,6 +75,7 @@ function attempt(machine, run, known) {
 }
 
 // `before` is a run that was compared before, which may begin in the same way.
+/** @param {Run} run */
 export function onOtherLock(machine, run, before) {
   const header = bytesOf([headerOf(run)]);
   let known = before && beginsWith(before.text, header) ? before

@@ -6,6 +6,8 @@
 import { OUTCOMES } from '../machine/codes.js';
 import { holdersText, queueText } from './report.js';
 
+/** @typedef {import('./run.js').Run} Run */
+
 export const KINDS = ['outcome', 'holders', 'queue'];
 // Longer schedules are asked for their first moves.
 const MOST_ASKED = 400;
@@ -17,6 +19,7 @@ export const truthOf = {
 };
 
 // What may be asked of a move: {kind, move, truth, same: whether it is as before}.
+/** @param {Run} run */
 function questionOf(run, move, kind) {
   const truth = truthOf[kind](run, move);
   const same = kind === 'outcome' ? truth === 'moved' : truth === truthOf[kind](run, move - 1);
@@ -24,6 +27,7 @@ function questionOf(run, move, kind) {
 }
 
 // One question for each step, first of what changes, and of each kind in turn.
+/** @param {Run} run */
 function candidates(run) {
   const found = [];
   for (let move = 1; move <= Math.min(run.count, MOST_ASKED); move += 1) {
@@ -55,12 +59,13 @@ function tooFrequent(questions) {
 function balanced(questions) {
   const left = [...questions];
   for (let test = tooFrequent(left); test; test = tooFrequent(left)) {
-    left.splice(left.findLastIndex(test), 1);
+    left.splice(left.map(test).lastIndexOf(true), 1);
   }
   return left;
 }
 
 // By move.
+/** @param {Run} run */
 export function questionsOf(run) {
   const all = run.hasLock ? candidates(run) : [];
   const kept = KINDS.flatMap((kind) => balanced(all.filter((one) => one.kind === kind)));

@@ -6,6 +6,8 @@
 import { lettersOf } from '../lib/bytes.js';
 import { translatedText } from '../texts/language.js';
 
+/** @typedef {import('./session.js').View} View */
+
 const WHOLE = /^#! (?<what>title|learn) (?<text>.+)$/;
 const REMARK = /^#! (?<what>say|ask|answer|name) (?<number>0|[1-9][0-9]{0,4}) (?<text>.+)$/;
 // What a question hides up to its answer; one that does not say it hides `memory`.
@@ -76,9 +78,11 @@ function inLanguage(remarks) {
 }
 
 // Whether an answer is due: until it is shown, nothing beside its question says it.
+/** @param {View} view */
 export const isAsked = ({ remarks, move, answered, refused, whole }) => !answered && !refused
   && !whole && remarks.ask.has(move) && remarks.answer.has(move);
 
 // Whether a part is hidden until the answer is shown.
+/** @param {View} view */
 export const isCovered = (view, part) => isAsked(view)
   && (view.remarks.hide.get(view.move) ?? UNSAID).includes(part);

@@ -12,6 +12,8 @@ import { joinedByMove, movesByThread, movesByWord } from './move_lists.js';
 import { OwnedWords } from './owned_words.js';
 import { StateAfter } from './state_after.js';
 
+/** @typedef {import('../machine/machine.js').State} State */
+
 const RLOCK = CALLS.find((call) => MOVES[call] === 'rlock');
 // Faults that moves may come before.
 const LATE_FAULTS = ['BadLine', 'TooManyMoves'];
@@ -51,6 +53,11 @@ export class Run {
     this.refusal = this.hasLock && this.end.answer === ANSWER.refused
       ? refusalOf(this.end, text) : null;
     this.movesOf = movesByThread(this.records);
+    // Found when they are asked for.
+    this.first = null;
+    this.owners = null;
+    this.touches = null;
+    this.joins = null;
   }
 
   get kind() { return this.end.kind; }
@@ -117,9 +124,11 @@ export class Run {
   }
 }
 
+/** @param {State} state */
 const faultOf = (state) => ({ name: FAULTS[state.reason], line: state.line });
 
 // The refused move: what the machine said of it, and its line's two words.
+/** @param {State} state */
 function refusalOf(state, text) {
   const [thread, word] = lineOf(text, state.line).split(' ');
   const name = REFUSALS[state.reason];

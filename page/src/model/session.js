@@ -10,6 +10,39 @@ import { isCovered, remarksOf } from './remarks.js';
 import { runOf } from './run.js';
 import { BoundRemarks } from './stale_remarks.js';
 
+/**
+ * What texts and pictures are drawn from: a run at one of its places, and what is wished of it.
+ * @typedef {import('./run.js').Run} Run
+ * @typedef {object} Wishes
+ * @property {boolean} [answered] whether the answer to the move's question is shown
+ * @property {boolean} [hidden] whether what comes is hidden, since the quiz asks for it
+ * @property {boolean} [future] whether later moves are drawn too
+ * @property {number} [different] the first move that differs from the compared run's; 0 for none
+ * @property {number} [columns] how many columns both runs need
+ * @property {boolean} [compares] whether another run is beside it
+ * @property {{name: string, title: string} | null} [next] the lesson after this one
+ * @property {boolean} [blank] whether it is for a sheet that is to be filled in
+ * @property {boolean} [whole] whether nothing is hidden, as on paper
+ * @property {boolean} [tight] whether the picture has less room than it needs
+ * @property {number} [width] of a picture, in its own units
+ * @property {number} [height]
+ * @property {number} [scale] of the picture on the screen
+ * @property {boolean} [asks] whether the quiz asks for the next move
+ *
+ * @typedef {object} Shown
+ * @property {Run} run
+ * @property {number} move the last one that was made
+ * @property {number} place the same, or that of the refused move
+ * @property {boolean} refused whether the refused move is shown
+ * @property {number} marked the move whose words are marked; 0 for none
+ * @property {Names} names
+ * @property {ReturnType<typeof remarksOf>} remarks
+ * @property {{from: number, to: number}[]} arrows
+ * @property {number[]} arrowEnds
+ *
+ * @typedef {Shown & Wishes} View
+ */
+
 const NO_ARROWS = { arrows: [], arrowEnds: [] };
 
 export class Session {
@@ -96,7 +129,11 @@ export class Session {
     this.move = Math.min(this.run.count, this.place);
   }
 
-  // What texts and pictures are drawn from, of the move that is shown or of another one.
+  /**
+   * Of the move that is shown, or of another one.
+   * @param {Wishes} wishes
+   * @returns {View}
+   */
   view(wishes = {}, wanted = this.place) {
     const { run, names, remarks, arrows } = this;
     const place = this.placeNear(wanted);

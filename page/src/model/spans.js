@@ -5,7 +5,10 @@
 import { placeAfter } from '../lib/ascending.js';
 import { AS_WRITER, HOLDS, IN_QUEUE } from '../machine/codes.js';
 
+/** @typedef {import('./run.js').Run} Run */
+
 // One of holds, reads, writes, queue, call, rest.
+/** @param {Run} run */
 export function standingAfter(run, move) {
   if (!move) return 'rest';
   const standing = run.records.standing(move);
@@ -17,10 +20,12 @@ export function standingAfter(run, move) {
   return run.records.due(move) ? 'call' : 'rest';
 }
 
+/** @param {Run} run */
 export const unlinkedAfter = (run, move) => move > 0 && run.records.isUnlinked(move);
 
 // Stretches {kind, from, to} of one thread over moves `from` to `to`, where something is the same
 // from move to move. One that began before `from` begins there.
+/** @param {Run} run */
 function stretches(run, thread, from, to, kindAfter) {
   const moves = run.movesOf.get(thread) ?? [];
   let place = placeAfter(moves, from - 1);
@@ -36,9 +41,11 @@ function stretches(run, thread, from, to, kindAfter) {
   return found;
 }
 
+/** @param {Run} run */
 export const spansOf = (run, thread, from, to) => stretches(run, thread, from, to, standingAfter)
   .filter(({ kind }) => kind !== 'rest');
 
+/** @param {Run} run */
 export function unlinkedSpans(run, thread, from, to) {
   return stretches(run, thread, from, to, unlinkedAfter).filter(({ kind }) => kind);
 }

@@ -5,11 +5,14 @@
 import { lettersOf } from '../lib/bytes.js';
 import { remarkOf } from './remarks.js';
 
+/** @typedef {import('./run.js').Run} Run */
+
 const FNV = 16777619;
 const HASH = '#'.charCodeAt(0);
 const SEEDS = [2166136261, 40389];
 
 // For each count of moves a mark of the header and the moves up to it, as numbers of 32 bits.
+/** @param {Run} run */
 function prefixMarks(run) {
   const marks = SEEDS.map(() => new Uint32Array(run.count + 1));
   SEEDS.forEach((seed, lane) => {
@@ -27,6 +30,7 @@ function prefixMarks(run) {
 }
 
 // The lines of a text that belong to moves: {line, key, moves}; of title and story `moves` is all.
+/** @param {Run} run */
 function boundLines(run) {
   if (!run.text.includes(HASH)) return [];
   const first = run.count ? run.records.line(1) : Infinity;

@@ -12,6 +12,9 @@ export class StateAfter {
   constructor(run, move) {
     this.run = run;
     this.move = move;
+    // By thread its last move; found when asked for, who holds and who is in the queue.
+    this.inside = null;
+    this.waiting = null;
     this.last = Array.from({ length: run.threads }, (_, thread) => run.lastMoveOf(thread, move));
   }
 

@@ -5,6 +5,8 @@ import { byId } from '../lib/elements.js';
 import { looks, PARTS, partsShown } from '../model/looks.js';
 import { LOCKS } from '../locks/locks.js';
 
+/** @typedef {import('../model/run.js').Run} Run */
+
 const HALL = { share: 0.025, smallest: 14.5 };
 const PROJECTOR = { width: 1700, height: 900, zoom: 1.25 };
 const SIDE = 330;
@@ -38,6 +40,7 @@ export function zoomNow() {
 // In a hall a lock of several records needs the whole width for them.
 const isWide = ({ hasLock, threads, kind }) => hasLock && threads > 2 && LOCKS[kind].hasRecords;
 
+/** @param {Run} run */
 function arrangementOf(width, height, parts, isPlain, run) {
   if (width < PHONE && !looks.hall) return 'phone';
   if (isPlain && height < LOWEST && parts.length === PARTS.length) return 'low';
@@ -55,6 +58,7 @@ function comparedHeight(height, threads) {
 }
 
 // How tall the lanes of a run may be.
+/** @param {Run} run */
 export function lanesHeight(run) {
   const height = innerHeight / zoomNow();
   const { layout } = document.body.dataset;
@@ -87,7 +91,7 @@ export function arrange({ mode, session, comparing: { isOn } }) {
   const isPlain = mode === 'lessons' && !looks.hall && !isOn;
   const layout = arrangementOf(width, innerHeight / zoom, parts, isPlain, session.run);
   if (body.style.getPropertyValue('--zoom') !== String(zoom)) {
-    body.style.setProperty('--zoom', zoom);
+    body.style.setProperty('--zoom', String(zoom));
   }
   const tools = Object.keys(TOOLS).find((name) => whole >= TOOLS[name]);
   for (const [name, value] of Object.entries({ layout, tools })) {

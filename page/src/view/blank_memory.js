@@ -6,6 +6,8 @@ import { texts } from '../texts/texts.js';
 import { widthOf } from '../locks/fitting.js';
 import { lockOf } from '../locks/locks.js';
 
+/** @typedef {import('../model/session.js').View} View */
+
 const T = texts.print;
 const BOX = { height: 34, least: 74, gap: 22 };
 const RECORD = { width: 150, height: 104, gap: 62 };
@@ -18,6 +20,7 @@ const box = (x, y, width) => html`<rect class="word" x="${x}" y="${y}" width="${
   height="${BOX.height}" rx="6"/>`;
 
 // The words that are no thread's, in a row.
+/** @param {View} view */
 function words(view) {
   const { run } = view;
   const lock = lockOf(run);
@@ -34,6 +37,7 @@ function words(view) {
   return drawn;
 }
 
+/** @param {View} view */
 function record(view, thread, at) {
   const x = 2 + at * (RECORD.width + RECORD.gap);
   const field = (name, y) => html`<text class="mono field" x="${x + 8}" y="${y + 22}">${name}</text>
@@ -53,6 +57,7 @@ function places(label, count, y, between) {
     ${between && at > 0 && html`<text class="note" x="${left - 19}" y="${y + 22}">→</text>`}`)}`;
 }
 
+/** @param {View} view */
 export function blankMemory(view, room) {
   const { run } = view;
   const count = lockOf(run).hasRecords ? run.threads : 0;

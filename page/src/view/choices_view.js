@@ -6,8 +6,12 @@ import { choicesOf, hasRoom } from '../model/choices.js';
 import { LOCKS } from '../locks/locks.js';
 import { movingThread, standingOf } from '../locks/shapes.js';
 
+/** @typedef {import('../model/session.js').Session} Session */
+/** @typedef {import('../model/session.js').View} View */
+
 const T = texts.play;
 
+/** @param {View} view */
 function threadRow(view, thread, choices) {
   const name = view.names.of(thread);
   const standing = standingOf(view.run, view.move, thread);
@@ -19,6 +23,7 @@ function threadRow(view, thread, choices) {
     <span class="who">${name}</span><span class="choices">${buttons}</span></li>`;
 }
 
+/** @param {Session} session */
 export function choicesView(session, every) {
   if (session.machine.stored) return html`<p class="hint">${T.noMachine}</p>`;
   if (!session.run.hasLock) return html`<p class="hint">${T.faulty}</p>`;

@@ -4,6 +4,9 @@ import { html } from '../lib/markup.js';
 import { MOVES, PHASES } from '../machine/codes.js';
 import { movingThread, standingIn } from '../locks/shapes.js';
 
+/** @typedef {import('../machine/machine.js').AnyState} State */
+/** @typedef {import('../model/session.js').View} View */
+
 // The phase or the call whose lines of code the move was; of a refused move the phase that is due.
 function madeLine({ run, move, refused }, state) {
   if (refused) return dueOf(run, state);
@@ -17,6 +20,7 @@ function dueOf({ refusal: { thread }, threads }, state) {
   return thread < threads && state.dueStep(thread) ? { phase: state.phase(thread) } : null;
 }
 
+/** @param {State} state */
 function threadsAt(state, phase, threads) {
   return Array.from({ length: threads }, (_, thread) => thread)
     .filter((thread) => state.phase(thread) === phase);
@@ -24,6 +28,7 @@ function threadsAt(state, phase, threads) {
 
 const MOST_MARKS = 5;
 
+/** @param {View} view */
 function marks(view, threads) {
   const shown = threads.slice(0, MOST_MARKS).map((thread) => {
     const standing = standingIn(view, thread);
@@ -43,12 +48,14 @@ function wasMade(line, made) {
 }
 
 // The lines of the move that is shown.
+/** @param {View} view @param {State} state */
 export function linesMade(view, state, lines) {
   const made = madeLine(view, state);
   return lines.filter((line) => wasMade(line, made));
 }
 
 // If a phase has several lines, its threads are at the first.
+/** @param {View} view */
 function codeLine(view, line, here, threads) {
   const phase = line.phase !== undefined && html`data-phase="${PHASES[line.phase]}"`;
   return html`<div class="code-line ${line.kind || 'plain'} ${here && 'here'}" ${phase}
@@ -56,6 +63,7 @@ function codeLine(view, line, here, threads) {
     <span class="discs">${marks(view, threads)}</span></div>`;
 }
 
+/** @param {View} view @param {State} state */
 export function codeView(view, state, lines) {
   const made = madeLine(view, state);
   return html`${lines.map((line, i) => {

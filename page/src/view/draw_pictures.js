@@ -1,7 +1,7 @@
 // Draws the pictures into the room that they have. The room may depend on what is drawn, so it is
 // measured again afterwards, and what it no longer fits is drawn anew.
 
-import { byId } from '../lib/elements.js';
+import { byId, inputOf } from '../lib/elements.js';
 import { show, write } from '../lib/markup.js';
 import { texts } from '../texts/texts.js';
 import { looks } from '../model/looks.js';
@@ -13,9 +13,15 @@ import { layOutLanes } from './layout.js';
 import { legend } from './legend.js';
 import { sliderPicture } from './slider.js';
 
+/** @typedef {import('../model/run.js').Run} Run */
+/** @typedef {import('../machine/machine.js').AnyState} State */
+/** @typedef {import('../model/session.js').View} View */
+/** @typedef {import('./layout.js').Layout} Layout */
+
 const ROUNDS = 4;
 
 // The sizes of the parts with pictures, of a page that shows this run.
+/** @param {Run} run */
 export function measured(run) {
   const size = (id) => {
     const { clientWidth: width, clientHeight: height } = byId(id);
@@ -88,10 +94,15 @@ function fitNow() {
   }
 }
 
+// How tall the first part of a box is; 0 if there is none, or a picture.
+function heightOfFirst({ firstElementChild: first }) {
+  return first instanceof HTMLElement ? first.offsetHeight : 0;
+}
+
 // As many lines of code as have room, each of them whole.
 function fitCode() {
   const box = byId('code-lines');
-  const line = box.firstElementChild?.offsetHeight;
+  const line = heightOfFirst(box);
   if (!line) return;
   const room = byId('code').clientHeight - box.offsetTop - EDGE;
   const most = `${Math.floor(room / line) * line}px`;
@@ -99,6 +110,7 @@ function fitCode() {
   if (box.scrollTop % line) box.scrollTop = Math.round(box.scrollTop / line) * line;
 }
 
+/** @param {View} view */
 function drawTime(page, view, room, reveals) {
   const box = byId('lanes');
   const layout = layOutLanes(view, page.mode === 'play', room, page.zoomed);
@@ -127,6 +139,7 @@ function foldedText({ run }, { lanes, laneHeight }, room) {
 
 // Where the lanes are scrolled to, so that the lane of the current move is in view with its
 // neighbours.
+/** @param {View} view */
 function laneInView(from, height, view, { lanes, laneHeight }) {
   const { run, move, refused } = view;
   const thread = refused ? run.refusal.thread : move && run.records.thread(move);
@@ -147,6 +160,7 @@ const NARROWEST = 300;
 const MANY_THREADS = 12;
 const SCALE_OF_MANY = 0.8;
 
+/** @param {View} view @param {State} state */
 export function pictureIn(size, lock, view, state) {
   const isLow = document.body.dataset.layout === 'low';
   const width = Math.max(isLow ? 0 : NARROWEST, size.width);
@@ -167,11 +181,13 @@ export function pictureIn(size, lock, view, state) {
 // So many words are read out; a lock of many threads has more.
 const MOST_READ = 33;
 
+/** @param {View} view @param {State} state */
 const wordsRead = (view, state) => Array.from(
   { length: Math.min(MOST_READ, view.run.end.wordCount) },
   (_, word) => texts.wordBecomes(lockOf(view.run).wordName(word, view),
     lockOf(view.run).valueText(word, state.word(word), view))).join(', ');
 
+/** @param {View} view @param {State} state */
 function drawMemory(part, view, state, size) {
   const picture = pictureIn(size, lockOf(view.run), view, state);
   show(byId(`${part}-picture`), picture);
@@ -180,11 +196,12 @@ function drawMemory(part, view, state, size) {
   write(byId(`${part}-note`), picture.note ?? '');
 }
 
+/** @param {View} view */
 function drawSlider(view, width) {
   show(byId('slider-picture'), sliderPicture(view, width));
-  const input = byId('slider');
-  input.max = view.run.last;
-  input.value = view.place;
+  const input = inputOf('slider');
+  input.max = String(view.run.last);
+  input.value = String(view.place);
   const { refused, run: { count }, move } = view;
   const { refused: { refused: word }, spoken, position } = texts;
   input.setAttribute('aria-valuetext', refused ? word : spoken.move(move, count));
@@ -200,7 +217,7 @@ function revealIn(box, selector) {
   const scale = outer.height / box.offsetHeight;
   const top = (first.top - outer.top) / scale + box.scrollTop;
   const height = (last.bottom - first.top) / scale;
-  const line = (box.firstElementChild?.offsetHeight ?? 0) || 1;
+  const line = heightOfFirst(box) || 1;
   const edge = box.id === 'code-lines' ? line : 0;
   const { scrollTop, clientHeight } = box;
   if (top - edge >= scrollTop && top + height + edge <= scrollTop + clientHeight) return;
@@ -209,6 +226,7 @@ function revealIn(box, selector) {
 }
 
 // Called last: the lane, the line of code, and what moves in memory are in view.
+/** @param {Layout} layout */
 function reveal(page, layout) {
   const lanes = byId('lanes');
   if (lanes.scrollTop !== layout.at) lanes.scrollTop = layout.at;

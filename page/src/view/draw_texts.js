@@ -16,16 +16,23 @@ import { moveView, questionView, spokenText, whoRows } from './move_view.js';
 import { endView, quizForm, resultView, scoreView } from './quiz_view.js';
 import { refusedView } from './refused_view.js';
 
+/** @typedef {import('../model/run.js').Run} Run */
+/** @typedef {import('../model/session.js').Session} Session */
+/** @typedef {import('../machine/machine.js').AnyState} State */
+/** @typedef {import('../model/session.js').View} View */
+
+/** @param {View} view @param {State} state */
 export function drawTexts(page, view, state) {
   const lines = page.session.lines[view.run.kind];
   drawCaption(page, view, state);
   show(byId('code-lines'), codeView(view, state, lines));
   const longest = Math.max(...lines.map(({ code }) => code.length));
-  byId('code').style.setProperty('--longest', longest);
+  byId('code').style.setProperty('--longest', String(longest));
   drawNow(page, view, state);
   drawBar(page, view, state, lines);
 }
 
+/** @param {View} view @param {State} state */
 function drawCaption(page, view, state) {
   const lock = lockOf(view.run);
   const caption = lock.caption(view, state);
@@ -38,10 +45,11 @@ function drawCaption(page, view, state) {
 }
 
 // In a hall and in a frame the move is in the bar, and the quiz too, if its part is not shown.
+/** @param {View} view @param {State} state */
 function drawBar(page, view, state, lines) {
   const isShown = looks.hall || looks.embed;
   const quiz = isShown && page.quiz.on && !partsShown().includes('now') && quizView(page, view);
-  const move = isShown && currentView({ ...view, asks: quiz?.form }, state, lines);
+  const move = isShown && currentView({ ...view, asks: Boolean(quiz && quiz.form) }, state, lines);
   show(byId('current'), html`${move}${quiz && html`<div class="bar-quiz">${quiz.score}${
     quiz.form}${quiz.came}</div>`}${isShown && lectureView(page)}`);
 }
@@ -57,6 +65,7 @@ function quizView({ quiz, session }, view) {
   };
 }
 
+/** @param {View} view @param {State} state */
 function drawNow(page, view, state) {
   const { quiz, session } = page;
   const facts = view.refused && refusalFacts(session);
@@ -73,6 +82,7 @@ function drawNow(page, view, state) {
 }
 
 // In a hall and in a frame: the move, its line of code, and its question.
+/** @param {View} view @param {State} state */
 function currentView(view, state, lines) {
   const { run, move, names, refused } = view;
   const [thread, word] = refused ? [run.refusal.thread, run.refusal.word]
@@ -83,6 +93,7 @@ function currentView(view, state, lines) {
     <code translate="no">${code}</code></p>${!view.asks && questionView(view)}`;
 }
 
+/** @param {Run} run */
 function lockText(run) {
   return texts.subtitle(lockOf(run).title, texts.threads(run.threads), run.bits);
 }
@@ -93,11 +104,13 @@ function branchTitle({ origin, run }) {
   return common && origin.title && texts.branchOf(origin.title, common);
 }
 
+/** @param {Session} session */
 export function titleOf(session) {
   const { remarks, lesson } = session;
   return remarks.title || lesson || branchTitle(session) || texts.untitled;
 }
 
+/** @param {Session} session */
 export function drawHead(session) {
   const { run } = session;
   const title = titleOf(session);

@@ -3,7 +3,7 @@
 // own.
 
 import { bytesOf, lettersOf, sameBytes } from '../lib/bytes.js';
-import { byId } from '../lib/elements.js';
+import { byId, elementOf } from '../lib/elements.js';
 import { html, show } from '../lib/markup.js';
 import { texts } from '../texts/texts.js';
 
@@ -16,7 +16,7 @@ export class Editor {
   // `changed(bytes, line)` is called after an edit, `moved(line)` when the caret goes to another
   // line.
   constructor(changed, moved) {
-    this.area = byId('text');
+    this.area = elementOf('text', HTMLTextAreaElement);
     this.gutter = byId('gutter');
     this.changed = changed;
     this.moved = moved;

@@ -8,6 +8,8 @@ import { blankMemory } from './blank_memory.js';
 import { codeView } from './code_view.js';
 import { blankLegend } from './legend.js';
 
+/** @typedef {import('../model/session.js').View} View */
+
 const T = texts.print;
 const ROOM = 460;
 const PICTURES = 2;
@@ -21,6 +23,7 @@ function row({ run: { records }, names }, move) {
   return html`<tr>${cells.map((cell) => html`<td>${cell}</td>`)}</tr>`;
 }
 
+/** @param {View} view */
 function table(view, { from, to }) {
   const heads = [T.move, T.thread, T.what, T.outcome, T.holds, T.queue];
   const rows = Array.from({ length: to - from + 1 }, (_, at) => row(view, from + at));
@@ -46,6 +49,7 @@ function picturedMoves({ remarks: { hide } }, { from, to }) {
   return [all[Math.floor(all.length / 3)], all[Math.floor(2 * all.length / 3)]];
 }
 
+/** @param {View} view */
 function figure(view, lines, plan) {
   const start = { ...view, move: 0, marked: 0, whole: true };
   const blanks = picturedMoves(view, plan).map((move) => {
@@ -56,6 +60,7 @@ function figure(view, lines, plan) {
     <div class="code"><h3>${T.code}</h3>${codeView(start, view.run.state(0), lines)}</div></div>`;
 }
 
+/** @param {View} view */
 export function exercise(view, lines, plan, strips) {
   return html`<p class="name-line"><span>${T.name}</span><span>${T.date}</span></p>
     <p class="task">${T.task}</p>${strips}

@@ -12,6 +12,10 @@ import { lockOf } from '../locks/locks.js';
 import { fillOf, standingIn } from '../locks/shapes.js';
 import { columnX, laneMiddle, LOW_LANE, NAME_EDGES, placeOf, placeX } from './layout.js';
 
+/** @typedef {import('../machine/machine.js').Records} Records */
+/** @typedef {import('../model/session.js').View} View */
+/** @typedef {import('./layout.js').Layout} Layout */
+
 const THICK = { call: 3, queue: 14, holds: 24, reads: 24, writes: 24 };
 const NAMED_SPANS = ['reads', 'writes'];
 const ROOM_FOR_WORD = 84;
@@ -24,9 +28,11 @@ const HIGHEST = 14;
 const LOOKS = ['read', 'swap', 'add', 'section'];
 
 const rounded = (number) => Math.round(number * 10) / 10;
+/** @param {Layout} layout */
 const future = (layout, move) => (move > layout.now ? 'future' : '');
 
 // A stretch in two parts: up to the current move, and the rest, which is drawn faint.
+/** @param {Layout} layout */
 function parts(layout, span) {
   const edge = (layout.here ?? layout.now) + (layout.asked ? 0 : 0.4);
   const from = Math.max(placeOf(layout, span.from), layout.origin - 0.6);
@@ -42,6 +48,7 @@ function parts(layout, span) {
 }
 
 // In the gap up to the thread's next mark, if it is wide enough.
+/** @param {View} view @param {Layout} layout */
 function spanText(view, layout, thread, span, middle) {
   const from = Math.max(span.from, layout.first - 0.5);
   const moves = view.run.movesOf.get(thread);
@@ -53,6 +60,7 @@ function spanText(view, layout, thread, span, middle) {
     y="${middle + 4.5}" text-anchor="middle">${texts.marks[span.kind]}</text>`;
 }
 
+/** @param {View} view @param {Layout} layout */
 function spanBar(view, layout, thread, span, middle) {
   const thick = Math.min(THICK[span.kind], layout.laneHeight * 0.8);
   const fill = fillOf(span.kind);
@@ -63,21 +71,24 @@ function spanBar(view, layout, thread, span, middle) {
   return html`${bars}${named && spanText(view, layout, thread, span, middle)}`;
 }
 
+/** @param {View} view @param {Layout} layout */
 function spanBars(view, layout, thread, middle) {
   return spansOf(view.run, thread, layout.first, layout.last)
     .map((span) => spanBar(view, layout, thread, span, middle));
 }
 
+/** @param {Layout} layout */
 function unlinkedLine(layout, span, y) {
   const pieces = parts(layout, span);
   const lines = pieces.map(({ x, width, style }) => html`<path class="unlinked ${style}"
     d="M${x} ${y}h${width}"/>`);
-  const [{ x, width, style }] = pieces.length ? pieces : [{ width: 0 }];
+  const [{ x, width, style }] = pieces.length ? pieces : [{ x: 0, width: 0, style: '' }];
   const named = width > ROOM_FOR_UNLINKED && layout.laneHeight >= LOW_LANE;
   return html`${lines}${named && html`<text class="unlinked-text ${style}" x="${x + 50}"
     y="${y + 2}">${texts.marks.unlinked}</text>`}`;
 }
 
+/** @param {View} view @param {Layout} layout */
 function unlinkedLines(view, layout, thread, middle) {
   const y = middle + Math.min(35, layout.laneHeight / 2 - 9);
   return unlinkedSpans(view.run, thread, layout.first, layout.last)
@@ -85,6 +96,7 @@ function unlinkedLines(view, layout, thread, middle) {
 }
 
 // A compare-and-swap that fails leaves the word as it found it.
+/** @param {Records} records */
 export const casFails = (records, move) => MOVES[records.action(move)] === 'cas'
   && records.left(move) === records.found(move);
 
@@ -100,6 +112,7 @@ const SHAPES = {
 };
 
 // The shape shows the outcome.
+/** @param {Records} records */
 function shape(records, move, x, y) {
   if (!casFails(records, move)) return SHAPES[records.outcome(move)](x, y);
   return html`<circle class="step fails" cx="${x}" cy="${y}" r="7.5"/>
@@ -107,6 +120,7 @@ function shape(records, move, x, y) {
 }
 
 // Below the mark: what was found, or what a section left.
+/** @param {View} view */
 function foundText(view, move) {
   const { records } = view.run;
   const word = MOVES[records.action(move)];
@@ -116,6 +130,7 @@ function foundText(view, move) {
 }
 
 // Above the mark: the call or the kind of step. In low lanes only the current move's is written.
+/** @param {View} view @param {Layout} layout */
 function label(view, layout, move, at, tall) {
   const { records } = view.run;
   const here = move === layout.now;
@@ -126,6 +141,7 @@ function label(view, layout, move, at, tall) {
     y="${Math.max(HIGHEST, at.y - (tall ? 20 : 13))}" text-anchor="middle">${word}</text>`;
 }
 
+/** @param {View} view @param {Layout} layout */
 function found(view, layout, move, at) {
   const fails = casFails(view.run.records, move);
   const text = move === layout.now && isCovered(view, 'facts') ? '?' : foundText(view, move);
@@ -134,6 +150,7 @@ function found(view, layout, move, at) {
   fitted(text, layout.column * FOUND_ROOM, 'small')}</text>`;
 }
 
+/** @param {View} view @param {Layout} layout */
 function moveMark(view, layout, move, middle) {
   const at = { x: rounded(columnX(layout, move)), y: middle };
   const tall = layout.laneHeight >= LOW_LANE && layout.column > NARROW;
@@ -154,11 +171,13 @@ function moveMark(view, layout, move, middle) {
 }
 
 // The last move that is drawn: later ones are, faintly, if the reader wants it.
+/** @param {View} view @param {Layout} layout */
 function lastDrawn(view, layout) {
   if (view.blank) return layout.first - 1;
   return view.hidden || !view.future ? Math.min(layout.now, layout.last) : layout.last;
 }
 
+/** @param {View} view @param {Layout} layout */
 function laneMoves(view, layout, thread, middle) {
   const moves = view.run.movesOf.get(thread) ?? [];
   const next = view.hidden ? Math.min(layout.last, layout.now + 1) : lastDrawn(view, layout);
@@ -168,6 +187,7 @@ function laneMoves(view, layout, thread, middle) {
 }
 
 // The refused move, crossed out, in the column after the last move.
+/** @param {View} view @param {Layout} layout */
 function refusedMark(view, layout, thread, middle) {
   const { refusal, last } = view.run;
   const shown = refusal?.thread === thread && layout.last >= last;
@@ -185,6 +205,7 @@ function refusedMark(view, layout, thread, middle) {
       text-anchor="middle">${texts.refused.refused}</text>`}</g>`;
 }
 
+/** @param {View} view @param {Layout} layout */
 function lane(view, layout, index) {
   const thread = layout.lanes[index];
   const middle = rounded(laneMiddle(layout, index));
@@ -204,6 +225,7 @@ function lane(view, layout, index) {
 }
 
 // A lane that can be chosen by key, with its moves in words.
+/** @param {View} view @param {Layout} layout */
 function laneOption(view, layout, index, drawn) {
   const thread = layout.lanes[index];
   const { records } = view.run;
@@ -221,6 +243,7 @@ function laneOption(view, layout, index, drawn) {
 }
 
 // An arrow from the write to the step that it let go on: down or up first, then along.
+/** @param {Layout} layout */
 function arrowPath(layout, arrow, threadOf) {
   const [y1, y2] = [arrow.from, arrow.to]
     .map((move) => rounded(laneMiddle(layout, layout.lanes.indexOf(threadOf(move)))));
@@ -232,6 +255,7 @@ function arrowPath(layout, arrow, threadOf) {
   return `M${rounded(x1)} ${y1}${down}q0 ${turn} 7 ${turn}H${rounded(x2)}`;
 }
 
+/** @param {View} view @param {Layout} layout */
 function arrows(view, layout) {
   const last = lastDrawn(view, layout);
   const threadOf = (move) => view.run.records.thread(move);
@@ -248,6 +272,7 @@ function arrows(view, layout) {
 }
 
 // A band behind the current move.
+/** @param {Layout} layout */
 function hereColumn(layout, y, height) {
   const here = layout.here ?? layout.now;
   if (here < layout.origin || here > (layout.end ?? layout.last)) return null;
@@ -257,6 +282,7 @@ function hereColumn(layout, y, height) {
 }
 
 // A line before the column of the first move that differs from what is compared.
+/** @param {View} view @param {Layout} layout */
 function differentColumn(view, layout) {
   const { different } = view;
   if (!different || different < layout.origin || different > layout.end) return null;
@@ -269,6 +295,7 @@ const sized = (width, height) => html`width="${width}" height="${height}"
   viewBox="0 0 ${width} ${height}"`;
 
 // The lanes from index `top` to `bottom`; the picture is as tall as all of them.
+/** @param {View} view @param {Layout} layout */
 export function lanesPicture(view, layout, top, bottom) {
   const indexes = Array.from({ length: bottom - top + 1 }, (_, i) => top + i);
   const role = layout.chosen === undefined ? 'img' : 'group';
@@ -279,6 +306,7 @@ export function lanesPicture(view, layout, top, bottom) {
 }
 
 // The moves' numbers, above the lanes. In narrow columns only some are written.
+/** @param {View} view @param {Layout} layout */
 export function numbersPicture(view, layout) {
   const every = Math.ceil((String(layout.last).length * 9 + 8) / layout.column);
   const numbers = [];

@@ -6,6 +6,9 @@ import { standingAfter } from '../model/spans.js';
 import { widthOf } from '../locks/fitting.js';
 import { lockOf } from '../locks/locks.js';
 
+/** @typedef {import('../model/run.js').Run} Run */
+/** @typedef {import('../model/session.js').View} View */
+
 // Where the names of threads are: how wide, which share of the lanes at most, and what is
 // beside a name there.
 const GUTTER = { least: 122, share: 0.16 };
@@ -17,6 +20,7 @@ const MANY_THREADS = 8;
 // How far along the view the current move is in a long schedule.
 const HERE = 0.6;
 
+/** @param {Run} run */
 export function lanesOf(run, all) {
   const threads = Array.from({ length: run.threads }, (_, thread) => thread);
   const refused = run.refusal?.thread;
@@ -27,8 +31,10 @@ export function lanesOf(run, all) {
   return moving.length ? moving : threads.slice(0, MANY_THREADS);
 }
 
+/** @param {Run} run */
 const leastColumn = (run) => lockOf(run).leastColumn ?? COLUMN.least;
 
+/** @param {Run} run */
 function columnWidth(run, moves, room, zoom) {
   const fitting = room / Math.max(1, moves + 0.4);
   const least = leastColumn(run);
@@ -58,8 +64,30 @@ function busyLanes({ run, move }, lanes, first, last) {
   return busy.length ? busy : lanes.slice(0, MANY_THREADS);
 }
 
+/**
+ * Where the lanes and the columns of moves are, in the units of their picture.
+ * @typedef {object} Layout
+ * @property {number} gutter how wide the names of threads are
+ * @property {number} column how wide a column is
+ * @property {number} first the first move in view
+ * @property {number} last the last one in view
+ * @property {number} origin the first column in view
+ * @property {number} end the last one
+ * @property {number} now the place that is shown
+ * @property {number} [here] its column, if it is another one
+ * @property {number} width
+ * @property {number} height
+ * @property {number} laneHeight
+ * @property {number[]} lanes the threads that have one
+ * @property {number | null} [chosen] the one that is chosen; undefined where none can be
+ * @property {number} [at] where the lanes are scrolled to
+ * @property {boolean} [asked] whether a question asks where the threads stand
+ * @property {(move: number) => number} [placeOf] the column of a move that is not in its number's
+ */
+
 // `room` has the width and the height that the lanes may take; `all` asks for every thread. A run
 // that is compared with this one may have more columns.
+/** @param {View} view */
 export function layOutLanes(view, all, room, zoom) {
   const { run, place, names } = view;
   const moves = Math.max(run.last, view.columns ?? 0);
@@ -83,6 +111,7 @@ export function layOutLanes(view, all, room, zoom) {
 // The lanes of another run in the columns of this layout. `columns` has the column of each of its
 // moves, from its move 0 on; further moves are in the columns after the last of these. What goes on
 // at the move that is shown goes on up to the column that is shown.
+/** @param {Layout} layout @param {View} view */
 export function layOutBeside(layout, view, columns, room) {
   const { run, place, future } = view;
   const { origin, end, now: here } = layout;
@@ -106,13 +135,17 @@ export function layOutBeside(layout, view, columns, room) {
 export const LOW_LANE = 62;
 
 // Where a column is; a move is in the column of its number, or in that of the move beside it.
+/** @param {Layout} layout */
 export function placeX(layout, place) {
   return layout.gutter + (place - layout.origin + 0.6) * layout.column;
 }
 
+/** @param {Layout} layout */
 export const placeOf = (layout, move) => (layout.placeOf ? layout.placeOf(move) : move);
+/** @param {Layout} layout */
 export const columnX = (layout, move) => placeX(layout, placeOf(layout, move));
 
+/** @param {Layout} layout */
 export function laneMiddle(layout, index) {
   const middle = layout.laneHeight < LOW_LANE ? 0.5 : 0.54;
   return layout.laneHeight * (index + middle);

@@ -5,6 +5,8 @@ import { texts } from '../texts/texts.js';
 import { lockOf } from '../locks/locks.js';
 import { withTerms } from './terms.js';
 
+/** @typedef {import('../model/run.js').Run} Run */
+
 const T = texts.legend;
 
 const sign = (width, drawn, label) => html`<span><svg width="${width}" height="18"
@@ -40,10 +42,12 @@ export const blankLegend = () => html`${sign(24, BLANK, T.blank)}${['call', 'vai
   'leaves'].map((name) => sign(20, SHAPES[name], T[name]))}${sign(20, MOVES_ON, T.moves)}`;
 
 // {drawn, label, width} of each sign.
+/** @param {Run} run */
 export const legendEntries = (run) => [...COMMON, ...lockOf(run).signs].map((name) => ({
   drawn: SHAPES[name] ?? STRETCHES[name], label: T[name], width: SHAPES[name] ? 20 : 32,
 }));
 
+/** @param {Run} run */
 export const legend = (run) => html`${legendEntries(run)
   .map(({ drawn, label, width }) => sign(width, drawn, label))}`;
 

@@ -13,6 +13,11 @@ import { movingThread, standingIn, useOf } from '../locks/shapes.js';
 import { casFails } from './lanes.js';
 import { withTerms } from './terms.js';
 
+/** @typedef {import('../machine/machine.js').Records} Records */
+/** @typedef {import('../machine/machine.js').AnyState} State */
+/** @typedef {import('../model/session.js').View} View */
+
+/** @param {View} view */
 function pill(view, thread) {
   const standing = standingIn(view, thread);
   return html`<span class="pill ${standing}"
@@ -23,6 +28,7 @@ function pill(view, thread) {
 const MOST_LISTED = 9;
 
 // The threads of a list, each with what is between it and the one before.
+/** @param {View} view */
 function listed(view, threads, between) {
   const moving = movingThread(view);
   return folding(threads, (one) => one === moving, MOST_LISTED).map(({ one, folded }, i) => {
@@ -35,6 +41,7 @@ function listed(view, threads, between) {
 const dash = html`<span class="soft">${texts.nobody}</span>`;
 const MODES = ['', '', texts.asReader, texts.asWriter];
 
+/** @param {View} view @param {State} state */
 function holdersList(view, state) {
   if (!state.holders.length) return dash;
   const mode = MODES[state.holderKind];
@@ -46,12 +53,14 @@ const LINK = html`<span class="gap">→</span>`;
 const GAP = html`<span class="gap missing" title="${texts.notLinked}">⇢</span>`;
 
 // Between two in the queue: an arrow, or a gap if the link is not written yet.
+/** @param {View} view @param {State} state */
 function queueList(view, state) {
   if (!state.queue.length) return dash;
   return listed(view, state.queue, (thread) => (
     unlinkedAfter(view.run, view.run.lastMoveOf(thread, view.move)) ? GAP : LINK));
 }
 
+/** @param {Records} records */
 function outcomePill(records, move) {
   const name = OUTCOMES[records.outcome(move)];
   const fails = casFails(records, move);
@@ -61,11 +70,13 @@ function outcomePill(records, move) {
 }
 
 // The outcome in plain words.
+/** @param {Records} records */
 function plainWords(records, move) {
   const name = OUTCOMES[records.outcome(move)];
   return withTerms(texts.plain[casFails(records, move) ? 'fails' : name]);
 }
 
+/** @param {View} view */
 export function questionView(view) {
   const question = view.remarks.ask.get(view.move);
   const answer = view.remarks.answer.get(view.move);
@@ -75,11 +86,13 @@ export function questionView(view) {
       <summary>${texts.showAnswer}<kbd>A</kbd></summary><p>${answer}</p></details>`}</div>`;
 }
 
+/** @param {View} view @param {State} state */
 function factList(view, state, rows, hidden) {
   return html`<dl class="facts" ${hidden}>${rows}${whoRows(view, state)}</dl>`;
 }
 
 // Who holds, and who is in the queue.
+/** @param {View} view @param {State} state */
 export function whoRows(view, state) {
   return html`<dt>${withTerms(texts.facts.holds)}</dt>
     <dd data-holders>${holdersList(view, state)}</dd>
@@ -91,12 +104,14 @@ const withCode = (text) => text.split('`')
   .map((part, i) => (i % 2 ? html`<code>${part}</code>` : part));
 
 // What the schedule is about. It says what comes, so it is opened when it is asked for.
+/** @param {View} view */
 function storyView({ remarks: { about }, answered }) {
   if (!about) return null;
   return html`<details class="story" ${answered && 'open'}><summary>${texts.showStory}<kbd>A</kbd>
     </summary><p class="about">${withCode(about)}</p></details>`;
 }
 
+/** @param {View} view @param {State} state */
 function startView(view, state) {
   const { learn } = view.remarks;
   const isTouched = matchMedia('(pointer: coarse)').matches;
@@ -108,6 +123,7 @@ function startView(view, state) {
     ${questionView(view)}${factList(view, state, '')}`;
 }
 
+/** @param {View} view */
 function wroteRow(view) {
   const wrote = writtenWords(view, view.move, useOf).join(', ');
   return html`<dt class="wrote">${texts.facts.wrote}</dt>
@@ -115,6 +131,7 @@ function wroteRow(view) {
 }
 
 // The lesson's own sentence, if it has one, and that of the machine.
+/** @param {View} view */
 function sentences(view) {
   const { remarks: { say }, move } = view;
   const own = say.get(move);
@@ -124,6 +141,7 @@ function sentences(view) {
     <p class="${own ? 'aside' : 'say'}" ${hidden}>${sentence(view, move)}</p>`;
 }
 
+/** @param {View} view @param {State} state */
 export function moveView(view, state) {
   const { run, move, names } = view;
   if (!move) return startView(view, state);
@@ -140,6 +158,7 @@ export function moveView(view, state) {
 }
 
 // After the last move of a lesson: what was shown, and which one is next.
+/** @param {View} view */
 function lastView({ remarks: { learn }, place, run, next, answered, move, remarks }) {
   const due = remarks.ask.has(move) && remarks.answer.has(move) && !answered;
   if (place < run.last || !learn || due) return null;
@@ -155,6 +174,7 @@ function spokenMove({ run: { records }, names }, move) {
 }
 
 // The same as a text, for a screen reader.
+/** @param {View} view @param {State} state */
 export function spokenText(view, state) {
   const { run, move, names } = view;
   const holds = state.holders.length ? names.few(state.holders) : texts.nobody;

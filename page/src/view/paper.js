@@ -13,11 +13,14 @@ import { lanesPicture, numbersPicture } from './lanes.js';
 import { legend } from './legend.js';
 import { sheetPlan } from './sheet_plan.js';
 
+/** @typedef {import('../model/session.js').View} View */
+
 const T = texts.print;
 const MEMORY = { width: 640, height: 420, scale: 1 };
 // A longer list of threads is cut, with their number.
 const LONGEST = 24;
 
+/** @param {View} view */
 function stripPicture(view, { strip, lanes }, first, last) {
   const layout = {
     ...strip, height: strip.laneHeight * lanes.length, now: Infinity, first, last, origin: first,
@@ -27,6 +30,7 @@ function stripPicture(view, { strip, lanes }, first, last) {
   return html`<div class="strip ${strip.name}">${numbersPicture(view, layout)}${drawn}</div>`;
 }
 
+/** @param {View} view */
 function strips(view, plan) {
   const { from, to, strip: { inStrip } } = plan;
   const { run } = view;
@@ -40,6 +44,7 @@ function strips(view, plan) {
 }
 
 // Memory and code at the move that is shown.
+/** @param {View} view */
 function figure(view, lines) {
   const lock = lockOf(view.run);
   const { move } = view;
@@ -58,12 +63,14 @@ const short = (text) => (text.length <= LONGEST ? text
 const threadName = (names, thread) => (names.has(thread)
   ? `${names.of(thread)} (${thread})` : names.of(thread));
 
+/** @param {View} view */
 function answers(view, move) {
   const state = view.run.state(move);
   return [OUTCOMES[view.run.records.outcome(move)], sentence({ ...view, move }, move),
     html`<code>${short(holdersText(state))}</code>`, html`<code>${short(queueText(state))}</code>`];
 }
 
+/** @param {View} view */
 function row(view, move) {
   const { run: { records }, names } = view;
   const cells = [
@@ -74,6 +81,7 @@ function row(view, move) {
 }
 
 // The questions with their answers.
+/** @param {View} view */
 function questions(view) {
   const { remarks: { ask, answer }, run } = view;
   const asked = [...ask].filter(([move]) => move <= run.count)
@@ -84,6 +92,7 @@ function questions(view) {
     && html`<p class="answer">${answer.get(move)}</p>`}</dd>`)}</dl></div>`;
 }
 
+/** @param {View} view */
 function table(view, from, to) {
   const heads = [T.move, T.thread, T.what, T.outcome, T.says, T.holds, T.queue];
   const rows = Array.from({ length: to - from + 1 }, (_, i) => row(view, from + i));

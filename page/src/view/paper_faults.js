@@ -8,6 +8,8 @@ import { refusalFacts } from '../locks/refusal_facts.js';
 import { refusedFacts, refusedLine } from './refused_view.js';
 import { adviceOf, verdictView } from './verdict_view.js';
 
+/** @typedef {import('../model/session.js').Session} Session */
+
 // The lines around one that is wrong.
 const AROUND = 6;
 
@@ -24,6 +26,7 @@ function textAround(text, line) {
   return html`<table class="text-around"><tbody>${lines.map(row)}</tbody></table>`;
 }
 
+/** @param {Session} session */
 function refusedOnPaper(session) {
   const facts = refusalFacts(session);
   return html`<section class="wrong-part" data-refused><h3>${texts.own.line(facts.line)}:
@@ -32,6 +35,7 @@ function refusedOnPaper(session) {
     <dl>${refusedFacts(facts)}</dl><p><code>${lastLine(session.run)}</code></p></section>`;
 }
 
+/** @param {Session} session */
 export function faultsOnPaper(session) {
   const { run } = session;
   if (run.refusal) return refusedOnPaper(session);

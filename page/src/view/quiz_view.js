@@ -5,12 +5,14 @@ import { texts } from '../texts/texts.js';
 import { answerText } from '../model/quiz.js';
 import { moveText } from '../model/report.js';
 
+/** @typedef {import('../model/session.js').View} View */
+
 const T = texts.quiz;
 
 // What the form says; nothing if nothing was chosen or typed.
 export function givenOf(form) {
-  const { outcome, answer } = Object.fromEntries(new FormData(form));
-  return outcome ?? answer.trim();
+  const given = new FormData(form);
+  return String(given.get('outcome') ?? given.get('answer')).trim();
 }
 
 // The outcomes that a step can have.
@@ -19,6 +21,7 @@ const STEP_OUTCOMES = ['moved', 'waits', 'entered', 'left'];
 const radio = (name) => html`<label><input type="radio" name="outcome" value="${name}" required>
   ${T.outcomes[name]}</label>`;
 
+/** @param {View} view */
 export function quizForm(view, question) {
   const { run, names } = view;
   const [thread, word] = moveText(run, question.move).split(' ');

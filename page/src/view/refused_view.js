@@ -4,6 +4,8 @@ import { html } from '../lib/markup.js';
 import { texts } from '../texts/texts.js';
 import { lastLine } from '../model/report.js';
 
+/** @typedef {import('../model/session.js').Session} Session */
+
 const T = texts.refused;
 
 // The line's two words, the refused one struck through: the thread's number if there is no such
@@ -31,6 +33,7 @@ export function refusedFacts(facts) {
 }
 
 // The scene beside memory and code; `rows` has who holds and who is in the queue.
+/** @param {Session} session */
 export function refusedView(session, facts, rows) {
   return html`<div class="head"><b>✕</b><span>${texts.own.line(facts.line)}:
       ${refusedLine(facts)}</span><span class="outcome fails"

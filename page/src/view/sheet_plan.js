@@ -2,6 +2,8 @@
 
 import { gutterOf, lanesOf } from './layout.js';
 
+/** @typedef {import('../model/session.js').View} View */
+
 const MOST_SHEETS = 12;
 // In the units of a strip's picture, which is as wide as a sheet of 275 by 188 mm. Of more threads
 // a strip is drawn smaller.
@@ -25,11 +27,13 @@ function blankStrip({ names, run }) {
   return { width, column: Math.min(most, Math.max(least, fitting)), lane, name };
 }
 
+/** @param {View} view */
 function kindOfStrip(view, lanes) {
   if (lanes.length > FEW.threads) return MANY;
   return view.blank ? blankStrip(view) : FEW;
 }
 
+/** @param {View} view */
 function stripOf(view, lanes) {
   const { width, column, lane, lowest, name } = kindOfStrip(view, lanes);
   const gutter = gutterOf(view.names, width);
@@ -45,6 +49,7 @@ function sheetsOf({ inStrip, perSheet }, moves) {
 }
 
 // {from, to, strip, lanes}: of more moves than have room those around the current one.
+/** @param {View} view */
 export function sheetPlan(view) {
   const { run, move } = view;
   const lanes = lanesOf(run, false);

@@ -5,6 +5,10 @@ import { html } from '../lib/markup.js';
 import { OUTCOME } from '../machine/codes.js';
 import { casFails } from './lanes.js';
 
+/** @typedef {import('../machine/machine.js').Records} Records */
+/** @typedef {import('../model/run.js').Run} Run */
+/** @typedef {import('../model/session.js').View} View */
+
 const EDGE = 12;
 // Closer together the ticks of a kind are a bar, which says nothing.
 const CLOSEST = 10;
@@ -15,14 +19,17 @@ const TICKS = {
   enters: (x) => html`<rect class="tick enters" x="${x - 2}" y="30" width="4" height="9"/>`,
 };
 
+/** @param {Records} records */
 function kindOf(records, move) {
   if (casFails(records, move)) return 'fails';
   return records.outcome(move) === OUTCOME.entered ? 'enters' : null;
 }
 
+/** @param {Run} run */
 const placeOf = (run, width, move) => EDGE + (width - 2 * EDGE) * move / Math.max(1, run.last);
 
 // A tick for each place where something is, at most one of a kind in two dots of the screen.
+/** @param {View} view */
 function ticks(view, width) {
   const { run, remarks } = view;
   const seen = new Map();
@@ -43,6 +50,7 @@ function ticks(view, width) {
 // Of each run the ticks that were found last.
 const known = new WeakMap();
 
+/** @param {View} view */
 function ticksOf(view, width) {
   const { run, hidden } = view;
   const found = known.get(run);
@@ -52,6 +60,7 @@ function ticksOf(view, width) {
   return made;
 }
 
+/** @param {View} view */
 export function sliderPicture(view, width) {
   const x = placeOf(view.run, width, view.place);
   const isShown = ({ kind, move }) => view.future || kind === 'ask' || move <= view.place;

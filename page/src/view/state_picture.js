@@ -13,6 +13,10 @@ import { lanesPicture, numbersPicture } from './lanes.js';
 import { layOutLanes } from './layout.js';
 import { legendEntries } from './legend.js';
 
+/** @typedef {import('../model/run.js').Run} Run */
+/** @typedef {import('../machine/machine.js').AnyState} State */
+/** @typedef {import('../model/session.js').View} View */
+
 const XMLNS = 'http://www.w3.org/2000/svg';
 const EDGE = 20;
 const GAP = 14;
@@ -34,6 +38,7 @@ class Column {
   }
 }
 
+/** @param {Run} run */
 function legendRows(run, width) {
   const rows = [[]];
   let x = 0;
@@ -50,6 +55,7 @@ function legendRows(run, width) {
   return rows;
 }
 
+/** @param {View} view @param {State} state */
 function codeRows(view, state, lines) {
   const made = linesMade(view, state, lines);
   return lines.map((line, at) => {
@@ -61,6 +67,7 @@ function codeRows(view, state, lines) {
   });
 }
 
+/** @param {View} view @param {State} state */
 function memoryAndCode(column, view, state, lines, width, wanted) {
   const longest = Math.max(...lines.map(({ code }) => code.length));
   const codeWidth = wanted ? Math.max(CODE.least, longest * CODE.letter + CODE.edge) : 0;

@@ -39,7 +39,8 @@ function showMeaning(target) {
   // A dialog is above everything but what is in it.
   (term.closest('dialog') ?? document.body).append(tip);
   write(tip, meanings[term.dataset.term]);
-  const zoom = document.body.currentCSSZoom ?? 1;
+  const body = /** @type {HTMLElement & {currentCSSZoom?: number}} */ (document.body);
+  const zoom = body.currentCSSZoom ?? 1;
   const { left, bottom, top } = term.getBoundingClientRect();
   const { offsetWidth: width, offsetHeight: height } = tip;
   const below = bottom / zoom + 6;

@@ -9,8 +9,11 @@ import { lastLine } from '../model/report.js';
 import { refusalFacts } from '../locks/refusal_facts.js';
 import { refusedLine } from './refused_view.js';
 
+/** @typedef {import('../model/session.js').Session} Session */
+
 const T = texts.own;
 
+/** @param {Session} session */
 export function adviceOf(session) {
   const { run } = session;
   if (run.fault) return faultAdvice(run, run.hasLock ? ownWords(session.lines[run.kind]) : []);
@@ -21,6 +24,7 @@ export function adviceOf(session) {
 
 // The verdict on the text: the report's last line, and in words what is wrong and what could be
 // there.
+/** @param {Session} session */
 export function verdictView(session, advice) {
   const { run } = session;
   if (!run.known) return html`<p class="verdict bad"><b>${texts.notStored}</b></p>`;
