@@ -73,6 +73,31 @@ def test_lines_of_ones_own(page):
     assert lines[-1] == "1 cas" and "2 swap" in lines and shown["place"] == shown["moves"], lines
 
 
+@each_lock
+def test_a_line_of_the_report(page, lock):
+    """The shortest run to a step with an outcome, by the rows of all kinds that have both."""
+    wanted = {}
+    for phases, _, length, *_ in rows_of("kinds.txt", lock):
+        _, word, outcome, _ = phases.split()
+        wanted.setdefault(f"* {word} {outcome}", []).append(int(length))
+    page.open(HAND_OVER)
+    for line, lengths in wanted.items():
+        ask(page, lock=lock, sketch=line)
+        page.becomes(line, "text", "#title")
+        assert page.shown()["place"] == min(lengths), line
+        assert page.js("attribute", "#now [data-outcome]", "data-outcome") == line.split()[2]
+
+
+def test_the_example_in_the_box(page):
+    """It is a line that the lock has, and is searched for if nothing else is written."""
+    page.open("#lesson=mcs-late-link&move=3")
+    assert ask(page) == ""
+    example = page.js("attribute", "#find-sketch", "placeholder")
+    assert example.split()[1] in ("acquire", "release", "read", "write", "swap", "cas"), example
+    page.becomes("; ".join(example.splitlines()), "text", "#title")
+    assert page.shown()["lesson"] is None
+
+
 NONE_OF_3 = "No run of 3 threads, each of which takes the lock at most once, has these lines: all"
 NONE_OF_2 = ("No run of 2 threads, each of which takes the lock at most 2 times, has these lines: "
              "all")
@@ -90,6 +115,14 @@ BOTH_LOCKED = "0 write locked of 1\n1 write locked of 0"
                f"{NONE_OF_2} 325 states were searched."),
     "a line": ({"lock": "ticket", "threads": "2", "rounds": "1", "sketch": "0 add\n0 lost"},
                NO_LINE),
+    "an outcome that no step has": (
+        {"lock": "mcs", "threads": "2", "rounds": "1", "sketch": "* write waits"},
+        "No “write” of this lock has the outcome “waits”."),
+    "an outcome beside a line": (
+        {"lock": "mcs", "threads": "2", "rounds": "1", "sketch": "* swap\n* read waits"},
+        "Line 2: “waits” is an outcome of the report. “* read waits” may be asked for alone. "
+        "Beside other lines a sketch names what a step found, as in “* read locked found 1” or "
+        "“* cas failed”. “Which move” has examples."),
     "a lock": ({"lock": "ticket", "threads": "4", "bits": "2", "sketch": "0 add"},
                "There is no such lock, the text is too long, or many threads need wider words."),
 })

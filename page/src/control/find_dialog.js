@@ -11,6 +11,7 @@ import { findRun, FOUND } from '../machine/search.js';
 import { language } from '../texts/language.js';
 import { texts } from '../texts/texts.js';
 import { firstOf, kindsOf } from '../model/kinds.js';
+import { findOutcome, outcomeLine } from '../model/outcome_search.js';
 import { lockOptions, newHeader } from '../view/choices_view.js';
 
 const T = texts.find;
@@ -34,13 +35,15 @@ function refusal({ answer, count }, { threads, rounds, sketch }) {
   }[answer]();
 }
 
+const linesText = (moves) => moves.map((move) => `${move}\n`).join('');
+
 // The schedule with what was looked for, as comments.
 function scheduleOf(header, moves, { title, sketch, threads, rounds }) {
   const comments = [
     `#! title ${title}`, `# ${T.comment(texts.threads(threads), T.rounds(rounds))}`,
     ...sketch.split('\n').filter((line) => line.trim()).map((line) => `#   ${line}`),
   ];
-  return bytesOf(`${comments.join('\n')}\n${header}${moves.map((move) => `${move}\n`).join('')}`);
+  return bytesOf(`${comments.join('\n')}\n${header}${linesText(moves)}`);
 }
 
 class Finding {
@@ -108,19 +111,27 @@ class Finding {
     return { header, state, rounds, sketch, title, kind, threads: state.threads };
   }
 
+  // The run, or what is answered in its place, of a sketch or of one line of a report.
+  answerFor({ header, state, rounds, sketch }) {
+    const found = findRun(this.machine, state, rounds, sketch);
+    const line = found.answer === FOUND.badLine && outcomeLine(sketch);
+    if (!line) return found;
+    const played = (moves) => this.page.session.runOf(bytesOf(`${header}${linesText(moves)}`));
+    return findOutcome(played([]), line, rounds, played)
+      ?? { ...found, never: T.never(line.word, line.outcome) };
+  }
+
   search() {
     const asked = this.asked();
-    if (!asked) {
-      write(byId('find-answer'), T.notAsked);
-      return;
-    }
-    const found = findRun(this.machine, asked.state, asked.rounds, asked.sketch);
-    if (found.answer !== FOUND.run) {
-      write(byId('find-answer'), refusal(found, asked));
-      return;
-    }
+    const found = asked && this.answerFor(asked);
+    if (found?.answer === FOUND.run) this.show(asked, found.moves);
+    else write(byId('find-answer'), asked ? found.never ?? refusal(found, asked) : T.notAsked);
+  }
+
+  // The schedule, at the move that was looked for.
+  show(asked, moves) {
     this.dialog.close();
-    const text = scheduleOf(asked.header, found.moves, asked);
+    const text = scheduleOf(asked.header, moves, asked);
     const run = this.page.session.runOf(text);
     this.page.open(text, null, (asked.kind && firstOf(run, asked.kind)) || run.count, run);
     this.page.modes.set('lessons');

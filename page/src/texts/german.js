@@ -82,9 +82,11 @@ export const german = {
       tooLarge: (states) => `Nicht entschieden: ${states} Zustände gefunden, mehr als diese Seite `
         + 'durchsucht. Nimm weniger Threads oder Runden.',
       longRun: 'Der kürzeste Lauf ist zu lang für diese Seite.',
-      outcome: (line, word) => `Zeile ${line}: „${word}“ ist ein Ergebnis des Berichts. Eine `
-        + 'Skizze nennt, was ein Schritt fand, wie „* read locked found 1“ oder „* cas failed“. '
-        + 'Beispiele sind unter „Welcher Zug“.',
+      outcome: (line, word) => `Zeile ${line}: „${word}“ ist ein Ergebnis des Berichts. Nach `
+        + '„* read waits“ kann allein gefragt werden. Neben anderen Zeilen nennt eine Skizze, was '
+        + 'ein Schritt fand, wie „* read locked found 1“ oder „* cas failed“. Beispiele sind unter '
+        + '„Welcher Zug“.',
+      never: (word, outcome) => `Kein „${word}“ dieser Sperre hat das Ergebnis „${outcome}“.`,
       badLine: (line) => `Zeile ${line} ist keine Zeile einer Skizze. Eine Zeile ist die Nummer `
         + 'eines Threads oder *, und ein Aufruf oder Schritt, wie „* cas failed“.',
       manyLines: (line) => `Zeile ${line} ist eine zu viel: Eine Skizze hat höchstens 255 Zeilen.`,

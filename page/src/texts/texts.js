@@ -68,9 +68,10 @@ const english = {
     tooLarge: (states) => `Not decided: ${states} states were found, more than this page searches. `
       + 'Take fewer threads or rounds.',
     longRun: 'The shortest run is too long for this page.',
-    outcome: (line, word) => `Line ${line}: “${word}” is an outcome of the report. A sketch names `
-      + 'what a step found, as in “* read locked found 1” or “* cas failed”. “Which move” has '
-      + 'examples.',
+    outcome: (line, word) => `Line ${line}: “${word}” is an outcome of the report. “* read waits” `
+      + 'may be asked for alone. Beside other lines a sketch names what a step found, as in '
+      + '“* read locked found 1” or “* cas failed”. “Which move” has examples.',
+    never: (word, outcome) => `No “${word}” of this lock has the outcome “${outcome}”.`,
     badLine: (line) => `Line ${line} is not a line of a sketch. A line is a thread’s number or *, `
       + 'and a call or a step, as in “* cas failed”.',
     manyLines: (line) => `Line ${line} is one too many: a sketch has at most 255 lines.`,
