@@ -90,4 +90,8 @@ function inForcedColours() {
   };
 }
 
-const slides = () => styleOf('.record').transitionDuration;
+// How long a shape is in motion when it is drawn; null if it is not.
+function motionOf(selector) {
+  const { animationName, animationDuration, animationIterationCount } = styleOf(selector);
+  return animationName === 'none' || animationIterationCount !== '1' ? null : animationDuration;
+}

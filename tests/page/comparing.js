@@ -16,3 +16,7 @@ function compared() {
     different: [...new Set(all('.different').map((one) => Math.round(rect(one).left)))],
   };
 }
+
+// How far below each sign of a difference its dashed line begins.
+const belowSigns = () => all('.different-sign').map((sign) => (
+  rect(sign.parentNode.querySelector('.different')).top - rect(sign).bottom));

@@ -119,8 +119,24 @@ def test_colours_of_the_system(page, media, theme):
     assert contrast(shown["letters"], shown["ground"]) >= 4.5, shown
 
 
-@cases("media, is_moved", {"usual": ({}, True), "forced": (FORCED, False)})
-def test_less_motion(page, is_moved):
-    """A record is moved to its new place, or is there at once."""
-    page.open(LATE_LINK)
-    assert (page.js("slides") != "0s") == is_moved
+# What a move is shown by: a word and a link that it changes, the line of code and the thread on its
+# way to the next one; who enters, and the arrow from the write that let it.
+MOVED = {
+    "#lesson=mcs-late-link&move=3": [
+        ".word.changed", ".link.redirected", ".code-line.here", ".disc.moving",
+        ".record.entered .frame"],
+    "#lesson=mcs-late-link&move=16": [".arrow.drawn", ".record.entered .frame"],
+    "#lesson=ticket-hand-over&move=10": [".arrow.drawn", ".token.entered circle"],
+}
+
+
+@cases("media, lasts", {
+    "usual": ({}, "0.2s"), "less": ({"prefers-reduced-motion": "reduce"}, None)})
+def test_motion(page, lasts):
+    """For 0.2 s each, and not at all if the system asks for less motion."""
+    for link, selectors in MOVED.items():
+        page.open(link)
+        assert {one: page.js("motionOf", one) for one in selectors} == dict.fromkeys(
+            selectors, lasts), link
+        # Nothing moves that the move did not touch.
+        assert page.js("motionOf", ".word:not(.changed)") is None

@@ -51,3 +51,12 @@ def test_turns_without_a_move(page):
     here, there = set(shown["here"]), set(shown["there"])
     assert len(here) == 15 and there < here and len(there) == len(shown["there"]), shown
     assert sorted(here)[:6] == sorted(there)[:6] and sorted(here)[9] not in there, shown
+
+
+@pytest.mark.parametrize("width, height", SCREENS)
+def test_the_sign_is_whole(page, width, height):
+    """The dashed line of the first difference begins below its sign, in both pictures."""
+    page.resize(width, height)
+    page.open("#lesson=mcs-late-link&move=7&play=0+cas")
+    below = page.js("belowSigns")
+    assert len(below) == 2 and min(below) >= 0, below
