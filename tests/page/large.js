@@ -51,6 +51,28 @@ function edits(rounds) {
   });
 }
 
+// A letter is typed where the caret is. Gives what has the text played after a pause.
+function typedAtCaret(letter) {
+  const later = window.setTimeout;
+  let settle;
+  window.setTimeout = (act) => { settle = act; };
+  document.execCommand('insertText', false, letter);
+  window.setTimeout = later;
+  return settle;
+}
+
+// Of each key of a line that is typed some times at the end of 10,004 moves, each key with the
+// pause after it; the least of the times.
+function typing(line, times) {
+  show(`${BEGUN}${'1 read\n'.repeat(10000)}`);
+  inMode('own');
+  byId('text').focus();
+  byId('text').setSelectionRange(size(), size());
+  const rounds = Array.from({ length: times }, () => (
+    [...line].map((letter) => timed(() => typedAtCaret(letter)()))));
+  return [...line].map((_, at) => Math.min(...rounds.map((keys) => keys[at])));
+}
+
 // The place after so many choices at the end of a long schedule; how many of them Undo takes back,
 // and the bytes of all that it brings back.
 function undone(times) {

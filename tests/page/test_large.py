@@ -1,5 +1,5 @@
-"""64 threads and 65,536 moves: loaded within 1 s, stepped within 50 ms; an edit of a long text is
-settled soon, and what Undo keeps has a bound.
+"""64 threads and 65,536 moves: loaded within 1 s, stepped within 50 ms; a key in a text of 10,000
+moves takes 50 ms at most, an edit of a long text is settled soon, and what Undo keeps has a bound.
 
 Loading goes from the bytes of the file to the page laid out, a step from the button's click to the
 page laid out; a step's time is the mean of twelve. The least of some rounds is bounded, so that
@@ -11,7 +11,7 @@ import pytest
 
 import schedules
 
-LOAD_MS, STEP_MS, EDIT_MS = 1000, 50, 450
+LOAD_MS, STEP_MS, KEY_MS, EDIT_MS = 1000, 50, 50, 450
 STEPS, ROUNDS, EDITS = 12, 3, 5
 PLACES = [0, 30000, 65500]
 CHOICES = 60
@@ -35,6 +35,16 @@ def test_loads_and_steps(page, record_property, lock):
     assert page.shown()["moves"] == 65536
     assert load <= LOAD_MS and max(steps) <= STEP_MS, (load, steps)
     assert page.js("count", "#lanes *") < 3000
+
+
+def test_typing(page, record_property):
+    """Each key, and what the pause after it has played: lines more at the end of 10,004 moves."""
+    page.open()
+    keys = page.js("typing", "1 read\n", ROUNDS)
+    record_property("measured", f"a key {max(keys):.0f} ms")
+    shown = page.shown()
+    assert shown["moves"] == 10_004 + ROUNDS and shown["area"].endswith("1 read\n" * 4)
+    assert len(keys) == 7 and max(keys) <= KEY_MS, keys
 
 
 def test_an_edit_of_a_long_text(page, record_property):
