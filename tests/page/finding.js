@@ -13,7 +13,7 @@ function fill(fields) {
 const kinds = () => [...byId('find-form').elements.kind.options].slice(1).map((one) => one.label);
 
 // Each kind that can be reached, and in how many moves.
-const next = () => all('#soon-list li').map((row) => [
+const next = () => all('#next-kinds-list li').map((row) => [
   row.textContent.replace(row.firstChild.textContent, '').trim(), row.firstChild.textContent]);
 const nextOf = (least) => next().length >= least && next();
 

@@ -6,7 +6,7 @@ function shows(letters, place) {
   return lettersOf(bytes) === letters && (place === null || place === now);
 }
 
-const told = () => text('#told');
+const notice = () => text('#notice');
 const keptNames = () => all('[data-kept]').map((one) => one.dataset.kept);
 const keptAt = (move) => location.hash.match(`^#kept=(\\w+)&move=${move}$`)?.[1];
 const damaged = () => (byId('damaged').hidden ? '' : text('#damaged'));

@@ -33,7 +33,7 @@ def test_several_files(page):
     page.js("dropFiles", [
         ["a.txt", f"#! title First\n{ONE}"], ["b.txt", f"#! title Second\n{ONE}"]])
     page.becomes("First", "text", "#title")
-    told = page.until("text", "#told")
+    told = page.until("text", "#notice")
     assert "a.txt is shown" in told and "other file is kept" in told, told
     page.press("Escape", "o")
     assert "Second" in page.text("#lessons .kept")
@@ -44,7 +44,7 @@ def test_a_trace(page):
     page.open(LESSON)
     page.js("dropFiles", [["run.trace", TRACE]])
     held = page.shown(moves=3)["held"]
-    assert "This is a trace" in page.text("#told")
+    assert "This is a trace" in page.text("#notice")
     assert held == "# A trace\nlock mcs threads 2\n0 acquire\n0 write\n0 swap\n"
 
 

@@ -169,7 +169,7 @@ def test_a_new_lock_reaches_every_kind(page, lock):
     page.open(HAND_OVER)
     page.show(f"lock {lock} threads 2\n")
     page.press("g")
-    page.click("#soon summary")
+    page.click("#next-kinds summary")
     what_is_next(page, {name: int(moves) for _, name, moves, *_ in rows_of("kinds.txt", lock)})
 
 
@@ -177,9 +177,9 @@ def test_what_is_near_in_a_lesson(page):
     """It is gone to by a click, and Undo comes back."""
     page.open("#lesson=mcs-late-link&move=8")
     page.press("g")
-    page.click("#soon summary")
+    page.click("#next-kinds summary")
     at = what_is_next(page, AFTER_THE_SWAP).index("release: found a late link")
-    page.click(f"#soon-list [data-soon='{at}']")
+    page.click(f"#next-kinds-list [data-next-kind='{at}']")
     shown, lines = shown_lines(page)
     assert shown["place"] == 12 and not shown["refused"] and lines[-1] == "0 read", shown
     page.press("u")

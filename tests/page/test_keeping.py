@@ -53,7 +53,7 @@ def test_a_paste_that_is_no_schedule(page):
     page.js("paste", "hello")
     shown = page.shown()
     assert (shown["place"], shown["lesson"]) == (3, "mcs-late-link")
-    assert "no schedule" in page.js("told")
+    assert "no schedule" in page.js("notice")
 
 
 def test_a_text_that_is_dropped(page):
@@ -81,7 +81,7 @@ def test_a_long_schedule(page):
     page.go(4000)
     name = page.until("keptAt", 4000)
     page.js("click", "#link")
-    assert "saved as a file" in page.js("told")
+    assert "saved as a file" in page.js("notice")
     page.reload()
     shows(page, LONG.encode(), 4000)
     page.press("o")
@@ -92,7 +92,7 @@ def test_a_link_from_disk(page):
     """Who copies it is told that it names a file of this disk."""
     page.open(LESSON)
     page.press("l")
-    assert "on your disk" in page.until("told")
+    assert "on your disk" in page.until("notice")
 
 
 @cases("fragment, part", {

@@ -57,7 +57,7 @@ def test_without_the_machine_nothing_is_played(page):
     page.before("withoutMachine")
     page.open("#lesson=mcs-late-link&move=0")
     page.press("g")
-    assert "needs a browser with 64-bit" in page.text("#told")
+    assert "needs a browser with 64-bit" in page.text("#notice")
     assert page.js("count", "#choices button") == 0
     page.show("lock mcs threads 1\n")
     assert "Only the lessons can be shown" in page.text("#verdict")

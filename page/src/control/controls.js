@@ -66,10 +66,10 @@ function partsThatAreDrawn(page) {
     const { thread, word } = dataOf(event, '[data-word]');
     if (word) page.playing.choose(Number(thread), word);
   });
-  byId('soon').addEventListener('toggle', () => page.draw());
-  byId('soon-list').addEventListener('click', (event) => {
-    const { soon } = targetOf(event).dataset;
-    if (soon) page.playing.chooseKind(Number(soon));
+  byId('next-kinds').addEventListener('toggle', () => page.draw());
+  byId('next-kinds-list').addEventListener('click', (event) => {
+    const { nextKind } = targetOf(event).dataset;
+    if (nextKind) page.playing.chooseKind(Number(nextKind));
   });
   for (const id of ['verdict', 'nothing-verdict']) {
     byId(id).addEventListener('click', (event) => {

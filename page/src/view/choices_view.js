@@ -39,8 +39,8 @@ export function choicesView(session, every) {
 // Of each kind of move that can be reached in how many moves.
 export function nextKindsView({ ways, whole }) {
   const rows = ways.map(([name, moves], at) => html`<li><button type="button"
-    data-soon="${at}">${T.inMoves(moves.length)}</button> ${name}</li>`);
-  return html`<ul>${rows}</ul>${!whole && html`<p class="hint">${T.soonCut}</p>`}`;
+    data-next-kind="${at}">${T.inMoves(moves.length)}</button> ${name}</li>`);
+  return html`<ul>${rows}</ul>${!whole && html`<p class="hint">${T.nextKindsCut}</p>`}`;
 }
 
 const headerOf = (lock, threads, bits) => (

@@ -37,8 +37,8 @@ export function drawPage(page, reveals) {
 function drawChoices({ session, playing }) {
   show(byId('choices'), choicesView(session, playing.every));
   inputOf('every').checked = playing.every;
-  if (!elementOf('soon', HTMLDetailsElement).open) return;
-  show(byId('soon-list'), nextKindsView(playing.nextKinds.after(session)));
+  if (!elementOf('next-kinds', HTMLDetailsElement).open) return;
+  show(byId('next-kinds-list'), nextKindsView(playing.nextKinds.after(session)));
 }
 
 function drawSide(page) {

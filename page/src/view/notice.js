@@ -7,7 +7,7 @@ const SHOWN = 4000;
 let hiding = 0;
 
 export function tell(text) {
-  const box = byId('told');
+  const box = byId('notice');
   box.textContent = text;
   box.hidden = false;
   clearTimeout(hiding);
