@@ -54,6 +54,11 @@ def answered(name):
     return sorted(asked & answered)
 
 
+# Of each lesson that has a lock, the moves whose question has an answer.
+ASKED_IN = {name: answered(name) for name, report in LESSONS.items()
+            if not report.startswith(("fault", "refused"))}
+
+
 @pytest.mark.parametrize("language", ["en", "de"])
 @pytest.mark.parametrize("width, height", [(360, 780), (390, 844)])
 def test_the_answer_on_a_phone(page, width, height, language):
@@ -61,8 +66,17 @@ def test_the_answer_on_a_phone(page, width, height, language):
     page.resize(width, height)
     page.open(f"#lesson=mcs-late-link&move=9&lang={language}")
     page.press("g")
-    asked = {name: answered(name) for name, report in LESSONS.items()
-             if not report.startswith(("fault", "refused"))}
-    assert sum(map(len, asked.values())) > 20
-    for name, moves in asked.items():
+    assert sum(map(len, ASKED_IN.values())) > 20
+    for name, moves in ASKED_IN.items():
         assert page.js("hidden", name, moves) == [], name
+
+
+@pytest.mark.parametrize("language", ["en", "de"])
+def test_the_answer_fits(page, language):
+    """On a small projector the move, its question and the answer need no scrolling."""
+    page.resize(1024, 768)
+    page.open(f"#lesson=mcs-late-link&move=9&lang={language}")
+    assert sum(map(len, ASKED_IN.values())) > 20
+    scrolled = {name: page.js("scrolledWithAnswer", name, moves)
+                for name, moves in ASKED_IN.items()}
+    assert not any(scrolled.values()), scrolled

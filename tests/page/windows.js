@@ -45,3 +45,14 @@ function hidden(name, moves) {
     return answer.top < now.top || answer.bottom > now.bottom;
   });
 }
+
+// The moves of a lesson at which the part with the move is scrolled once the answer is shown.
+function scrolledWithAnswer(name, moves) {
+  lesson(name);
+  return moves.filter((move) => {
+    go(move);
+    key('a');
+    const { scrollHeight, clientHeight } = byId('now');
+    return !count('#now details[open]') || scrollHeight > clientHeight + 1;
+  });
+}

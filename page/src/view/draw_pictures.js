@@ -81,8 +81,9 @@ export function drawPictures(shown, sizes) {
 
 // What is left free below the code.
 const EDGE = 4;
-// The sentences on a move in smaller letters, if they do not fit otherwise.
-const FITS = ['', '1', '2', '3', '4'];
+// The sentences on a move in smaller letters, if they do not fit otherwise; then less beside them,
+// and at last more room for them.
+const FITS = ['', '1', '1 2', '1 2 3', '1 2 3 4', '1 2 3 4 5'];
 
 function fitNow() {
   const box = byId('now');
