@@ -61,16 +61,20 @@ function typedAtCaret(letter) {
   return settle;
 }
 
-// Of each key of a line that is typed some times at the end of 10,004 moves, each key with the
-// pause after it; the least of the times.
+// Of each key of a line that is typed some times at the end of 10,004 moves, and of the pause after
+// it, in which the text is played: the least of the times.
 function typing(line, times) {
   show(`${BEGUN}${'1 read\n'.repeat(10000)}`);
   inMode('own');
   byId('text').focus();
   byId('text').setSelectionRange(size(), size());
-  const rounds = Array.from({ length: times }, () => (
-    [...line].map((letter) => timed(() => typedAtCaret(letter)()))));
-  return [...line].map((_, at) => Math.min(...rounds.map((keys) => keys[at])));
+  const typeOne = (letter) => {
+    let settle;
+    const key = timed(() => { settle = typedAtCaret(letter); });
+    return [key, timed(settle)];
+  };
+  const rounds = Array.from({ length: times }, () => [...line].flatMap(typeOne));
+  return rounds[0].map((_, at) => Math.min(...rounds.map((one) => one[at])));
 }
 
 // The place after so many choices at the end of a long schedule; how many of them Undo takes back,

@@ -2,16 +2,22 @@
 
 const FEED = 10;
 
+// Byte by byte, which is many times faster than with a function for each.
+function agree(one, other, length) {
+  let at = 0;
+  while (at < length && one[at] === other[at]) at += 1;
+  return at === length;
+}
+
 export function sameBytes(one, other) {
-  return one === other
-    || (one.length === other.length && one.every((value, at) => value === other[at]));
+  return one === other || (one.length === other.length && agree(one, other, one.length));
 }
 
 // Whether the first lines of a text are these bytes, the last of them whole.
 export function beginsWith(bytes, text) {
   const { length } = text;
   const whole = length === bytes.length || text[length - 1] === FEED || bytes[length] === FEED;
-  return whole && length <= bytes.length && text.every((value, at) => value === bytes[at]);
+  return whole && length <= bytes.length && agree(text, bytes, length);
 }
 
 export function toBase64(bytes) {

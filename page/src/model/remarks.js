@@ -8,6 +8,7 @@ import { translatedText } from '../texts/language.js';
 
 /** @typedef {import('./session.js').View} View */
 
+const HASH = '#'.charCodeAt(0);
 const WHOLE = /^#! (?<what>title|learn) (?<text>.+)$/;
 const REMARK = /^#! (?<what>say|ask|answer|name) (?<number>0|[1-9][0-9]{0,4}) (?<text>.+)$/;
 // What a question hides up to its answer; one that does not say it hides `memory`.
@@ -18,6 +19,7 @@ const UNSAID = ['memory'];
 const FIRST_SENTENCE = /^#+ ?(.+?)(?:[:.](?: |$)|$)/;
 
 function comments(text) {
+  if (!text.includes(HASH)) return [];
   const { letters } = lettersOf(text);
   return letters.split('\n').filter((line) => line.startsWith('#'));
 }

@@ -12,6 +12,13 @@ const LINE_HEIGHT = 22;
 const RETURN_SIGN = '\u240d';
 const WAIT = 120;
 
+// How many lines a text has, the last one perhaps empty.
+function linesOf(letters) {
+  let lines = 1;
+  for (let at = letters.indexOf('\n'); at >= 0; at = letters.indexOf('\n', at + 1)) lines += 1;
+  return lines;
+}
+
 export class Editor {
   // `changed(bytes, line)` is called after an edit, `moved(line)` when the caret goes to another
   // line.
@@ -61,7 +68,7 @@ export class Editor {
   }
 
   caretLine() {
-    return this.area.value.slice(0, this.area.selectionStart).split('\n').length;
+    return linesOf(this.area.value.slice(0, this.area.selectionStart));
   }
 
   caretMoved() {
@@ -88,7 +95,7 @@ export class Editor {
 
   // The numbers of the lines in view, with their marks.
   drawGutter() {
-    const lines = this.area.value.split('\n').length;
+    const lines = linesOf(this.area.value);
     const first = Math.floor(this.area.scrollTop / LINE_HEIGHT);
     const last = Math.min(lines, first + Math.ceil(this.area.clientHeight / LINE_HEIGHT) + 1);
     const shift = first * LINE_HEIGHT - this.area.scrollTop;
