@@ -17,6 +17,10 @@ function compared() {
   };
 }
 
-// How far below each sign of a difference its dashed line begins.
-const belowSigns = () => all('.different-sign').map((sign) => (
-  rect(sign.parentNode.querySelector('.different')).top - rect(sign).bottom));
+// How far below the ink of each sign of a difference its dashed line begins, in the picture.
+const belowSigns = () => all('.different-sign').map((sign) => {
+  const pen = document.createElement('canvas').getContext('2d');
+  pen.font = getComputedStyle(sign).font;
+  const ink = sign.y.baseVal[0].value + pen.measureText(sign.textContent).actualBoundingBoxDescent;
+  return sign.parentNode.querySelector('.different').getBBox().y - ink;
+});

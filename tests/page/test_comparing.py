@@ -59,4 +59,4 @@ def test_the_sign_is_whole(page, width, height):
     page.resize(width, height)
     page.open("#lesson=mcs-late-link&move=7&play=0+cas")
     below = page.js("belowSigns")
-    assert len(below) == 2 and min(below) >= 0, below
+    assert len(below) == 2 and min(below) >= 2, below
