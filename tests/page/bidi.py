@@ -1,6 +1,6 @@
 """Debian's Chromium and Firefox, headless, spoken to by WebDriver BiDi over a web socket.
 
-What a browser sees of the machine is one family of letters (fonts.conf), and neither a user's
+What a browser sees of the machine is some families of letters (fonts.conf), and neither a user's
 settings nor the place and the language of the machine.
 """
 import contextlib

@@ -6,8 +6,17 @@ const seen = (selector) => all(selector).filter((one) => (
   one.checkVisibility() && rect(one).width > 0));
 const isApart = (one, other) => one.bottom <= other.top + 1 || one.top >= other.bottom - 1;
 
+// A box on the screen. Of a text in a picture it is without the halo, which Firefox counts.
+function boxOf(node) {
+  if (!(node instanceof SVGTextElement)) return rect(node);
+  const { x, y, width, height } = node.getBBox();
+  const [{ x: left, y: top }, { x: right, y: bottom }] = [[x, y], [x + width, y + height]]
+    .map(([across, down]) => new DOMPoint(across, down).matrixTransform(node.getScreenCTM()));
+  return { left, top, right, bottom };
+}
+
 function outOfView(selector, id) {
-  const isInside = (one) => inside(rect(one), rect(byId(id))) && inside(rect(one), screen());
+  const isInside = (one) => inside(boxOf(one), rect(byId(id))) && inside(boxOf(one), screen());
   return seen(selector).filter((one) => !isInside(one))
     .map((one) => `out of view: ${selector} ${nameOf(one)}`);
 }
@@ -24,13 +33,20 @@ function cutLines() {
 
 const isWider = (node) => node.scrollWidth > node.clientWidth + 1;
 
+// A name that goes on beyond its lane's head.
+function namesOutOfLanes() {
+  const lineOf = (one) => one.parentNode.querySelector('.lane-line');
+  const isOut = (one) => rect(one).right > rect(lineOf(one)).left + 1;
+  return seen('#lanes .lane-name').filter(isOut).map((one) => `beside its lane: ${nameOf(one)}`);
+}
+
 function wrongInParts({ place, refused }, isHidden) {
   const wrong = [
     ...outOfView('.code-line.here', 'code-lines'),
     ...outOfView('#memory-picture [data-moving]', 'memory-picture'),
     ...outOfView('#now .say', 'now'), ...outOfView('#memory-picture text', 'memory-picture'),
     ...outOfView('#numbers text', 'time'), ...outOfView('#lanes text', 'lanes'),
-    ...outOfView('#memory-caption', 'memory'), ...cutLines(),
+    ...outOfView('#memory-caption', 'memory'), ...cutLines(), ...namesOutOfLanes(),
     ...seen('#memory-picture text').filter((one) => one.textContent.endsWith('…')).map(nameOf),
     ...['code-lines', 'now', 'memory-picture'].filter((id) => isWider(byId(id)))
       .map((id) => `wider than its part: ${id}`),
@@ -69,3 +85,15 @@ const wrongAt = (links) => links.map(([fragment, isHidden], i) => {
   if (i) follow(fragment);
   return [...wrongNow(isHidden), ...(isHidden ? wrongWithAnswer() : [])];
 });
+
+// Whether the page is drawn in this family, which the system has.
+function drawnIn(family) {
+  const pen = document.createElement('canvas').getContext('2d');
+  const widthIn = (font) => {
+    pen.font = `100px ${font}`;
+    return pen.measureText('The quick brown fox, MWil 0123').width;
+  };
+  const own = styleOf('body').fontFamily;
+  return own.includes(family) && !document.fonts.size
+    && widthIn(own) === widthIn(`"${family}"`) && widthIn(own) !== widthIn('serif');
+}

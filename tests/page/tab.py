@@ -11,7 +11,7 @@ from tree import TOP
 
 HERE = Path(__file__).parent
 PAGE = TOP / "page" / "lockreplay.html"
-OWN = (PAGE.as_uri(), "about:", "data:", "blob:")
+OWN = ("about:", "data:", "blob:")
 PATIENCE = 60  # seconds
 # How long one question waits for its answer while a page is being opened.
 ASKED_AGAIN = 3
@@ -31,7 +31,7 @@ class Tab:
         self.browser, self.context = browser, browser.tab()
         files = [HERE / "shared.js", HERE / f"{name}.js"]
         self.scripts = "".join(path.read_text() for path in files if path.exists())
-        self.added = {}
+        self.added, self.path = {}, PAGE
         self.browser.told.clear()
         for name in ["reportViolations", "forget"]:
             self.before(name)
@@ -79,11 +79,13 @@ class Tab:
         self.wait(lambda: self.js(name, *values) == wanted, lambda: (
             f"{name}{values} is not {wanted!r}, but {self.js(name, *values)!r}"))
 
-    def open(self, fragment=""):
-        """Loads the page, also if it is there: one does not just go to another fragment of it."""
+    def open(self, fragment="", path=PAGE):
+        """Loads the page, or a changed one, also if it is there: one does not just go to another
+        fragment of it."""
+        self.path = path
         if self.js("isThere"):
             self.load("about:blank")
-        self.load(f"{PAGE.as_uri()}{fragment}")
+        self.load(f"{path.as_uri()}{fragment}")
         self.no_longer("forget")
 
     def load(self, url):
@@ -185,6 +187,6 @@ class Tab:
         told, self.browser.told = self.browser.told, []
         events = [(one["method"], one["params"]) for one in told if "method" in one]
         asked = [given["request"]["url"] for name, given in events if name.startswith("network.")]
-        return [url for url in asked if not url.startswith(OWN)] + [
+        return [url for url in asked if not url.startswith((self.path.as_uri(), *OWN))] + [
             given["text"] for name, given in events
             if name == "log.entryAdded" and given["level"] == "error"]
