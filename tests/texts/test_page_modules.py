@@ -21,6 +21,10 @@ CHANGES = re.compile(rf"\b(?:{REMEMBERED})(?:\.\w+)*\.\w+ (?:[-+|&?*]{{0,2}})= "
                      rf"|\bObject\.assign\((?:{REMEMBERED})\b"
                      rf"|\b(?:{REMEMBERED})(?:\.\w+)*\.(?:go|set|open|derive|load|clear|toggle)\(")
 
+TEXT = re.compile(r"'(?!\.)[^'\n]*'|`[^`]*`")
+# Names that are written like those of code.
+PROPER = {"LaTeX", "TikZ", "WebAssembly", "readAcquires", "readReleases"}
+
 
 def folder(module):
     return module.split("/")[0]
@@ -54,3 +58,10 @@ def test_drawing_changes_nothing():
 def test_no_action_is_a_click():
     """But on the link with which a browser saves, and the field with which it opens files."""
     assert [module for module, text in MODULES.items() if ".click(" in text] == ["lib/files.js"]
+
+
+def test_texts_name_no_code():
+    """A name that is changed all over the modules changes no sentence."""
+    said = [re.sub(r"\$?\{[^}]*\}", "", text) for module, source in MODULES.items()
+            if folder(module) == "texts" for text in TEXT.findall(source)]
+    assert {word for text in said for word in re.findall(r"\w*[a-zäöüß][A-ZÄÖÜ]\w*", text)} == PROPER

@@ -66,7 +66,7 @@ export const german = {
       blocked: 'Der Browser hat kein zweites Fenster erlaubt.',
     },
     find: {
-      title: 'Einen StateAfter suchen',
+      title: 'Einen Moment suchen',
       hint: 'Die bewiesene Suche geht alle Läufe einer neuen Sperre durch und nimmt einen '
         + 'kürzesten, der hat, was du suchst.',
       kind: 'Welcher Zug', own: 'wie die Zeilen unten sagen',
@@ -201,7 +201,7 @@ export const german = {
       ways: {
         own: ['Eigener', 'Einen Ablauf schreiben, öffnen oder fallen lassen.'],
         play: ['Spielen', 'Wählen, wer als nächster zieht.'],
-        find: ['Einen StateAfter suchen', 'Einen kürzesten Lauf mit einem Zug suchen.'],
+        find: ['Einen Moment suchen', 'Einen kürzesten Lauf mit einem Zug suchen.'],
         plans: ['Lehren', 'Vier Unterrichtspläne von zehn Minuten.'],
       },
       size: (moves, minutes) => `${moves} Züge, etwa ${minutes} min`,

@@ -25,7 +25,7 @@ export const germanKeys = {
     ['P', 'drucken: mit Antworten, oder ein Übungsblatt'],
     ['H', 'Saalmodus: große Schrift, zwei Teile; Escape verlässt ihn'],
     ['S', 'der ganze Bildschirm'],
-    ['M', 'einen StateAfter suchen: einen kürzesten Lauf mit einem Zug oder mit eigenen Zeilen'],
+    ['M', 'einen Moment suchen: einen kürzesten Lauf mit einem Zug oder mit eigenen Zeilen'],
     ['V', 'Ansicht: welche Teile gezeigt werden'],
     ['F', 'spätere Züge blass zeichnen'],
     ['T', 'exportieren: Bild, Bericht, Ablauf, ein Rahmen für eine Folie'],
