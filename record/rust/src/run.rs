@@ -216,7 +216,7 @@ impl Run {
     ///
     /// # Panics
     ///
-    /// If the work panics, with the same.
+    /// If the work panics, with the same. Clones of the run have what was noted until then.
     pub fn threads<F>(&self, limit: Duration, work: F) -> Result<Ending, Error>
     where
         F: Fn(&Log) + Sync,

@@ -363,10 +363,12 @@ fn threads_of_ones_own_enter_a_run() -> Result<(), Error> {
     Ok(())
 }
 
+/// What was noted until then is in a clone of the run.
 #[test]
 fn a_panic_of_the_work_goes_on() -> Result<(), Error> {
     let lock = TicketLock::new();
     let run = Run::of(Lock::Ticket, 2).bits(8).mode(Mode::Seed(1)).open()?;
+    let kept = run.clone();
     let caught = thread::spawn(move || {
         let _ = run.threads(LIMIT, |log| {
             round(&lock);
@@ -375,5 +377,7 @@ fn a_panic_of_the_work_goes_on() -> Result<(), Error> {
     });
     let said = caught.join().expect_err("it panics");
     assert!(said.downcast_ref::<String>().expect("a text").contains("as it is meant to be"));
+    let trace = kept.trace()?;
+    assert!(trace.contains("\n1 acquire\n") && trace.contains("\n1 release\n"), "{trace}");
     Ok(())
 }
