@@ -100,3 +100,7 @@ const ticks = (moves) => moves.map((move) => {
   go(move);
   return count('#slider-picture .tick.fails');
 });
+
+// The middle of each number on a wheel, in their order.
+const places = () => all('#memory-picture .place circle').map(rect)
+  .map(({ left, right, top, bottom }) => [(left + right) / 2, (top + bottom) / 2]);

@@ -7,3 +7,7 @@ function onPaper() {
 }
 
 const focusedChoice = () => ({ ...document.activeElement.dataset });
+
+// The words of memory that are marked, and how.
+const markedWords = () => all('#memory-picture .word:is(.read, .changed)').map((box) => (
+  `${box.closest('g').previousElementSibling.textContent} ${box.classList[1]}`));

@@ -166,3 +166,13 @@ def test_a_link_that_names_nothing(page, fragment):
 def test_the_nearest_move(page, move, shown):
     page.open(f"#lesson=mcs-late-link&move={move}")
     assert page.shown()["place"] == shown
+
+
+def test_the_last_twelve_are_kept(page):
+    """At the start they are listed, the newest first."""
+    page.open(LESSON)
+    for threads in range(1, 16):
+        page.show(f"#! title of {threads}\nlock ticket threads {threads}\n")
+    page.press("Escape", "o")
+    titles = [text.split(" at move ")[0] for text in page.js("texts", "[data-kept]")]
+    assert titles == [f"of {threads}" for threads in range(15, 3, -1)], titles

@@ -1,4 +1,6 @@
-"""The page by keys alone: not one click."""
+"""The page by keys alone: not one click. What the list of keys says of each."""
+import pytest
+
 from tree import VERSION
 
 LATE_LINK = "#lesson=mcs-late-link&move="
@@ -36,6 +38,15 @@ def test_running(page):
     page.becomes("true", *runs)
     page.press("Space")
     page.becomes("false", *runs)
+
+
+def test_speed(page):
+    """A full stop is faster and a comma slower, up to the ends of the list."""
+    page.open(f"{LATE_LINK}0")
+    for key, speed in [(".", "2"), (".", "4"), (".", "4"), (",", "2"), (",", "1"), (",", "0.5"),
+                       (",", "0.5"), (".", "1")]:
+        page.press(key)
+        assert page.js("value", "#speed") == speed, key
 
 
 def test_choosing_a_lesson(page):
@@ -91,3 +102,27 @@ def test_quiz(page):
     page.press(ANSWERS[kind], "Enter")
     page.shown(position=f"{move} of 9")
     assert page.js("count", "#quiz-form") == 0
+
+
+# A word of what each key does, and of what German says of it.
+KEYS = {
+    "J": ("next question", "nächste Frage"), "N": ("lesson plans", "Unterrichtspläne"),
+    "2": ("second window", "zweites Fenster"), "A": ("show the answer", "Antwort zeigen"),
+    "O": ("lessons", "Lektionen"), "E": ("your own", "eigener Ablauf"), "G": ("play:", "spielen:"),
+    "W": ("every move", "jeder Zug"), "Q": ("quiz", "Quiz"), "C": ("compare", "vergleichen"),
+    "L": ("link", "Link"), "P": ("print", "drucken"), "H": ("hall mode", "Saalmodus"),
+    "S": ("full screen", "ganze Bildschirm"), "M": ("find a moment", "Moment suchen"),
+    "V": ("view", "Ansicht"), "F": ("later moves", "spätere Züge"), "T": ("export", "exportieren"),
+    "D": ("dark or light", "dunkel oder hell"), "?": ("these keys", "diese Tasten"),
+}
+
+
+@pytest.mark.parametrize("language", ["en", "de"])
+def test_the_list_of_keys(page, language):
+    page.open(f"{LATE_LINK}0&lang={language}")
+    page.press("?")
+    listed = dict(zip(page.js("texts", "#key-list dt"), page.js("texts", "#key-list dd")))
+    said = {key: words[language == "de"] in listed[key] for key, words in KEYS.items()}
+    assert all(said.values()), (said, listed)
+    others = set(listed) - set(KEYS)
+    assert len(others) == 11 and not any(key in KEYS for key in others), others

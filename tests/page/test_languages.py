@@ -54,3 +54,24 @@ def test_by_the_address_and_back(page):
     page.js("click", "#about [data-lang=en]")
     page.wait(lambda: page.tried("language") == "en", lambda: "it stays German")
     page.becomes("#lesson=mcs-late-link&move=10&lang=en", "address")
+
+
+# How threads stand, in a lesson at a move: what German calls it by the report's line, in the room,
+# in a record's head, and below the lanes.
+STANDINGS = {
+    "fifo-reader-waits-behind-writer&move=2": ("#memory-picture .room-name", "drinnen: liest"),
+    "fifo-reader-waits-behind-writer&move=14": ("#memory-picture .room-name", "drinnen"),
+    "fifo-writer-enters-at-once&move=3": ("#memory-picture .room-name", "drinnen: schreibt"),
+    "mcs-late-link&move=3": ("#memory-picture .record.holds .standing", "hält"),
+    "mcs-late-link&move=12": ("#memory-picture .record.queue .standing", "Schlange"),
+}
+SIGNS = {"call": "in einem Aufruf", "queue": "in der Schlange", "reads": "liest",
+         "writes": "schreibt"}
+
+
+def test_how_threads_stand(page):
+    for link, (selector, text) in STANDINGS.items():
+        page.open(f"#lesson={link}&lang=de")
+        assert page.text(selector) == text, link
+    page.open("#lesson=fifo-downgrade&move=0&lang=de")
+    assert page.js("signs") == SIGNS

@@ -102,3 +102,31 @@ def test_ticks_of_what_was(page, width):
     page.resize(width, 900)
     page.open("#lesson=mcs-late-link")
     assert page.js("ticks", [8, 9]) == [0, 1]
+
+
+def test_a_link_that_is_missing(page):
+    """Between two in the queue is a gap until the second one has linked itself."""
+    page.open("#lesson=mcs-late-link&move=12")
+    assert page.js("texts", "#now [data-queue] .gap") == ["⇢"]
+    assert page.js("count", "#memory-picture .link.missing") == 1
+    page.go(14)
+    assert page.js("texts", "#now [data-queue] .gap") == ["→"]
+    assert page.js("count", "#memory-picture .link.missing") == 0
+
+
+def test_the_wheel(page):
+    """Number 0 is at the top, and the others follow clockwise."""
+    page.open("#lesson=ticket-wraps-at-2-bits&move=0")
+    places = page.js("places")
+    middle = [sum(values) / 4 for values in zip(*places)]
+    sides = [[(at > center) - (at < center) if abs(at - center) > 9 else 0
+              for at, center in zip(place, middle)] for place in places]
+    # To the right and down is 1: above, right, below, left.
+    assert sides == [[0, -1], [1, 0], [0, 1], [-1, 0]], places
+
+
+def test_a_write_is_a_change(page):
+    """Also of the value that the word had: a new record's link is cleared."""
+    page.open("#lesson=mcs-late-link&move=2")
+    assert page.js("count", "#memory-picture .record[data-record='0'] .word.changed") == 1
+    assert page.js("count", "#memory-picture .word.read") == 0

@@ -50,6 +50,18 @@ def test_a_wrong_answer_is_told_why(page):
     assert "A reader may not pass" in report and "\n- " in report, report
 
 
+def test_a_wrong_answer_takes_a_point(page):
+    """So one wrong answer and two right ones are one point."""
+    moves = moves_of(LESSONS[LESSON])
+    begin(page, LESSON)
+    page.js("answer", "waits" if page.js("asked")["kind"] == "outcome" else "w2")
+    for points in [0, 1]:
+        shown = page.js("asked")
+        page.js("answer", moves[shown["move"] - 1][TRUTH[shown["kind"]]])
+        assert page.text("#now .score").startswith(
+            f"Points: {points} ({points + 1} right, 1 wrong)"), points
+
+
 @pytest.mark.parametrize("outcome, threads", zip(ALWAYS, [None, "-", "0", "1"]))
 def test_chance_earns_nothing(page, outcome, threads):
     begin(page, "mcs-late-link")

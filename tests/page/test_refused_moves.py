@@ -59,6 +59,15 @@ def test_lesson(page, name, count, last, parts):
         assert part in paper
 
 
+def test_the_word_that_decided_it(page):
+    """Marked is what the refused thread's last move did, also if another thread moved after it."""
+    page.open()
+    page.show("lock ticket threads 2\n0 acquire\n0 add\n1 acquire\n1 add\n1 read\n0 write\n", 5)
+    assert page.js("markedWords") == ["now_serving read"]
+    page.go(6)
+    assert page.js("markedWords") == ["next_ticket changed"]
+
+
 @pytest.mark.parametrize("name, code", [
     ("wrong-step", "ticket := add(next_ticket, 1)"), ("no-call", "")])
 def test_the_line_that_is_due(page, name, code):

@@ -38,6 +38,14 @@ def test_the_variables_of_threads(page, width, height):
     assert page.js("variables", WITH_VARIABLES) == []
 
 
+def test_whose_variables(page):
+    """Bob finds his predecessor by the swap, and Ann her successor by the read."""
+    page.open("#lesson=mcs-late-link&move=12")
+    assert page.js("texts", "#memory-picture .record .own + text") == ["pred = Ann"]
+    page.go(14)
+    assert page.js("texts", "#memory-picture .record .own + text") == ["succ = Bob"]
+
+
 def test_the_line_in_the_lowest_window(page):
     """A phone on its side is too low for the page: the line is in view all the same."""
     page.resize(844, 390)

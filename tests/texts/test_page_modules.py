@@ -64,4 +64,5 @@ def test_texts_name_no_code():
     """A name that is changed all over the modules changes no sentence."""
     said = [re.sub(r"\$?\{[^}]*\}", "", text) for module, source in MODULES.items()
             if folder(module) == "texts" for text in TEXT.findall(source)]
-    assert {word for text in said for word in re.findall(r"\w*[a-zäöüß][A-ZÄÖÜ]\w*", text)} == PROPER
+    words = {word for text in said for word in re.findall(r"\w*[a-zäöüß][A-ZÄÖÜ]\w*", text)}
+    assert words == PROPER

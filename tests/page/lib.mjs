@@ -1,0 +1,87 @@
+// What the page's modules that know no lock give, in Node. Each value was made by hand, from what
+// the head of the module says.
+//
+//     node tests/page/lib.mjs
+
+import assert from 'node:assert/strict';
+import { animated } from '../../page/src/lib/animated_png.js';
+import { lastUpTo, placeAfter } from '../../page/src/lib/ascending.js';
+import { beforeLine, lineOf, linesIn, withoutLines } from '../../page/src/lib/bytes.js';
+import { folding } from '../../page/src/lib/folding.js';
+import { nearestWord } from '../../page/src/lib/nearest_word.js';
+
+const letters = (bytes) => new TextDecoder().decode(bytes);
+const bytes = (text) => new TextEncoder().encode(text);
+
+// Ten threads of which some are kept, as they are shown: a stretch that is folded in brackets.
+function shown(kept, most) {
+  const list = Array.from({ length: 10 }, (_, thread) => thread);
+  return folding(list, (one) => kept.includes(one), most)
+    .map(({ one, folded }) => (folded ? `[${folded.join('')}]` : one)).join(' ');
+}
+
+// Both ends come before neighbours, and what is kept is always there.
+assert.equal(shown([5], 10), '0 1 2 3 4 5 6 7 8 9');
+assert.equal(shown([5], 5), '0 [1234] 5 [678] 9');
+assert.equal(shown([5], 6), '0 [123] 4 5 [678] 9');
+assert.equal(shown([5], 7), '0 [123] 4 5 6 [78] 9');
+assert.equal(shown([], 3), '0 [12345678] 9');
+assert.equal(shown([2, 3, 4], 1), '[01] 2 3 4 [56789]');
+
+// At most one change in three letters; upper case, and `_` for `-`, are none.
+const WORDS = ['acquire', 'release', 'read', 'write', 'swap', 'rw-fifo'];
+const NEAREST = {
+  aquire: 'acquire', relaese: 'release', raed: null, reed: 'read', WRITE: 'write', wrt: null,
+  'RW_FIFO': 'rw-fifo', swp: 'swap', sp: null, lock: null, '': null,
+};
+for (const [found, word] of Object.entries(NEAREST)) {
+  assert.equal(nearestWord(found, WORDS), word, found);
+}
+
+// A place in numbers that ascend, and the last number up to one; 0 if there is none.
+assert.deepEqual([1, 2, 3, 6, 7].map((number) => placeAfter([2, 3, 6], number)), [0, 1, 2, 3, 3]);
+assert.deepEqual([1, 2, 5, 6].map((number) => lastUpTo([2, 3, 6], number)), [0, 2, 3, 6]);
+assert.equal(lastUpTo(undefined, 9), 0);
+
+// Lines are counted from 1, and the last one may have no line feed.
+const TEXT = bytes('one\n\nthree\nfour');
+assert.deepEqual([linesIn(TEXT), linesIn(bytes('')), linesIn(bytes('\n'))], [4, 0, 1]);
+assert.deepEqual([1, 2, 3, 4].map((line) => lineOf(TEXT, line)), ['one', '', 'three', 'four']);
+assert.deepEqual([1, 3, 9].map((line) => letters(beforeLine(TEXT, line))),
+  ['', 'one\n\n', 'one\n\nthree\nfour']);
+assert.equal(letters(withoutLines(TEXT, [1, 4])), '\nthree\n');
+assert.equal(letters(withoutLines(TEXT, [2])), 'one\nthree\nfour');
+
+// Three pictures as one: a chunk's type, and of the delays how long each frame is shown.
+function chunk(type, data) {
+  const view = new DataView(new ArrayBuffer(12 + data.length));
+  view.setUint32(0, data.length);
+  [...bytes(type), ...data].forEach((byte, at) => view.setUint8(4 + at, byte));
+  return [...new Uint8Array(view.buffer)];
+}
+
+const picture = (byte) => Uint8Array.from([137, 80, 78, 71, 13, 10, 26, 10,
+  ...chunk('IHDR', [0, 0, 0, 9, 0, 0, 0, 5, 8, 6, 0, 0, 0]), ...chunk('IDAT', [byte]),
+  ...chunk('IEND', [])]);
+
+// {type, data} of each chunk.
+function chunksOf(png) {
+  const view = new DataView(png.buffer);
+  const found = [];
+  for (let at = 8; at < png.length; at += view.getUint32(at) + 12) {
+    const data = [...png.subarray(at + 8, at + 8 + view.getUint32(at))];
+    found.push({ type: letters(png.subarray(at + 4, at + 8)), data });
+  }
+  return found;
+}
+
+const moving = chunksOf(animated([1, 2, 3].map(picture), 1200, 3000));
+assert.deepEqual(moving.map(({ type }) => type),
+  ['IHDR', 'acTL', 'fcTL', 'IDAT', 'fcTL', 'fdAT', 'fcTL', 'fdAT', 'IEND']);
+assert.deepEqual(moving[1].data, [0, 0, 0, 3, 0, 0, 0, 0]);
+// The number of the chunk, width, height, place, milliseconds of 1000, and what comes before.
+const frame = (number, high, low) => [0, 0, 0, number, 0, 0, 0, 9, 0, 0, 0, 5, ...Array(8).fill(0),
+  high, low, 3, 232, 0, 0];
+assert.deepEqual([2, 4, 6].map((at) => moving[at].data),
+  [frame(0, 4, 176), frame(1, 4, 176), frame(3, 11, 184)]);
+assert.deepEqual([3, 5, 7].map((at) => moving[at].data), [[1], [0, 0, 0, 2, 2], [0, 0, 0, 4, 3]]);
