@@ -112,6 +112,15 @@ LR_AT_ONCE void lr_append(lr_log *log, lr_move move)
     lr_set_count(run->ordered, run->ordered + 1);
 }
 
+/* The same if the file is another one, or the log is full. A note that is not ends in no call, so it
+   needs to keep nothing for after one. */
+__attribute__((cold)) static inline void lr_append_elsewhere(lr_log *log, lr_move move,
+                                                             const char *file, unsigned line)
+{
+    if (log->file != file) lr_turn_to(log, file, line);
+    lr_append(log, move);
+}
+
 #if LR_TURNS
 static inline void lr_before_note(lr_log *log, unsigned word)
 {
@@ -154,19 +163,21 @@ static inline void lr_after_note(lr_log *log, unsigned word, int polls)
 LR_AT_ONCE void lr_note(lr_log *log, unsigned word, unsigned place, unsigned owner, unsigned part,
                         uint64_t value, const char *file, unsigned line)
 {
-    if (log->file != file) lr_turn_to(log, file, line);
     if (place == LR_PLACE_next_ticket || place == LR_PLACE_now_serving) value &= log->mask;
     lr_move move = {value, (uint64_t)line << LR_AT_LINE | (uint64_t)owner << LR_AT_OWNER |
                                part << LR_AT_PART | place << LR_AT_PLACE | word};
 #if LR_TURNS
+    if (log->file != file) lr_turn_to(log, file, line);
     lr_before_note(log, word);
     int polls = lr_is_same(move, &log->noted);
     log->noted = lr_filed(log, move);
-#endif
     lr_append(log, move);
-#if LR_TURNS
     lr_after_note(log, word, polls);
 #else
+    if (log->file == file && log->end != log->limit)
+        lr_append(log, move);
+    else
+        lr_append_elsewhere(log, move, file, line);
     lr_noise(log);
 #endif
 }
