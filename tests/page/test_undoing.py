@@ -60,3 +60,17 @@ def test_a_letter_in_the_text_is_no_undo(page):
     page.press("u")
     after = page.shown(lesson=None)["area"]
     assert len(after) == len(before) + 1 and after.replace("u", "") == before.replace("u", "")
+
+
+def test_edits_are_one_change(page):
+    """What was typed, one letter after another, is undone at once."""
+    page.open("#lesson=ticket-hand-over&move=5")
+    page.press("e")
+    lesson = page.shown()
+    for typed in ["# a", "# ab", "# abc"]:
+        page.js("write", f"{lesson['area']}{typed}")
+    assert page.shown(lesson=None)["area"].endswith("# abc")
+    assert buttons(page) == 2
+    page.click("#undo-own")
+    assert page.shown(lesson="ticket-hand-over") == lesson
+    assert buttons(page) == 0
