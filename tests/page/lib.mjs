@@ -8,6 +8,7 @@ import { animated } from '../../page/src/lib/animated_png.js';
 import { lastUpTo, placeAfter } from '../../page/src/lib/ascending.js';
 import { beforeLine, lineOf, linesIn, withoutLines } from '../../page/src/lib/bytes.js';
 import { folding } from '../../page/src/lib/folding.js';
+import { html } from '../../page/src/lib/markup.js';
 import { nearestWord } from '../../page/src/lib/nearest_word.js';
 
 const letters = (bytes) => new TextDecoder().decode(bytes);
@@ -27,6 +28,12 @@ assert.equal(shown([5], 6), '0 [123] 4 5 [678] 9');
 assert.equal(shown([5], 7), '0 [123] 4 5 6 [78] 9');
 assert.equal(shown([], 3), '0 [12345678] 9');
 assert.equal(shown([2, 3, 4], 1), '[01] 2 3 4 [56789]');
+
+// Every value is escaped, for a text and for an attribute in quotes, unless it is markup itself.
+assert.equal(html`<b title="${'&<>"\''}">${'<i>'}</b>`.text,
+  '<b title="&amp;&lt;&gt;&quot;&#39;">&lt;i&gt;</b>');
+assert.equal(html`${html`<i>${1}</i>`}${[html`<b>`, '<']}${null}${undefined}${false}${0}`.text,
+  '<i>1</i><b>&lt;0');
 
 // At most one change in three letters; upper case, and `_` for `-`, are none.
 const WORDS = ['acquire', 'release', 'read', 'write', 'swap', 'rw-fifo'];

@@ -104,3 +104,15 @@ const ticks = (moves) => moves.map((move) => {
 // The middle of each number on a wheel, in their order.
 const places = () => all('#memory-picture .place circle').map(rect)
   .map(({ left, right, top, bottom }) => [(left + right) / 2, (top + bottom) / 2]);
+
+// Where the hands of a wheel point to: to the right and down is 1.
+const hands = () => Object.fromEntries(['inner', 'outer'].map((name) => {
+  const path = all(`#memory-picture .hand.${name}`).map((one) => one.getAttribute('d'))
+    .find((one) => one.includes('L'));
+  const [fromX, fromY, x, y] = path.match(/[-\d.]+/g).map(Number);
+  return [name, [x - fromX, y - fromY].map((way) => (Math.abs(way) < 3 ? 0 : Math.sign(way)))];
+}));
+
+const shapeOf = (selector) => document.querySelector(selector).tagName;
+const signShape = (label) => all('#legend > span').find((one) => plain(one.textContent) === label)
+  .querySelector('.step').tagName;

@@ -57,6 +57,14 @@ def test_the_clock(page):
     page.until("clockBegins", "−1:")
 
 
+def test_the_clock_of_a_later_step(page):
+    """The third step of this plan begins with minute 4, so six are left."""
+    page.open()
+    page.press("Escape", "n")
+    page.click("#plans [data-plan='mcs'][data-step='2']")
+    assert re.fullmatch(r"6:00|5:5\d", page.js("step")["clock"])
+
+
 def test_minutes():
     """Each plan has ten, in at least five steps of its lock, and homework."""
     assert [plan["lock"] for plan in PLANS] == list(LESSONS)

@@ -130,3 +130,23 @@ def test_a_write_is_a_change(page):
     page.open("#lesson=mcs-late-link&move=2")
     assert page.js("count", "#memory-picture .record[data-record='0'] .word.changed") == 1
     assert page.js("count", "#memory-picture .word.read") == 0
+
+
+@cases("text", {
+    "tickets": "lock ticket threads 2 bits 2\n0 acquire\n0 add\n",
+    "readers": "lock rw-fifo threads 2 bits 2\n0 rlock\n0 section\n"})
+def test_the_hands(page, text):
+    """The outer hand has the count that went on, to the right; the inner one is still at 0."""
+    page.open()
+    page.show(text, 2)
+    assert page.js("hands") == {"inner": [0, -1], "outer": [1, 0]}
+
+
+def test_shapes_of_outcomes(page):
+    """A mark in the lanes and its sign in the legend have one shape."""
+    page.open("#lesson=mcs-late-link&move=16")
+    marks = {3: "path", 10: "circle", 15: "rect", 16: "path"}
+    assert {move: page.js("shapeOf", f"#lanes [data-move='{move}'] .step")
+            for move in marks} == marks
+    signs = {"entered": "path", "left": "rect", "waits: failed poll": "circle"}
+    assert {label: page.js("signShape", label) for label in signs} == signs

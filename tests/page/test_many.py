@@ -71,3 +71,11 @@ def test_no_value_is_cut(page, lock, moves, mode):
     text = "\n".join([f"lock {lock} threads 2", *moves]) + "\n"
     page.js("open", [text, mode, len(moves)])
     assert page.js("cut") == []
+
+
+def test_marks_beside_a_line(page):
+    """Of eight threads at one line of code five are marked, and three counted."""
+    page.open()
+    page.show("lock ticket threads 8\n" + "".join(f"{thread} acquire\n" for thread in range(8)), 8)
+    assert page.js("texts", "#code-lines .more") == ["+3"]
+    assert page.js("texts", "#code-lines .disc") == ["0", "1", "2", "3", "4"]

@@ -4,7 +4,7 @@ import pytest
 from tree import TESTS, ran
 
 
-@pytest.mark.parametrize("script", ["module", "bytes", "moments", "known", "lib", "arrows"])
+@pytest.mark.parametrize("script", ["module", "bytes", "moments", "known", "lib", "model"])
 def test_in_node(module, script):
     done = ran("node", TESTS / "page" / f"{script}.mjs", module)
     assert done.returncode == 0, done.stderr

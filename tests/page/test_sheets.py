@@ -45,3 +45,13 @@ def test_as_a_pdf(page, name, tmp_path):
     said = " ".join(" ".join(pages).split())
     assert "Name:" in said and "Date:" in said and "fill in" in said
     assert not [line for line in remarks(name, "answer") if line in said]
+
+
+def test_questions_of_the_first_moves(page):
+    """A question before the first move is on the sheet, and one at it and at the last."""
+    page.open()
+    asked = "".join(f"#! ask {move} Number {move}?\n" for move in range(3))
+    page.show(f"lock ticket threads 1\n{asked}0 acquire\n0 add\n")
+    page.js("sheet")
+    assert page.js("texts", "#paper .asked dt") == ["0", "1", "2"]
+    assert page.js("texts", "#paper .asked dd") == ["Number 0?", "Number 1?", "Number 2?"]

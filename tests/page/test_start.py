@@ -21,6 +21,9 @@ def test_without_a_link(page):
         for at, (name, said) in enumerate(card["lessons"], 1):
             assert said.startswith(str(at)) and " moves, about " in said, said
             assert name not in said, "no name of a file"
+    # Ten moves of 8 seconds, and three questions of 30.
+    first = dict(cards[0]["lessons"])["ticket-hand-over"]
+    assert first.endswith("10 moves, about 3 min"), first
     assert page.js("refusals") == [12, False]
     assert page.js("ways") == ["own", "play", "find", "plans"]
 

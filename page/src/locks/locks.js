@@ -14,6 +14,7 @@ import { ticket } from './ticket.js';
  * @typedef {import('../model/session.js').View} View
  * @typedef {import('../machine/machine.js').AnyState} State
  * @typedef {import('./shapes.js').Picture} Picture
+ * @typedef {Pick<View, 'run' | 'names'>} Named
  * @typedef {object} Lock
  * @property {string} name in schedules
  * @property {string} title
@@ -24,11 +25,10 @@ import { ticket } from './ticket.js';
  * @property {string[]} signs of its lanes, by their names in the legend
  * @property {{text: string, kinds: string[]}} [wraps] what is said when a count wraps around
  * @property {(view: View, move: number) => string} mark what is below a move's mark
- * @property {(view: View, move: number, phase: number) => Object<string, string>} [values] further
- *   values of its sentences
- * @property {(word: number, named: {run: View['run'], names: View['names']}) => string} wordName
- * @property {(word: number, value: bigint, named: {run: View['run'], names: View['names']}) =>
- *   string} valueText
+ * @property {(named: Named, move: number, phase: number) => Object<string, string>} [values]
+ *   further values of its sentences
+ * @property {(word: number, named: Named) => string} wordName
+ * @property {(word: number, value: bigint, named: Named) => string} valueText
  * @property {(view: View, state: State) => Picture} draw its memory
  * @property {(view: View, state: State) => {text: string, missing?: boolean}} caption below it
  * @property {(view: View, state: State) => number} leastWidth of the picture at its full size

@@ -9,7 +9,7 @@ import { lockOf } from './locks.js';
 /** @typedef {import('../model/session.js').View} View */
 
 // What fills the places of a sentence. A word's place has its value after the move.
-/** @param {View} view */
+/** @param {import('./locks.js').Named} view */
 function valuesOf(view, move) {
   const { run, names } = view;
   const { records } = run;
@@ -24,7 +24,7 @@ function valuesOf(view, move) {
   };
 }
 
-/** @param {View} view */
+/** @param {import('./locks.js').Named} view */
 export function sentence(view, move) {
   const { run } = view;
   const { records } = run;

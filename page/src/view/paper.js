@@ -66,7 +66,7 @@ const threadName = (names, thread) => (names.has(thread)
 /** @param {View} view */
 function answers(view, move) {
   const state = view.run.state(move);
-  return [OUTCOMES[view.run.records.outcome(move)], sentence({ ...view, move }, move),
+  return [OUTCOMES[view.run.records.outcome(move)], sentence(view, move),
     html`<code>${short(holdersText(state))}</code>`, html`<code>${short(queueText(state))}</code>`];
 }
 

@@ -1,0 +1,112 @@
+// What the page reads off a lock's code, names and records, in Node. It was made by hand, from
+// docs/LOCKS.md and reports: the moves of each lock, what threads are called, where two runs differ,
+// which write ended which wait, what is said below memory, and that a count wraps around.
+//
+//     node tests/page/model.mjs MODULE.wasm
+
+import assert from 'node:assert/strict';
+import { readFileSync } from 'node:fs';
+import { LOCK_NAMES } from '../../page/src/machine/codes.js';
+import {
+  awaitedLines, codeOf, linesOf, ownWords, wordsOf,
+} from '../../page/src/machine/locks_code.js';
+import { learnWords } from '../../page/src/machine/word_names.js';
+import { arrowsBetween, arrowsOf } from '../../page/src/model/arrows.js';
+import { firstDifference } from '../../page/src/model/compare_runs.js';
+import { Names } from '../../page/src/model/names.js';
+import { Run } from '../../page/src/model/run.js';
+import { Session } from '../../page/src/model/session.js';
+import { learnKinds } from '../../page/src/model/kinds.js';
+import { lockOf } from '../../page/src/locks/locks.js';
+import { sentence } from '../../page/src/locks/sentences.js';
+import { kindsOf } from '../../page/build/kinds.mjs';
+import { bytesOf, examples, machineOf, module } from './node.mjs';
+
+// From the write to the move that found what it waited for.
+const ARROWS = {
+  // A poll before one's turn, and the write of the next number.
+  'ticket-hand-over': ['9 10'],
+  // The link that came late, and the grant.
+  'mcs-late-link': ['13 14', '15 16'],
+  // The last reader leaves, for which the writer waits since it announced itself; then the writer,
+  // for which a reader waits. Of two counts that are compared the one that changed last ends it.
+  'fifo-reader-waits-behind-writer': ['9 11', '14 15'],
+};
+
+const document = readFileSync(new URL('../../docs/LOCKS.md', import.meta.url), 'utf8');
+const [lines, words] = [linesOf(codeOf(document)), wordsOf(document)];
+
+const READ_WRITE = ['rlock', 'section', 'runlock', 'wlock', 'wunlock', 'downgrade'];
+const MOVES = {
+  ticket: ['acquire', 'add', 'read', 'release', 'write'],
+  mcs: ['acquire', 'write', 'swap', 'read', 'release', 'cas'],
+  'rw-simple': READ_WRITE, 'rw-fifo': READ_WRITE,
+};
+LOCK_NAMES.forEach((name, lock) => {
+  assert.deepEqual(ownWords(lines[lock]).sort(), [...MOVES[name]].sort(), name);
+});
+
+// A mark is a name's first letter, or the number if other names begin with it.
+const names = new Names(new Map([[0, 'Ann'], [1, 'bert'], [2, 'Bob']]));
+assert.deepEqual([0, 1, 2, 3].map((thread) => names.mark(thread)), ['A', '1', '2', '3']);
+assert.deepEqual([0, 3].map((thread) => names.of(thread)), ['Ann', 'thread 3']);
+assert.deepEqual([1, 12].map((thread) => names.short(thread)), ['bert', 'T12']);
+assert.equal(names.few([2, 3, 0, 1, 4]), 'Bob, thread 3, Ann, bert, thread 4');
+assert.equal(names.few([2, 3, 0, 1, 4, 5]), 'Bob, thread 3, Ann, bert, 2 more');
+
+const machine = machineOf();
+for (const { name, text } of examples().filter((one) => ARROWS[one.name])) {
+  const run = new Run(machine, text);
+  const arrows = arrowsOf(run, awaitedLines(lines[run.kind]), words[LOCK_NAMES[run.kind]]);
+  assert.deepEqual(arrows.map(({ from, to }) => `${from} ${to}`), ARROWS[name], name);
+  // In view are those that end there.
+  const [{ to }] = arrows;
+  const ends = arrows.map((arrow) => arrow.to);
+  assert.equal(arrowsBetween(arrows, ends, to, to).length, 1);
+  assert.equal(arrowsBetween(arrows, ends, 1, to - 1).length, 0);
+}
+
+// The first move after which two runs differ: also the one that only the other has; 0 for none.
+const runOf = (...moves) => new Run(machine,
+  bytesOf(['lock ticket threads 2', ...moves, ''].join('\n')));
+const differs = (one, other) => firstDifference(one, other, (move) => Math.min(move, other.last));
+const BEGUN = ['0 acquire', '0 add'];
+assert.equal(differs(runOf(...BEGUN), runOf(...BEGUN)), 0);
+assert.equal(differs(runOf(...BEGUN, '0 read'), runOf(...BEGUN, '1 acquire')), 3);
+assert.equal(differs(runOf(...BEGUN), runOf(...BEGUN, '0 read')), 3);
+assert.equal(differs(runOf(...BEGUN, '0 read'), runOf(...BEGUN)), 3);
+
+const CAPTIONS = {
+  'ticket-hand-over': {
+    0: 'No ticket is in use: the next one is 0.', 6: 'Ticket 0 is served; the next ticket is 2.',
+    10: 'Ticket 1 is served; the next ticket is 2.',
+  },
+  'mcs-late-link': {
+    0: 'The queue is empty.', 3: 'Ann is alone in the queue.',
+    12: 'Ann is followed by Bob, and only Bob knows.', 14: 'Every link of the queue is written.',
+  },
+  'simple-reader-passes-writer': { 0: 'Nobody is inside, readers 0, flag 0.' },
+  'fifo-writer-enters-at-once': {
+    2: 'Thread 0 writes, readAcquires 0, readReleases 0, flag 1.',
+  },
+};
+learnWords(words);
+for (const { name, text } of examples().filter((one) => CAPTIONS[one.name])) {
+  const session = new Session(machine, lines);
+  session.open(text);
+  for (const [move, said] of Object.entries(CAPTIONS[name])) {
+    const view = session.view({}, Number(move));
+    const caption = lockOf(view.run).caption(view, view.run.state(view.move));
+    assert.equal(caption.text, said, `${name} ${move}`);
+  }
+}
+
+// The fourth ticket is the last of two bits: after it comes 0. Both counters wrap in that round.
+learnKinds(kindsOf(module));
+const ROUND = ['acquire', 'add', 'read', 'release', 'read', 'write'].map((word) => `0 ${word}`);
+const four = new Run(machine, bytesOf(
+  ['lock ticket threads 1 bits 2', ...ROUND, ...ROUND, ...ROUND, ...ROUND, ''].join('\n')));
+const WRAPS = 'After 3 comes 0: the numbers wrap around.';
+const wraps = Array.from({ length: four.count }, (_, at) => at + 1)
+  .filter((move) => sentence({ run: four, names: new Names() }, move).endsWith(WRAPS));
+assert.deepEqual(wraps, [20, 24]);
