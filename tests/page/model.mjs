@@ -1,6 +1,6 @@
 // What the page reads off a lock's code, names and records, in Node. It was made by hand, from
-// docs/LOCKS.md and reports: the moves of each lock, what threads are called, where two runs differ,
-// which write ended which wait, what is said below memory, and that a count wraps around.
+// docs/LOCKS.md and reports: the moves of each lock, what threads are called, where two runs
+// differ, which write ended which wait, what is said below memory, and that a count wraps around.
 //
 //     node tests/page/model.mjs MODULE.wasm
 
