@@ -1,6 +1,7 @@
 // What the page reads off a lock's code, names and records, in Node. It was made by hand, from
 // docs/LOCKS.md and reports: the moves of each lock, what threads are called, where two runs
-// differ, which write ended which wait, what is said below memory, and that a count wraps around.
+// differ, what threads are doing, which write ended which wait, what is said below memory, and that
+// a count wraps around.
 //
 //     node tests/page/model.mjs MODULE.wasm
 
@@ -16,6 +17,7 @@ import { firstDifference } from '../../page/src/model/compare_runs.js';
 import { Names } from '../../page/src/model/names.js';
 import { Run } from '../../page/src/model/run.js';
 import { Session } from '../../page/src/model/session.js';
+import { spansOf, unlinkedSpans } from '../../page/src/model/spans.js';
 import { learnKinds } from '../../page/src/model/kinds.js';
 import { lockOf } from '../../page/src/locks/locks.js';
 import { sentence } from '../../page/src/locks/sentences.js';
@@ -64,6 +66,27 @@ for (const { name, text } of examples().filter((one) => ARROWS[one.name])) {
   const ends = arrows.map((arrow) => arrow.to);
   assert.equal(arrowsBetween(arrows, ends, to, to).length, 1);
   assert.equal(arrowsBetween(arrows, ends, 1, to - 1).length, 0);
+}
+
+// What each thread is doing, and from which move to which; an MCS record is linked by the second
+// write after the swap. What goes on at the end goes on beyond the last move.
+const SPANS = {
+  'mcs-late-link': [['call 1 3', 'holds 3 15'], ['call 4 8', 'queue 8 16', 'holds 16 17']],
+  'ticket-hand-over': [['call 4 5', 'queue 5 10', 'holds 10 11'],
+    ['call 1 2', 'queue 2 3', 'holds 3 9']],
+  'fifo-reader-waits-behind-writer': [['call 1 2', 'reads 2 9'],
+    ['call 3 4', 'queue 4 11', 'writes 11 14'], ['call 5 15', 'reads 15 16']],
+};
+const UNLINKED = { 'mcs-late-link': [[], ['8 13']] };
+for (const { name, text } of examples().filter((one) => SPANS[one.name])) {
+  const run = new Run(machine, text);
+  SPANS[name].forEach((due, thread) => {
+    const found = spansOf(run, thread, 1, run.count);
+    assert.deepEqual(found.map(({ kind, from, to }) => `${kind} ${from} ${to}`), due, name);
+    const unlinked = unlinkedSpans(run, thread, 1, run.count);
+    assert.deepEqual(unlinked.map(({ from, to }) => `${from} ${to}`),
+      UNLINKED[name]?.[thread] ?? [], name);
+  });
 }
 
 // The first move after which two runs differ: also the one that only the other has; 0 for none.
