@@ -339,7 +339,7 @@ size_t lt_fault_text(uint32_t fault, uint8_t *text, size_t room)
         "LeftOther: the lock leaves another value in the word",
         "WroteOther: the lock's compare-and-swap ends otherwise",
         "CountNotAbove: the section's count is not above those before it",
-        "OtherOutcome: something else comes of the lock's section", "", "",
+        "OtherOutcome: something else comes of the lock's step", "", "",
         "NoHeader: there is no header", "BadHeader: not a header",
         "BadThreads: not a number of threads", "WordsTooNarrow: words too narrow for the threads",
         "BadLine: not a move",

@@ -102,7 +102,11 @@ OUTCOME = "the end, the section's count, or moved, waits, entered or left"
     ("2 swap tail left 1 found 1", 20, "'found'", "the end"),
     ("2 swap tail done", 13, "'done'", "the end, 'found' or 'left'"),
     ("2 swap found 1", 8, "'found'",
-     "the end, or a word: next_ticket, now_serving, tail, next or locked"),
+     "the end, a word (next_ticket, now_serving, tail, next or locked), or moved, waits, entered or "
+     "left"),
+    ("2 swap moved tail", 8, "'moved'",
+     "the end, a word (next_ticket, now_serving, tail, next or locked), or moved, waits, entered or "
+     "left"),
     ("2 write next of 256 left 1", 17, "'256'", THREAD), ("2 write next of", 17, END, THREAD),
     ("2 write tail of 1", 14, "'of'", "the end, 'found' or 'left'"),
     ("2 cas tail failed left 1", 19, "'left'", "the end"),

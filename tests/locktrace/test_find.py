@@ -35,7 +35,8 @@ NOWHERE = [
 ]
 
 LINE = "not a line of a sketch (BadLine)"
-OPEN = "'next_ticket', 'now_serving', 'tail', 'next', 'locked', 'found'"
+OPEN = ("'next_ticket', 'now_serving', 'tail', 'next', 'locked', 'moved', 'waits', "
+        "'entered', 'left'")
 STEPS = "a call (acquire, rlock ..) or a step (read, write, swap, cas, add, section)"
 
 # A line of a sketch that is none, and what is said of it: column, what is there, what could be.
@@ -45,8 +46,8 @@ FAULTS = [
     ("*", f"  column 3: the end of the line, expected {STEPS}\n"),
     ("* cas tail fund 3", "  column 12: 'fund', expected the end, 'found', 'left', 'done' or "
                           "'failed'; did you mean 'found'?\n"),
-    ("* read done", f"  column 8: 'done', expected the end, {OPEN} or 'left'\n"),
-    ("* cas fond 3", f"  column 7: 'fond', expected the end, {OPEN}, 'left', 'done' or 'failed'"
+    ("* read done", f"  column 8: 'done', expected the end, {OPEN} or 'found'\n"),
+    ("* cas fond 3", f"  column 7: 'fond', expected the end, {OPEN}, 'found', 'done' or 'failed'"
                      "; did you mean 'found'?\n"),
     ("* cas found x", "  column 13: 'x', expected a number of at most 64 bits\n"),
     ("0 cas found", "  column 13: the end of the line, expected a number of at most 64 bits\n"),
@@ -55,6 +56,15 @@ FAULTS = [
     ("* section done", "  column 11: 'done', expected the end, the section's count, or moved, "
                        "waits, entered or left\n"),
     ("* acquire now", "  column 11: 'now', expected the end\n"),
+]
+
+# A line that no run of an MCS lock of two threads has, and why.
+NEVER = [
+    ("0 add", "the lock has no such operation or step (WrongLock)"),
+    ("* section waits", "the lock has no such operation or step (WrongLock)"),
+    ("1 wlock", "the lock has no such operation or step (WrongLock)"),
+    ("2 acquire", "no such thread (NoSuchThread)"),
+    ("255 read next found 0", "no such thread (NoSuchThread)"),
 ]
 
 # The words after `space`, and what is said of them: they name no lock.
@@ -76,6 +86,22 @@ NO_LOCKS = [
 def test_usage(tracer, words):
     output, error, status = tracer.run(*shlex.split(words))
     assert (output, status) == ("", 2) and error.startswith("error:")
+
+
+def test_bits_beside_a_file(tracer):
+    tracer.write(sketch="lock mcs threads 2\n* cas failed\n")
+    assert tracer.run("find", "--bits", "8", "sketch") == (
+        "", "error: --bits goes with a lock and its threads; a file has its own in its header\n", 2)
+
+
+@pytest.mark.parametrize("line, why", NEVER)
+def test_line_that_no_run_has(tracer, line, why):
+    """In the words of the command, and in a text. Nothing is searched."""
+    said = f"no run has this line: {why}\n"
+    assert tracer.run("find", "mcs", "2", "* cas", line) == (
+        "", f"locktrace: '{line}': {said}", 2)
+    assert tracer.run("find", "-", stdin=f"lock mcs threads 2\n\n{line}\n") == (
+        "", f"-:3: {said}", 4)
 
 
 @pytest.mark.parametrize("words, said", NO_LOCKS, ids=str)

@@ -169,7 +169,9 @@ def test_order(tracer):
     made = tracer.folder / "made"
     assert tracer.run("order", *LOGS, "-o", "made") == ("", "", 0)
     assert tracer.run("check", "made/run.trace") == ("", "", 0)
-    assert sorted(path.name for path in made.iterdir()) == ["run-0001.schedule", "run.trace"]
+    names = ["order.list", "run-0001.schedule", "run.trace"]
+    assert sorted(path.name for path in made.iterdir()) == names
+    assert (made / "order.list").read_text() == "run.trace\nrun-0001.schedule\n"
     assert tracer.run("schedule", "made/run.trace") == (
         (made / "run-0001.schedule").read_text(), "", 0)
 
@@ -283,21 +285,29 @@ def test_moves_left_out(tracer, polls, said):
     assert tracer.run("check", "made/run.trace") == ("", "", 0)
 
 
-def test_schedules_of_an_earlier_order(tracer):
+def test_files_of_an_earlier_order(tracer):
     """They are removed, and nothing else of the folder is."""
     made = tracer.folder / "again"
     made.mkdir()
-    own = ["own.schedule", "run-0002.schedules", "run-2.schedule"]
+    own = ["own.schedule", "run-0002.schedules", "run-0009.schedule"]
     tracer.write(**{f"again/{name}": "lock mcs threads 2\n" for name in own})
     # a schedule has at most 65,536 moves: 10,922 rounds of 6
     for count, schedules in ((21_845, 3), (10_923, 2), (10_922, 1)):
         tracer.write(**{"one.log": log("ticket", 0, ROUND * count + WHOLE, 1)})
         assert tracer.run("order", "one.log", "-o", "again") == ("", "", 0)
-        due = [f"run-{number:04}.schedule" for number in range(1, schedules + 1)]
-        assert sorted(path.name for path in made.iterdir()) == sorted([*own, *due, "run.trace"])
-    (made / "run-0002.schedule").mkdir()
-    output, error, status = tracer.run("order", "one.log", "-o", "again")
-    assert (output, status) == ("", 3) and error.startswith("locktrace: cannot write: ")
+        due = ["run.trace", *(f"run-{number:04}.schedule" for number in range(1, schedules + 1))]
+        assert (made / "order.list").read_text() == "".join(f"{name}\n" for name in due)
+        assert sorted(path.name for path in made.iterdir()) == sorted([*own, *due, "order.list"])
+
+
+@pytest.mark.parametrize("name", ["run.trace", "run-0001.schedule"])
+def test_file_that_no_order_wrote(tracer, name):
+    """It may be a folder, too."""
+    (tracer.folder / "own").mkdir()
+    (tracer.folder / "own" / name).mkdir()
+    assert tracer.run("order", *LOGS, "-o", "own") == (
+        "", f"locktrace: own/{name} is not of an earlier order\n", 3)
+    assert [path.name for path in (tracer.folder / "own").iterdir()] == [name]
 
 
 @pytest.mark.parametrize("moves, said", [(99_998, b""), (100_000, ORDERED)])

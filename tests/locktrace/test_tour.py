@@ -119,6 +119,27 @@ def test_file_that_no_tour_wrote(tracer):
     assert files_in(tracer.folder / "own") == {"0001.schedule": "own\n"}
 
 
+@pytest.mark.parametrize("name", ["0001.schedule.new", "tour.list.new"])
+def test_links_are_not_followed(tracer, name):
+    """The name under which a file is written, before it gets its own, may be a link."""
+    own, folder = tracer.folder / "own", tracer.folder / "linked"
+    own.write_text("own\n")
+    folder.mkdir()
+    (folder / name).symlink_to(own)
+    output, *more = tracer.run("tour", "ticket", "1", "-o", folder)
+    assert output and more == ["", 0]
+    assert own.read_text() == "own\n"
+    assert files_in(folder) == {"0001.schedule": TICKET, LIST: "0001.schedule\n"}
+
+
+def test_link_in_the_place_of_a_schedule(tracer):
+    """It leads nowhere, and is still not of a tour."""
+    (tracer.folder / "linked").mkdir()
+    (tracer.folder / "linked/0001.schedule").symlink_to("nowhere")
+    assert tracer.run("tour", "ticket", "1", "-o", "linked") == (
+        "", "locktrace: linked/0001.schedule is not of an earlier tour\n", 3)
+
+
 @cases("words, status, said", {
     "no folder is named": ("ticket 1", 2, "error:"),
     "no lock": ("tickets 1 -o none", 2,

@@ -17,7 +17,7 @@ pub enum Wrong {
     Written,
     /// A section has a count that is not above the last one.
     Count,
-    /// A section has another outcome.
+    /// The step has another outcome.
     Outcome,
 }
 

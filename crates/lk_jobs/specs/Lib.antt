@@ -1,7 +1,7 @@
 pub mod Answered
 pub mod Counted
 pub mod Drawn
+pub mod FileNames
 pub mod Orders
-pub mod TourFiles
 pub mod Written
 pub mod invariants

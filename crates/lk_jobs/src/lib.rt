@@ -10,6 +10,7 @@ pub mod check;
 pub mod cover;
 pub mod explain;
 pub mod find;
+mod folder;
 pub mod order;
 mod progress;
 mod run;

@@ -13,7 +13,7 @@ mod report;
 mod search;
 
 use crate::progress::Progress;
-use files::{write_schedules, write_trace};
+use files::{write_files, write_trace};
 use lk_order::{Log, Order};
 use lk_text::course::Course;
 use lk_text::formats::Format;
@@ -23,7 +23,6 @@ use logs::take_logs;
 use report::{OrderReport, put_cut, put_hang, put_stuck};
 pub use search::{BadLog, Search, Sought, search_logs};
 use std::alloc::Global;
-use std::fs;
 use std::io::{Eprint, Write};
 use std::rt::Files;
 
@@ -51,11 +50,7 @@ fn write_found<R: Files>(
     folder: &str,
     report: &mut OrderReport,
 ) -> Result<(), Failure> {
-    fs::create_dir_all(rt, folder)?;
-    let path = format!(in alloc; "{folder}/run.trace")?;
-    let mut file = fs::create(rt, path.as_str())?;
-    write_trace(alloc, order, hung, &mut file)?;
-    let left_out = write_schedules(rt, alloc, order, folder)?;
+    let left_out = write_files(rt, alloc, order, hung, folder)?;
     if left_out > 0 {
         let moves = Value::Count(left_out as u64, "move is", "moves are");
         report.warnings.say(0, TOO_LONG, &[("moves", moves)]);

@@ -1,20 +1,23 @@
 //! A sketch of a run, read line by line from a file or from the words of a command: a header, and
 //! lines of a trace in which parts are open.
 
-ghost use Rattle.std.specs.Prelude.{◌≡◌, ◌≤◌, vec_len};
+ghost use Rattle.std.specs.Prelude.{◌≡◌, ◌≤◌, IfSome, Some, length, vec_len};
+ghost use Rattle.lk_locks.specs.State.{State};
+ghost use Rattle.lk_locks.specs.Steps.{refusal_of};
 ghost use Rattle.lk_text.specs.Texts.{Grows};
 
 use lk_lines::{Status, is_skipped, number_of};
-use lk_locks::Shape;
+use lk_locks::{Refusal, Shape, belongs};
 use lk_search::{Admitted, SketchFault, admit};
 use lk_text::follow::unread;
 use lk_text::formats::{PLAIN, put_text};
 use lk_text::{Text, Value, open, put_wrong, take_lines, wrong_in_header};
-use lk_trace::{TextFault, read_header, unreadable_sketch_line};
+use lk_trace::{TextFault, TraceLine, read_header, unreadable_sketch_line};
 use std::alloc::{AllocError, Global};
 use std::fmt::InlineText;
 use std::io::{Error, Read};
 use std::rt::Runtime;
+use thiserror::Error;
 
 /// Where a sketch is.
 #[derive(Debug, Drop)]
@@ -33,6 +36,31 @@ const MOST_LINES: usize = 255;
 const REMARK: &str = "#!";
 
 const ROUNDS: &str = "#! rounds ";
+
+/// Why a line is none of a sketch.
+#[derive(Clone, Copy, PartialEq, Eq, Debug, Error)]
+pub enum LineFault {
+    #[error("{0}")]
+    Unread(SketchFault),
+    /// Each lock of the header's shape refuses this move, whatever was done before.
+    #[error("no run has this line: {0} ({})", .0.name())]
+    Never(Refusal),
+}
+
+// Why each lock of this shape refuses the move of a line, whatever was done before.
+fn always_refused(header: Shape, line: &TraceLine) -> Option<Refusal>
+    ensures { IfSome result (λ refusal. (s : State) → s.kind ≡ header.kind
+        → length s.phases ≡ header.threads
+        → refusal_of s line.now.thread line.now.action ≡ Some refusal) }
+{
+    if line.thread >= header.threads() {
+        return Some(Refusal::NoSuchThread);
+    }
+    if !belongs(header.kind(), line.action) {
+        return Some(Refusal::WrongLock);
+    }
+    None
+}
 
 /// A sketch of which some lines were read.
 #[derive(Drop)]
@@ -81,38 +109,59 @@ impl Sketch {
         }
     }
 
-    /// Reads the next line, without its end. After a fault the sketch is as it was, or some of the
-    /// line's.
+    // Reads the header.
+    fn take_header(&mut self, line: &[u8]) -> Option<LineFault> {
+        match read_header(line) {
+            Ok(header) => {
+                self.header = Some(header);
+                None
+            }
+            Err(fault) => Some(LineFault::Unread(SketchFault::Header(fault))),
+        }
+    }
+
+    // Why no run has a line of which these are admitted, if that is so. All of them are the same
+    // move, by one thread or by each.
+    fn never(&self, header: Shape, first: usize) -> Option<LineFault> {
+        let admitted = self.admitted.get(first)?;
+        always_refused(header, &admitted.trace).map(LineFault::Never)
+    }
+
+    // Reads a line that is to occur on a lock of this shape.
+    fn take_line(
+        &mut self,
+        alloc: Global,
+        header: Shape,
+        line: &[u8],
+    ) -> Result<Option<LineFault>, AllocError> {
+        if self.lines.len() >= MOST_LINES {
+            return Ok(Some(LineFault::Unread(SketchFault::TooManyLines)));
+        }
+        let number = self.lines.len() as u8;
+        let Ok(text) = str::from_utf8(line) else {
+            return Ok(Some(LineFault::Unread(SketchFault::BadLine)));
+        };
+        let (kind, threads, first) = (header.kind(), header.threads(), self.admitted.len());
+        if !admit(&mut self.admitted, kind, threads, number, line)? {
+            return Ok(Some(LineFault::Unread(SketchFault::BadLine)));
+        }
+        self.lines.push(String::from_str(alloc, text)?)?;
+        Ok(self.never(header, first))
+    }
+
+    /// Reads the next line, without its end. After a fault the sketch may have some of the line.
     ///
     /// # Errors
     ///
     /// A request for memory was refused.
-    pub fn line(&mut self, alloc: Global, line: &[u8]) -> Result<Option<SketchFault>, AllocError> {
+    pub fn line(&mut self, alloc: Global, line: &[u8]) -> Result<Option<LineFault>, AllocError> {
         if is_skipped(line) {
-            return Ok(self.comment(line));
+            return Ok(self.comment(line).map(LineFault::Unread));
         }
-        let Some(header) = self.header else {
-            return match read_header(line) {
-                Ok(header) => {
-                    self.header = Some(header);
-                    Ok(None)
-                }
-                Err(fault) => Ok(Some(SketchFault::Header(fault))),
-            };
-        };
-        if self.lines.len() >= MOST_LINES {
-            return Ok(Some(SketchFault::TooManyLines));
+        match self.header {
+            Some(header) => self.take_line(alloc, header, line),
+            None => Ok(self.take_header(line)),
         }
-        let number = self.lines.len() as u8;
-        let Ok(text) = str::from_utf8(line) else {
-            return Ok(Some(SketchFault::BadLine));
-        };
-        let (kind, threads) = (header.kind(), header.threads());
-        if !admit(&mut self.admitted, kind, threads, number, line)? {
-            return Ok(Some(SketchFault::BadLine));
-        }
-        self.lines.push(String::from_str(alloc, text)?)?;
-        Ok(None)
     }
 }
 
@@ -129,13 +178,13 @@ const AT_LINE: &str = "{name}:{line}: {fault}\n";
 const AT_WORD: &str = "locktrace: '{name}': {fault}\n";
 
 // Writes what is wrong with a line: the fault, the column, what is there and what could be there.
-fn put_fault(text: &mut Text, alloc: Global, line: &[u8], fault: SketchFault)
+fn put_fault(text: &mut Text, alloc: Global, line: &[u8], fault: LineFault)
     ensures { Grows text.old text.new }
 {
     let wrong = match fault {
-        SketchFault::Header(TextFault::NoHeader) => return,
-        SketchFault::Header(_) => wrong_in_header(line),
-        SketchFault::BadLine => unreadable_sketch_line(line),
+        LineFault::Unread(SketchFault::Header(TextFault::NoHeader)) => return,
+        LineFault::Unread(SketchFault::Header(_)) => wrong_in_header(line),
+        LineFault::Unread(SketchFault::BadLine) => unreadable_sketch_line(line),
         _ => return,
     };
     text.put("  ");
@@ -157,7 +206,7 @@ fn put_front<'a>(text: &mut Text, name: &'a Text, number: u64, fault: &'a str)
 
 // Writes what is wrong with the line of this number in an input, or if the number is 0 with this
 // word of the command.
-fn put_named(text: &mut Text, alloc: Global, place: (&str, u64), line: &[u8], fault: SketchFault)
+fn put_named(text: &mut Text, alloc: Global, place: (&str, u64), line: &[u8], fault: LineFault)
     ensures { Grows text.old text.new }
 {
     let mut name = Text::new(alloc);
@@ -174,7 +223,7 @@ fn whole(sketch: Sketch, alloc: Global, place: (&str, u64), errors: &mut Text) -
     if let Some(header) = sketch.header {
         return Ok((sketch, header));
     }
-    let fault = SketchFault::Header(TextFault::NoHeader);
+    let fault = LineFault::Unread(SketchFault::Header(TextFault::NoHeader));
     put_named(errors, alloc, place, b"".as_slice(), fault);
     Err(Status::Faulty)
 }

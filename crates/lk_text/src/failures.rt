@@ -13,6 +13,9 @@ pub enum Failure {
     /// Standard output or a file to be written failed.
     #[error("cannot write: {0}")]
     Output(#[from] io::Error),
+    /// A file that no earlier run wrote is in the place of one to be written: what to say of it.
+    #[error("{0}")]
+    InPlace(String),
     #[error("out of memory")]
     Memory(#[from(alloc)] AllocError),
 }

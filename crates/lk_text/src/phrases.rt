@@ -73,7 +73,7 @@ fn put_seen(text: &mut Text, thread: u8, seen: Seen) {
                 None => "",
             });
         }
-        Seen::InSection { count, outcome } => {
+        Seen::WithOutcome { count, outcome } => {
             put_part(text, " ", count);
             if let Some(outcome) = outcome {
                 text.put(" ");

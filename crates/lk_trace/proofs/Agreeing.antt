@@ -27,7 +27,7 @@ use Rattle.lk_trace.specs.Checks.{seen_other, values_other}
 use denote.Enum.Bare.{same_true, true_same}
 use Rattle.lk_locks.specs.contracts.kinds.Outcome.{the_type}
 use Rattle.lk_trace.specs.declared.line.Seen.{Seen}
-use Rattle.lk_trace.specs.declared.line.Seen.TheVariants.{InSection, Nothing, OnWord}
+use Rattle.lk_trace.specs.declared.line.Seen.TheVariants.{WithOutcome, Nothing, OnWord}
 use Rattle.lk_trace.specs.declared.line.TraceLine.{TraceLine}
 use Rattle.std.proofs.lemmas.Bool.{eqb-true, eq-eqb, cond-true}
 use Rattle.lk_locks.specs.declared.kinds.Move.{Move}
@@ -142,7 +142,7 @@ seen_agrees : (c : Checked) (t : ℕ) (m : Move) (seen : Seen) → IsWithin c.lo
 seen_agrees c t m Nothing within = (λ none. tt, λ agrees. refl)
 seen_agrees c t m (OnWord word found left wrote) within =
     word_agrees c.lock.state t m word found left wrote (effect_of c.lock.state t m) refl within
-seen_agrees c t m (InSection count outcome) within =
+seen_agrees c t m (WithOutcome count outcome) within =
     let both = both_agree _ _ (part_agrees _ _ _ count (Decides-ltb c.sections))
     (λ _. part_agrees _ _ _ outcome
     (λ o. (same_true the_type tt _ o, true_same the_type _ o))) in (
@@ -199,5 +199,5 @@ stays_well c l w accepted =
 
 -- a count that a line gives is the last one afterwards
 pub counted : (last : ℕ) (seen : Seen) → IsCounted last (count_in seen) (count_given last seen)
-counted last (InSection (Some n) outcome) = record { given_is = refl; stays = λ e. cc }
+counted last (WithOutcome (Some n) outcome) = record { given_is = refl; stays = λ e. cc }
 counted last seen = record { given_is = tt; stays = λ _. refl }

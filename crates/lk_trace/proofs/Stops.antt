@@ -3,7 +3,7 @@
 use Rattle.std.proofs.Common.{◌≡◌, ◌≤◌, ℕ, List, [], ◌∷◌, Option, Some, None, Result, Ok, Err}
 use Rattle.std.proofs.Common.{Bool, true, false, not, cond, ◌||◌, ◌&&◌, is_ok, is_some, arith}
 use Rattle.std.proofs.Common.{bytes_eq, codes, length, nat_lt, refl}
-use Rattle.std.specs.Option.{ok_or}
+use Rattle.std.specs.Option.{ok_or, option_map_or}
 use Rattle.std.specs.Result.{result_ok}
 use Rattle.lk_locks.specs.declared.kinds.Move.{Move}
 use Rattle.lk_locks.specs.declared.kinds.Move.TheVariants.{Call, Step}
@@ -12,7 +12,7 @@ use Rattle.lk_locks.specs.declared.kinds.StepKind.TheVariants.{Section}
 use Rattle.lk_lines.specs.Lines.{words_of}
 use Rattle.lk_lines.specs.Vocabulary.{move_named}
 use Rattle.lk_trace.specs.Lines.{◌>>=◌, Read, Remaining, Words, in_record, owner_of}
-use Rattle.lk_trace.specs.Lines.{seen_of, values_in, values_of, with_place}
+use Rattle.lk_trace.specs.Lines.{outcome_alone, seen_of, step_of, values_in, values_of, with_place}
 use Rattle.lk_trace.specs.Open.{doer_named, doer_of, filled_line, filled_line_on, move_after}
 use Rattle.lk_trace.specs.Unreadable.{both_stop, is_open_line, sketch_stop}
 use Rattle.lk_trace.specs.declared.due.Due.TheVariants.{AnyThread, Found, Of, OpenMove, Place}
@@ -35,6 +35,12 @@ either : {A : Type 0} (is_read : A → Bool) (test : Bool) (a b x y : A) → is_
     → is_read b ≡ is_read y → is_read (cond test a b) ≡ is_read (cond test x y)
 either is_read true a b x y first second = first
 either is_read false a b x y first second = second
+
+unless_alone : {A B : Type 0} (found : Option A) (f : A → Result B Remaining)
+    (a b : Result B Remaining) → is_ok a ≡ is_ok b
+    → is_ok (option_map_or f found a) ≡ is_ok (option_map_or f found b)
+unless_alone (Some x) f a b same = refl
+unless_alone None f a b same = same
 
 -- ---- on which word a step was, and whose own record it is in
 
@@ -60,11 +66,15 @@ place_same t u kind (name ∷ rest) =
 
 -- ---- a move
 
+step_same : (t u : ℕ) (kind : StepKind) (words : Words)
+    → is_ok (step_of t kind words) ≡ is_ok (step_of u kind words)
+step_same t u kind words = unless_alone (outcome_alone words) _ _ _ (place_same t u kind words)
+
 named_same : (t u : ℕ) (action : Move) (words : Words)
     → is_ok (seen_of t None action words) ≡ is_ok (seen_of u None action words)
 named_same t u (Call op) words = refl
 named_same t u (Step Section) words = refl
-named_same t u (Step kind) words = place_same t u kind words
+named_same t u (Step kind) words = step_same t u kind words
 
 on_same : (t u : ℕ) (v w : WordName) (action : Move) (words : Words)
     → is_ok (seen_of t (Some v) action words) ≡ is_ok (seen_of u (Some w) action words)

@@ -8,7 +8,7 @@ use Rattle.lk_locks.specs.declared.kinds.Outcome.{Outcome}
 use Rattle.lk_trace.specs.Checks.{Checked, word_of, value_of, value_after}
 use Rattle.lk_trace.specs.declared.names.WordName.{WordName}
 use Rattle.lk_trace.specs.declared.line.Seen.{Seen}
-use Rattle.lk_trace.specs.declared.line.Seen.TheVariants.{Nothing, OnWord, InSection}
+use Rattle.lk_trace.specs.declared.line.Seen.TheVariants.{Nothing, OnWord, WithOutcome}
 use Rattle.lk_trace.specs.declared.line.TraceLine.{TraceLine}
 
 -- the machine's step is on this word, and found and leaves in it what is given
@@ -19,7 +19,7 @@ pub record AgreesOnWord (s : State) (t : ℕ) (m : Move) (word : WordName) (foun
   pub left_is : IfSome left (λ v. value_after s t m word ≡ v)
   pub wrote_is : IfSome wrote (λ w. not (value_of s word == value_after s t m word) ≡ w)
 
--- the section's count is above those before, and this comes of it
+-- the count of a section is above those before, and this comes of the step
 pub record AgreesOnSection (c : Checked) (t : ℕ) (m : Move) (count : Option ℕ)
     (outcome : Option Outcome) : Type 0 where
   pub count_is : IfSome count (λ n. c.sections < n)
@@ -28,7 +28,7 @@ pub record AgreesOnSection (c : Checked) (t : ℕ) (m : Move) (count : Option �
 abbrev pub AgreesOn : Checked → ℕ → Move → Seen → Type 0
 AgreesOn c t m Nothing = Unit {0}
 AgreesOn c t m (OnWord word found left wrote) = AgreesOnWord c.lock.state t m word found left wrote
-AgreesOn c t m (InSection count outcome) = AgreesOnSection c t m count outcome
+AgreesOn c t m (WithOutcome count outcome) = AgreesOnSection c t m count outcome
 
 -- the machine accepts the move, and each part that the line gives is the machine's
 pub record Agrees (c : Checked) (l : TraceLine) : Type 0 where
@@ -37,7 +37,7 @@ pub record Agrees (c : Checked) (l : TraceLine) : Type 0 where
 
 -- the count that a line gives
 abbrev pub count_in : Seen → Option ℕ
-count_in (InSection count outcome) = count
+count_in (WithOutcome count outcome) = count
 count_in seen = None
 
 -- a count that a line gives is the last one afterwards, and a line without one leaves it

@@ -25,7 +25,7 @@ use Rattle.lk_trace.specs.Names.{name_at, place_of, same_word}
 use Rattle.lk_trace.specs.declared.checker.Made.{Made}
 use Rattle.lk_trace.specs.declared.names.WordName.{WordName}
 use Rattle.lk_trace.specs.declared.line.Seen.{Seen}
-use Rattle.lk_trace.specs.declared.line.Seen.TheVariants.{Nothing, OnWord, InSection}
+use Rattle.lk_trace.specs.declared.line.Seen.TheVariants.{Nothing, OnWord, WithOutcome}
 use Rattle.lk_trace.specs.declared.line.TraceLine.{TraceLine}
 use Rattle.lk_trace.specs.declared.difference.Difference.{Difference}
 use Rattle.lk_trace.specs.declared.difference.Difference.TheVariants as differs
@@ -110,7 +110,7 @@ abbrev pub seen_other : Checked → ℕ → Move → Seen → Option Difference
 seen_other c t m Nothing = None
 seen_other c t m (OnWord word found left wrote) =
     effect_other c.lock.state.kind (effect_of c.lock.state t m) word found left wrote
-seen_other c t m (InSection count outcome) =
+seen_other c t m (WithOutcome count outcome) =
     section_other c.sections (change_of c.lock.state t m).outcome count outcome
 
 -- where a line of a trace differs from the machine first
@@ -120,7 +120,7 @@ difference_of c l =
     (seen_other c l.thread l.action l.seen)
 
 abbrev pub count_given : ℕ → Seen → ℕ
-count_given last (InSection (Some count) outcome) = count
+count_given last (WithOutcome (Some count) outcome) = count
 count_given last seen = last
 
 -- the lock after a move that it accepts

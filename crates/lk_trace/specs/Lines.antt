@@ -8,6 +8,7 @@ use Rattle.std.specs.Str.{bytes_eq}
 use Rattle.std.specs.Borrow.{Bor}
 use Rattle.lk_locks.specs.declared.kinds.Move.{Move}
 use Rattle.lk_locks.specs.declared.kinds.Move.TheVariants.{Call, Step}
+use Rattle.lk_locks.specs.declared.kinds.Outcome.{Outcome}
 use Rattle.lk_locks.specs.declared.kinds.StepKind.{StepKind}
 use Rattle.lk_locks.specs.declared.kinds.StepKind.TheVariants.{Cas, Section}
 use Rattle.lk_lines.specs.Lines.{words_of}
@@ -22,7 +23,7 @@ use Rattle.lk_trace.specs.declared.names.WordName.{WordName}
 use Rattle.lk_trace.specs.declared.names.WordName.TheVariants.{NextTicket, NowServing, Tail, Next}
 use Rattle.lk_trace.specs.declared.names.WordName.TheVariants.{Locked}
 use Rattle.lk_trace.specs.declared.line.Seen.{Seen}
-use Rattle.lk_trace.specs.declared.line.Seen.TheVariants.{Nothing, OnWord, InSection}
+use Rattle.lk_trace.specs.declared.line.Seen.TheVariants.{Nothing, OnWord, WithOutcome}
 use Rattle.lk_trace.specs.declared.line.TraceLine.{TraceLine}
 
 abbrev pub Words : Type 0
@@ -118,8 +119,8 @@ values_of thread kind at = with_place kind (place_in thread kind at)
 abbrev pub outcome_of : Option ℕ → Remaining → Result Seen Remaining
 outcome_of count (word ∷ rest, due) =
     ok_or (outcome_named word) (word ∷ rest, due)
-    >>= λ outcome. ended (InSection count (Some outcome)) rest
-outcome_of count ([], due) = Ok (InSection count None)
+    >>= λ outcome. ended (WithOutcome count (Some outcome)) rest
+outcome_of count ([], due) = Ok (WithOutcome count None)
 
 -- the count of a section, its outcome, or both
 abbrev pub section_of : Words → Result Seen Remaining
@@ -128,11 +129,22 @@ section_of (first ∷ rest) =
     (outcome_of None (first ∷ rest, Count))
 section_of [] = Ok Nothing
 
+-- the outcome that is all that follows
+abbrev pub outcome_alone : Words → Option Outcome
+outcome_alone (word ∷ []) = outcome_named word
+outcome_alone words = None
+
+-- what came of a step, or what it saw of its word
+abbrev pub step_of : ℕ → StepKind → Words → Result Seen Remaining
+step_of thread kind words =
+    option_map_or (λ outcome. Ok (WithOutcome None (Some outcome))) (outcome_alone words)
+    (values_of thread kind (words, Place kind))
+
 -- what follows a move, on this word if the line does not name it
 abbrev pub seen_of : ℕ → Option WordName → Move → Words → Result Seen Remaining
 seen_of thread None (Call op) words = ended Nothing words
 seen_of thread None (Step Section) words = section_of words
-seen_of thread None (Step kind) words = values_of thread kind (words, Place kind)
+seen_of thread None (Step kind) words = step_of thread kind words
 seen_of thread (Some word) (Call op) words = Err (words, OfSchedule End)
 seen_of thread (Some word) (Step Section) words = Err (words, OfSchedule End)
 seen_of thread (Some word) (Step kind) words = values_on kind word (words, Found kind)

@@ -43,7 +43,7 @@ fn count_given(last: u64, seen: Seen) -> u64
     ensures { result ≡ count_given last seen }
 {
     match seen {
-        Seen::InSection { count, .. } => count.unwrap_or(last),
+        Seen::WithOutcome { count, .. } => count.unwrap_or(last),
         _ => last,
     }
 }

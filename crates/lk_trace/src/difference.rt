@@ -38,7 +38,7 @@ pub enum Difference {
         last: u64,
         given: u64,
     },
-    /// The section has another outcome.
+    /// The step has another outcome.
     OtherOutcome {
         outcome: Outcome,
         given: Outcome,

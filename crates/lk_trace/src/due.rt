@@ -14,7 +14,7 @@ pub enum Due {
     /// The count of a section, or its outcome.
     Count,
     Outcome,
-    /// The word of the lock that the step was on.
+    /// The word of the lock that the step was on, or its outcome.
     Place(StepKind),
     /// `of`, `found`, or what may follow that.
     Of(StepKind),
@@ -34,7 +34,7 @@ pub enum Due {
     AnyThread,
     /// Of a sketch: a call or a step.
     OpenMove,
-    /// Of a sketch: the word of the lock, or a part without it.
+    /// Of a sketch: the word of the lock, a part without it, or the outcome.
     Open(StepKind),
 }
 
@@ -43,15 +43,19 @@ pub(crate) const END: Due = Due::OfSchedule(Expected::End);
 
 const OUTCOME: &str = "moved, waits, entered or left";
 
-// The words of the locks, and the parts that may come if a sketch names no word.
-const OPEN: [&str; 9] = [
+// The words of the locks, the outcomes, and the parts that may come if a sketch names no word:
+// `left` is both.
+const OPEN: [&str; 12] = [
     "next_ticket",
     "now_serving",
     "tail",
     "next",
     "locked",
-    "found",
+    "moved",
+    "waits",
+    "entered",
     "left",
+    "found",
     "done",
     "failed",
 ];
@@ -75,9 +79,9 @@ impl Due {
             Due::OfSchedule(Expected::Bits) => &["bits"],
             Due::OfSchedule(Expected::Action) | Due::OpenMove => &MOVE_WORDS,
             Due::Count | Due::Outcome => &OUTCOME_WORDS,
-            Due::Place(_) => OPEN.get(..5).unwrap_or(&[]),
+            Due::Place(_) => OPEN.get(..9).unwrap_or(&[]),
             Due::Open(StepKind::Cas) => &OPEN,
-            Due::Open(_) => OPEN.get(..7).unwrap_or(&[]),
+            Due::Open(_) => OPEN.get(..10).unwrap_or(&[]),
             Due::Of(kind) => parts_from(kind, 0),
             Due::Found(kind) => parts_from(kind, 1),
             Due::Left(kind) => parts_from(kind, 2),
@@ -94,8 +98,9 @@ impl fmt::Display for Due {
             Due::OpenMove => write!(f, "{}", Expected::Action),
             Due::Count => write!(f, "the end, the section's count, or {OUTCOME}"),
             Due::Outcome => write!(f, "the end, or {OUTCOME}"),
-            Due::Place(_) => f.write_str(
-                "the end, or a word: next_ticket, now_serving, tail, next or locked",
+            Due::Place(_) => write!(
+                f,
+                "the end, a word (next_ticket, now_serving, tail, next or locked), or {OUTCOME}",
             ),
             Due::Owner(_) => f.write_str("a thread's number, from 0 to 255"),
             Due::FoundValue(_) | Due::LeftValue(_) => { f.write_str("a number of at most 64 bits") }

@@ -5,10 +5,11 @@ ghost use Rattle.std.specs.Prelude.{◌≡◌, [], ◌∷◌, IfOk, IfSome, Matc
 ghost use Rattle.lk_lines.specs.Digits.{whole_number};
 ghost use Rattle.lk_lines.specs.Lines.{words_of};
 ghost use Rattle.lk_lines.specs.Vocabulary.{number_of};
-ghost use Rattle.lk_trace.specs.Lines.{line_of_words, move_with, outcome_of, owner_of, part_of};
-ghost use Rattle.lk_trace.specs.Lines.{place_in, remaining, result_alone, result_of, section_of};
-ghost use Rattle.lk_trace.specs.Lines.{seen_of, short_line_of, short_log_line_of, tagged};
-ghost use Rattle.lk_trace.specs.Lines.{values_of, values_on, whole_of, word_in, words_left};
+ghost use Rattle.lk_trace.specs.Lines.{line_of_words, move_with, outcome_alone, outcome_of};
+ghost use Rattle.lk_trace.specs.Lines.{owner_of, part_of, place_in, remaining, result_alone};
+ghost use Rattle.lk_trace.specs.Lines.{result_of, section_of, seen_of, short_line_of};
+ghost use Rattle.lk_trace.specs.Lines.{short_log_line_of, step_of, tagged, values_of, values_on};
+ghost use Rattle.lk_trace.specs.Lines.{whole_of, word_in, words_left};
 
 use crate::WordName;
 use crate::due::{Due, END};
@@ -30,8 +31,8 @@ pub enum Seen {
         left: Option<u64>,
         wrote: Option<bool>,
     },
-    /// Which section of its monitor it was, and what came of it.
-    InSection {
+    /// What came of the step; and of a section, which one of its monitor it was.
+    WithOutcome {
         count: Option<u64>,
         outcome: Option<Outcome>,
     },
@@ -202,7 +203,7 @@ fn outcome_of(rest: Rest<'_>, count: Option<u64>) -> Whole<'_, Seen>
     ensures { whole_of result ≡ outcome_of count (remaining rest.entry) }
 {
     let Some((word, after)) = first_word(rest.0) else {
-        return Ok(Seen::InSection {
+        return Ok(Seen::WithOutcome {
             count,
             outcome: None,
         });
@@ -210,7 +211,7 @@ fn outcome_of(rest: Rest<'_>, count: Option<u64>) -> Whole<'_, Seen>
     let outcome = outcome_named(word).ok_or(rest)?;
     match first_word(after) {
         Some(_) => Err((after, END)),
-        None => Ok(Seen::InSection {
+        None => Ok(Seen::WithOutcome {
             count,
             outcome: Some(outcome),
         }),
@@ -230,6 +231,30 @@ fn section_of(text: Option<&[u8]>) -> Whole<'_, Seen>
     }
 }
 
+// The outcome that is all that follows.
+fn outcome_alone(text: Option<&[u8]>) -> Option<Outcome>
+    ensures { result ≡ outcome_alone (words_left text.entry) }
+{
+    let (word, after) = first_word(text)?;
+    match first_word(after) {
+        Some(_) => None,
+        None => outcome_named(word),
+    }
+}
+
+// What came of a step, or what it saw of its word, if something is said.
+fn step_of(text: Option<&[u8]>, thread: u8, kind: StepKind) -> Whole<'_, Seen>
+    ensures { whole_of result ≡ step_of thread kind (words_left text.entry) }
+{
+    match outcome_alone(text) {
+        Some(outcome) => Ok(Seen::WithOutcome {
+            count: None,
+            outcome: Some(outcome),
+        }),
+        None => values_of((text, Due::Place(kind)), thread, kind),
+    }
+}
+
 // What follows a move, on this word if the line does not name it.
 fn seen_of(text: Option<&[u8]>, thread: u8, on: Option<WordName>, action: Move) -> Whole<'_, Seen>
     ensures { whole_of result ≡ seen_of thread on action (words_left text.entry) }
@@ -240,7 +265,7 @@ fn seen_of(text: Option<&[u8]>, thread: u8, on: Option<WordName>, action: Move) 
             None => Ok(Seen::Nothing),
         },
         (None, Move::Step(StepKind::Section)) => section_of(text),
-        (None, Move::Step(kind)) => values_of((text, Due::Place(kind)), thread, kind),
+        (None, Move::Step(kind)) => step_of(text, thread, kind),
         (Some(_), Move::Call(_) | Move::Step(StepKind::Section)) => Err((text, END)),
         (Some(word), Move::Step(kind)) => values_on((text, Due::Found(kind)), word, kind),
     }

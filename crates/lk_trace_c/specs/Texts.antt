@@ -20,7 +20,7 @@ text_of_number number =
     else (if number == 11 then codes "WroteOther: the lock's compare-and-swap ends otherwise"
     else (if number
     == 12 then codes "CountNotAbove: the section's count is not above those before it"
-    else (if number == 13 then codes "OtherOutcome: something else comes of the lock's section"
+    else (if number == 13 then codes "OtherOutcome: something else comes of the lock's step"
     else (if number == 16 then codes "NoHeader: there is no header"
     else (if number == 17 then codes "BadHeader: not a header"
     else (if number == 18 then codes "BadThreads: not a number of threads"

@@ -41,7 +41,7 @@ pub fn fault_text(fault: u32) -> &'static str
         10 => "LeftOther: the lock leaves another value in the word",
         11 => "WroteOther: the lock's compare-and-swap ends otherwise",
         12 => "CountNotAbove: the section's count is not above those before it",
-        13 => "OtherOutcome: something else comes of the lock's section",
+        13 => "OtherOutcome: something else comes of the lock's step",
         16 => "NoHeader: there is no header",
         17 => "BadHeader: not a header",
         18 => "BadThreads: not a number of threads",

@@ -130,6 +130,12 @@ fn header_of(
 pub fn find_given(alloc: Global, matches: &ArgMatches<'_>) -> Result<SearchJob, ParseFault> {
     let words = matches.get_strs("words").unwrap_or(&[]);
     let place = match words {
+        [_] if matches.get_str("bits").is_some() => {
+            return usage(
+                alloc,
+                "error: --bits goes with a lock and its threads; a file has its own in its header\n",
+            );
+        }
         [file] => Place::File(String::from_str(alloc, *file)?),
         [lock, threads, parts @ ..] if !parts.is_empty() => {
             let mut lines = vec![in alloc; header_of(alloc, matches, *lock, *threads)?]?;
@@ -185,6 +191,17 @@ pub fn tour_given(alloc: Global, matches: &ArgMatches<'_>) -> Result<SearchJob, 
     })
 }
 
+// The kinds of transition that are required, by their names.
+fn kinds_given(alloc: Global, names: &str) -> Result<Vec<String>, ParseFault> {
+    for name in names.split(',') {
+        if !is_kind(name) {
+            let text = format!(in alloc; "error: --require '{name}' is no kind of transition\n")?;
+            return Err(ParseFault::Usage(text));
+        }
+    }
+    Ok(names_in(alloc, names)?)
+}
+
 /// The job of the command `cover`.
 pub fn cover_given(alloc: Global, matches: &ArgMatches<'_>) -> Result<SearchJob, ParseFault> {
     let forms = [("text", CoverFormat::Text), ("json", CoverFormat::Json)];
@@ -192,13 +209,7 @@ pub fn cover_given(alloc: Global, matches: &ArgMatches<'_>) -> Result<SearchJob,
     let (all, required) = match matches.get_str("require") {
         None => (false, Vec::new(alloc)),
         Some(text) if text == "all" => (true, Vec::new(alloc)),
-        Some(text) if text.split(',').all(is_kind) => (false, names_in(alloc, text)?),
-        Some(_) => {
-            return usage(
-                alloc,
-                "error: --require names a kind of transition that no lock has\n",
-            );
-        }
+        Some(text) => (false, kinds_given(alloc, text)?),
     };
     Ok(SearchJob::Cover(CoverJob {
         format,

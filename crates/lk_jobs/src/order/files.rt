@@ -1,14 +1,14 @@
 //! An order as text: its trace, and schedules that are cut where nobody is in a call and nobody
 //! holds.
 
+use crate::folder::{ENDING, Folder, RUN, TRACE};
 use crate::run::put_header;
 use lk_order::{Order, Piece, Pieces};
 use lk_text::course::{Course, Fate};
 use lk_text::phrases::{put_line, put_move};
 use lk_text::{Failure, Text, Value};
 use std::alloc::{AllocError, Global};
-use std::fs;
-use std::io::{ErrorKind, Write};
+use std::io::Write;
 use std::rt::Files;
 
 // Writes which threads of a run that hangs have ended, as a recorder writes it.
@@ -61,44 +61,57 @@ fn schedule_of(alloc: Global, order: &Order, piece: Piece) -> Text {
     text
 }
 
-fn schedule_path(alloc: Global, folder: &str, number: usize) -> Result<String, AllocError> {
-    format!(in alloc; "{folder}/run-{number:04}.schedule")
-}
-
-// Removes the schedules from this number on that an earlier order left: those without a gap.
-fn remove_schedules<R: Files>(
-    rt: &R,
-    alloc: Global,
-    folder: &str,
-    first: usize,
-) -> Result<(), Failure> {
-    for number in first..usize::MAX {
-        let path = schedule_path(alloc, folder, number)?;
-        match fs::remove_file(rt, path.as_str()) {
-            Err(error) if error.kind() == ErrorKind::NotFound => return Ok(()),
-            removed => removed?,
+// The names of the files of an order.
+fn names_of(alloc: Global, order: &Order) -> Result<Vec<String>, AllocError> {
+    let mut names = vec![in alloc; String::from_str(alloc, TRACE)?]?;
+    let mut pieces = Pieces::new(order);
+    for number in 1..usize::MAX {
+        if pieces.next_piece().is_none() {
+            break;
         }
+        names.push(format!(in alloc; "{RUN}{number:04}{ENDING}")?)?;
     }
-    Ok(())
+    Ok(names)
 }
 
-/// Writes the schedules of an order into a folder, without those of an earlier one, and gives how
-/// many moves are in none.
-pub fn write_schedules<R: Files>(
+// Writes the schedules of an order under these names, and gives how many moves are in none.
+fn write_schedules<R: Files>(
     rt: &R,
     alloc: Global,
     order: &Order,
-    folder: &str,
+    folder: Folder<'_>,
+    names: &[String],
 ) -> Result<usize, Failure> {
     let mut pieces = Pieces::new(order);
-    for number in 1..usize::MAX {
+    for name in names {
         let Some(piece) = pieces.next_piece() else {
-            remove_schedules(rt, alloc, folder, number)?;
             break;
         };
         let text = schedule_of(alloc, order, piece);
-        let path = schedule_path(alloc, folder, number)?;
-        fs::write(rt, path.as_str(), text.as_str()?)?;
+        folder.write(rt, alloc, name, text.as_str()?)?;
     }
     Ok(pieces.left_out())
+}
+
+/// Writes the trace and the schedules of an order into a folder, in place of an earlier order, and
+/// gives how many moves are in no schedule.
+pub fn write_files<R: Files>(
+    rt: &R,
+    alloc: Global,
+    order: &Order,
+    hung: Option<&Course>,
+    path: &str,
+) -> Result<usize, Failure> {
+    let folder = Folder {
+        path,
+        command: "order",
+    };
+    let names = names_of(alloc, order)?;
+    folder.clear(rt, alloc, &names)?;
+    let mut file = folder.create(rt, alloc, TRACE)?;
+    let written = write_trace(alloc, order, hung, &mut file);
+    folder.finish(rt, alloc, TRACE, written)?;
+    let left_out = write_schedules(rt, alloc, order, folder, names.get(1..).unwrap_or(&[]))?;
+    folder.write_list(rt, alloc, &names)?;
+    Ok(left_out)
 }

@@ -113,7 +113,7 @@ fn missing_in(kind: LockKind, line: TraceLine) -> Option<&'static str> {
     let (found, wrote, count) = match line.seen {
         Seen::Nothing => (None, None, None),
         Seen::OnWord { found, wrote, .. } => (found, wrote, None),
-        Seen::InSection { count, .. } => (None, None, count),
+        Seen::WithOutcome { count, .. } => (None, None, count),
     };
     match (kind, step) {
         (LockKind::Ticket, StepKind::Add | StepKind::Read)

@@ -11,7 +11,7 @@ pub fn count_of(line: TraceLine) -> Option<u64>
     ensures { result ≡ count_in line.seen }
 {
     match line.seen {
-        Seen::InSection { count, .. } => count,
+        Seen::WithOutcome { count, .. } => count,
         _ => None,
     }
 }

@@ -1,0 +1,194 @@
+//! The files that a command leaves in a folder. A list there names them, so that the command's next
+//! run removes these, and neither touches another file nor follows a link.
+
+ghost use Rattle.std.specs.Prelude.{◌≡◌, true};
+ghost use Rattle.std.specs.Char.{is_ascii_digit};
+ghost use Rattle.std.specs.List.{list_all};
+ghost use Rattle.lk_jobs.specs.FileNames.{IsOwnName, IsScheduleName};
+
+use lk_text::Failure;
+use std::alloc::{AllocError, Global};
+use std::fmt::Write as _;
+use std::fs::OpenOptions;
+use std::io::{ErrorKind, Write};
+use std::rt::Files;
+use std::{fs, io};
+
+/// The name of the trace of an order.
+pub const TRACE: &str = "run.trace";
+
+/// How the names of an order's schedules begin.
+pub const RUN: &str = "run-";
+
+/// How the name of a schedule ends.
+pub const ENDING: &str = ".schedule";
+
+// How the name of a file ends up to its last byte.
+const DRAFT: &str = ".new";
+
+// Whether the text has digits alone.
+fn are_digits(text: &[u8]) -> bool
+    ensures { result ≡ list_all is_ascii_digit text.now }
+{
+    text.iter().all(|byte| byte.is_ascii_digit())
+}
+
+// Whether a tour gives a schedule such a name.
+fn is_schedule_name(name: &[u8]) -> bool
+    ensures { result ≡ true → IsScheduleName name.now }
+{
+    let (number, ending) = name.split_at(name.len().saturating_sub(ENDING.len()));
+    ending == ENDING.as_bytes() && !number.is_empty() && are_digits(number)
+}
+
+// Whether a command gives a file such a name. It has no slash, so the file is one of the folder.
+fn is_own_name(name: &[u8]) -> bool
+    ensures { result ≡ true → IsOwnName name.now }
+{
+    if name == TRACE.as_bytes() {
+        return true;
+    }
+    match name.strip_prefix(RUN.as_bytes()) {
+        Some(rest) => is_schedule_name(rest),
+        None => is_schedule_name(name),
+    }
+}
+
+/// A folder, and the command that writes into it.
+#[derive(Clone, Copy)]
+pub struct Folder<'a> {
+    pub path: &'a str,
+    pub command: &'a str,
+}
+
+impl Folder<'_> {
+    fn path_of(&self, alloc: Global, name: &str) -> Result<String, AllocError> {
+        let path = self.path;
+        format!(in alloc; "{path}/{name}")
+    }
+
+    fn draft_of(&self, alloc: Global, name: &str) -> Result<String, AllocError> {
+        let path = self.path;
+        format!(in alloc; "{path}/{name}{DRAFT}")
+    }
+
+    fn list_name(&self, alloc: Global) -> Result<String, AllocError> {
+        let command = self.command;
+        format!(in alloc; "{command}.list")
+    }
+
+    // Removes what the list of an earlier run names, and the list.
+    fn remove_earlier<R: Files>(&self, rt: &R, alloc: Global) -> Result<(), Failure> {
+        let path = self.path_of(alloc, self.list_name(alloc)?.as_str())?;
+        let file = match fs::open(rt, path.as_str()) {
+            Ok(file) => file,
+            Err(error) if error.kind() == ErrorKind::NotFound => return Ok(()),
+            Err(error) => return Err(Failure::Output(error)),
+        };
+        let list = io::read_to_string(alloc, file)?;
+        for name in list.lines() {
+            if is_own_name(name.as_bytes()) {
+                remove(rt, self.path_of(alloc, name)?.as_str())?;
+            }
+        }
+        remove(rt, path.as_str())
+    }
+
+    // Fails if the folder has something in the place of one of these files.
+    fn leave_others<R: Files>(
+        &self,
+        rt: &R,
+        alloc: Global,
+        names: &[String],
+    ) -> Result<(), Failure> {
+        let command = self.command;
+        for name in names {
+            let path = self.path_of(alloc, name)?;
+            match fs::symlink_metadata(rt, path.as_str()) {
+                Err(error) if error.kind() == ErrorKind::NotFound => {}
+                Err(error) => return Err(Failure::Output(error)),
+                Ok(_) => {
+                    let text = format!(in alloc; "{path} is not of an earlier {command}")?;
+                    return Err(Failure::InPlace(text));
+                }
+            }
+        }
+        Ok(())
+    }
+
+    /// Makes the folder if it is missing, and removes what the command left there.
+    ///
+    /// # Errors
+    ///
+    /// There is another file in the place of one of these; or a file cannot be read or removed.
+    pub fn clear<R: Files>(
+        &self,
+        rt: &R,
+        alloc: Global,
+        names: &[String],
+    ) -> Result<(), Failure> {
+        fs::create_dir_all(rt, self.path)?;
+        self.remove_earlier(rt, alloc)?;
+        self.leave_others(rt, alloc, names)
+    }
+
+    /// A file that gets its name from `finish`.
+    pub fn create<R: Files>(&self, rt: &R, alloc: Global, name: &str) -> Result<R::File, Failure> {
+        let draft = self.draft_of(alloc, name)?;
+        remove(rt, draft.as_str())?;
+        let mut options = OpenOptions::new();
+        options.write(true).create_new(true);
+        Ok(options.open(rt, draft.as_str())?)
+    }
+
+    /// Gives a file its name if all of it was written, and else removes it.
+    pub fn finish<R: Files>(
+        &self,
+        rt: &R,
+        alloc: Global,
+        name: &str,
+        written: Result<(), Failure>,
+    ) -> Result<(), Failure> {
+        let draft = self.draft_of(alloc, name)?;
+        if let Err(failure) = written {
+            remove(rt, draft.as_str())?;
+            return Err(failure);
+        }
+        Ok(fs::rename(rt, draft.as_str(), self.path_of(alloc, name)?.as_str())?)
+    }
+
+    /// Writes a file.
+    pub fn write<R: Files>(
+        &self,
+        rt: &R,
+        alloc: Global,
+        name: &str,
+        text: &str,
+    ) -> Result<(), Failure> {
+        let mut file = self.create(rt, alloc, name)?;
+        let written = file.write_all(text.as_bytes()).map_err(Failure::Output);
+        self.finish(rt, alloc, name, written)
+    }
+
+    /// Writes the list of the files that were written.
+    pub fn write_list<R: Files>(
+        &self,
+        rt: &R,
+        alloc: Global,
+        names: &[String],
+    ) -> Result<(), Failure> {
+        let mut list = String::new(alloc);
+        for name in names {
+            writeln!(list, "{name}")?;
+        }
+        self.write(rt, alloc, self.list_name(alloc)?.as_str(), list.as_str())
+    }
+}
+
+// Removes a file, if it is there; of a link, the link.
+fn remove<R: Files>(rt: &R, path: &str) -> Result<(), Failure> {
+    match fs::remove_file(rt, path) {
+        Err(error) if error.kind() != ErrorKind::NotFound => Err(Failure::Output(error)),
+        _ => Ok(()),
+    }
+}
