@@ -91,7 +91,7 @@ def test_usage(tracer, words):
 def test_bits_beside_a_file(tracer):
     tracer.write(sketch="lock mcs threads 2\n* cas failed\n")
     assert tracer.run("find", "--bits", "8", "sketch") == (
-        "", "error: --bits goes with a lock and its threads; a file has its own in its header\n", 2)
+        "", "error: --bits goes with a lock and its threads; a file has its own\n", 2)
 
 
 @pytest.mark.parametrize("line, why", NEVER)

@@ -4,7 +4,7 @@ use Rattle.std.proofs.Common.{MatchResult, Bool, ap₂, sym, subst, subst₂, �
 use Rattle.std.specs.Io.KnownBytes.{IsAtEnd, Keeps}
 use Rattle.lk_order.specs.Logs.{IsFaultOf, Reading, ThreadLog, line_read, log_read}
 use Rattle.lk_order.specs.declared.log.reader.LogFault.{LogFault}
-use Rattle.lk_text.specs.Lines.{TakesLine, kept}
+use Rattle.lk_text.specs.Lines.{TakesLine, kept_bytes}
 use Rattle.lk_text.specs.declared.lines.Line.{Line}
 use Rattle.lk_jobs.specs.Orders.{IsNoLog, IsText, Reads, at_end, at_line, begins, goes_on}
 use Rattle.lk_jobs.specs.invariants.{ReadsInput}
@@ -20,7 +20,7 @@ read_none (Some text) (Some rest) reading same new =
 -- a line of a log
 pub read_on : (all old new : Option (List ℕ)) (line : Line) (bytes : List ℕ) (ended : Bool)
     (reading after : Reading) → ReadsInput all old reading → TakesLine old new line
-    → bytes ≡ kept line → ended ≡ line.whole → line_read reading ended bytes ≡ Ok after
+    → bytes ≡ kept_bytes line → ended ≡ line.whole → line_read reading ended bytes ≡ Ok after
     → ReadsInput all new after
 read_on None old new line bytes ended reading after reads taken same whole on = tt
 read_on (Some text) None new line bytes ended reading after reads taken same whole on =
@@ -35,7 +35,7 @@ read_on (Some text) (Some rest) (Some next) line bytes ended reading after reads
 -- a line that is none
 pub read_off : (all old new : Option (List ℕ)) (line : Line) (bytes : List ℕ) (ended : Bool)
     (reading : Reading) (fault : LogFault) → ReadsInput all old reading → TakesLine old new line
-    → bytes ≡ kept line → ended ≡ line.whole → IsFaultOf (line_read reading ended bytes) fault
+    → bytes ≡ kept_bytes line → ended ≡ line.whole → IsFaultOf (line_read reading ended bytes) fault
     → IfSome all (IsNoLog fault)
 read_off None old new line bytes ended reading fault reads taken same whole off = tt
 read_off (Some text) None new line bytes ended reading fault reads taken same whole off =

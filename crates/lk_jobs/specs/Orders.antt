@@ -8,7 +8,7 @@ use Rattle.lk_order.specs.Orders.{Ordered, IsOrder, next_line}
 use Rattle.lk_order.specs.Endings.{EndsAs}
 use Rattle.lk_order.specs.declared.find.Ending.{Ending as SearchEnding}
 use Rattle.lk_order.specs.declared.find.Ending.TheVariants as search
-use Rattle.lk_text.specs.Lines.{IsFirstLine, kept}
+use Rattle.lk_text.specs.Lines.{IsFirstLine, kept_bytes}
 use Rattle.lk_text.specs.declared.lines.Line.{Line}
 use Rattle.lk_text.specs.Fates.{hangs}
 use Rattle.lk_text.specs.declared.report.Ending.{Ending}
@@ -26,7 +26,7 @@ pub data Reads (text : List ℕ) : List ℕ → Reading → Type 0 where
   begins : Reads text text (record { log = None; number = 0 })
   goes_on : (rest next : List ℕ) (line : Line) (reading after : Reading)
       → Reads text rest reading → IsFirstLine rest next line
-      → line_read reading line.whole (kept line) ≡ Ok after → Reads text next after
+      → line_read reading line.whole (kept_bytes line) ≡ Ok after → Reads text next after
 
 -- the text is this log
 pub record IsText (log : ThreadLog) (text : List ℕ) : Type 0 where
@@ -40,7 +40,7 @@ pub data IsNoLog (fault : LogFault) (text : List ℕ) : Type 0 where
       → IsNoLog fault text
   at_line : (rest next : List ℕ) (line : Line) (reading : Reading) → Reads text rest reading
       → IsFirstLine rest next line
-      → IsFaultOf (line_read reading line.whole (kept line)) fault → IsNoLog fault text
+      → IsFaultOf (line_read reading line.whole (kept_bytes line)) fault → IsNoLog fault text
 
 -- there is a file with this log, if it is known what is in it
 abbrev pub IsInFile : {F : Type 0} → (F → Option (List ℕ)) → ThreadLog → Type 0

@@ -121,12 +121,7 @@ impl Folder<'_> {
     /// # Errors
     ///
     /// There is another file in the place of one of these; or a file cannot be read or removed.
-    pub fn clear<R: Files>(
-        &self,
-        rt: &R,
-        alloc: Global,
-        names: &[String],
-    ) -> Result<(), Failure> {
+    pub fn clear<R: Files>(&self, rt: &R, alloc: Global, names: &[String]) -> Result<(), Failure> {
         fs::create_dir_all(rt, self.path)?;
         self.remove_earlier(rt, alloc)?;
         self.leave_others(rt, alloc, names)

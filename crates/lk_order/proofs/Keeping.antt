@@ -8,7 +8,7 @@ use Rattle.std.proofs.lemmas.List.{get_or_past, map-append, length-map}
 use Rattle.std.proofs.lemmas.List.Elements.{All-append, All-cons, All-nil}
 use Rattle.std.proofs.lemmas.Option.{slice_get_within, get_or_from_slice_get}
 use Rattle.lk_trace.specs.Agreement.{Agrees}
-use Rattle.lk_trace.specs.Checks.{Checked, checked, difference_of, after_line, answer_to}
+use Rattle.lk_trace.specs.Checks.{Checked, lock_with, difference_of, after_line, answer_to}
 use Rattle.lk_trace.specs.Checks.{unless_other, answer_unless}
 use Rattle.lk_trace.specs.declared.checker.Made.{Made}
 use Rattle.lk_trace.specs.declared.difference.Difference.{Difference}
@@ -17,7 +17,7 @@ use Rattle.lk_order.specs.Logs.{ThreadLog}
 use Rattle.lk_order.specs.Runs.{moves_of}
 use Rattle.lk_order.specs.Orders.{Ordered, IsOrder, placed_of, next_line, with_line, after_next}
 use Rattle.lk_order.specs.Orders.{AreIdle}
-use Rattle.lk_order.specs.Picked.{no_line, line_at, picked, IsInside, IsKept, KeepsQuiet}
+use Rattle.lk_order.specs.Picked.{no_line, line_at, lines_at, IsInside, IsKept, KeepsQuiet}
 use Rattle.lk_order.specs.declared.order.Place.{Place}
 use Rattle.lk_order.proofs.Placing.{order_more, counted_more}
 use Rattle.lk_order.proofs.Quiet.{quiet_more}
@@ -35,7 +35,7 @@ differs c line difference is = is_difference (difference_of c line) _ difference
 pub unmoved : (c : Checked) (line : TraceLine) (difference : Difference)
     → Err difference ≡ answer_to c line → after_line c line ≡ c
 unmoved c line difference is =
-    ap (λ d. unless_other d (checked c line) c) (differs c line difference is)
+    ap (λ d. unless_other d (lock_with c line) c) (differs c line difference is)
 
 no_difference : (other : Option Difference) (made answer : Made)
     → Ok answer ≡ answer_unless other made → other ≡ None
@@ -47,8 +47,8 @@ pub agrees : (c : Checked) (line : TraceLine) (made : Made) → Ok made ≡ answ
 agrees c line made is = no_difference (difference_of c line) _ made is
 
 pub moved : (c : Checked) (line : TraceLine) (made : Made) → Ok made ≡ answer_to c line
-    → after_line c line ≡ checked c line
-moved c line made is = ap (λ d. unless_other d (checked c line) c) (agrees c line made is)
+    → after_line c line ≡ lock_with c line
+moved c line made is = ap (λ d. unless_other d (lock_with c line) c) (agrees c line made is)
 
 -- a thread with a next line is one of the lock's
 pub below_threads : (o : Ordered) (t : ℕ) (line : TraceLine) → IsOrder o → next_line o t ≡ Some line
@@ -79,11 +79,11 @@ inside_is o t line place next thread at =
 -- a place more is a line more
 pub trace_more : (o : Ordered) (places places' : List Place) (t : ℕ) (line : TraceLine)
     (place : Place)
-    → o.trace ≡ picked o.logs places → places' ≡ places ++ place ∷ []
+    → o.trace ≡ lines_at o.logs places → places' ≡ places ++ place ∷ []
     → next_line o t ≡ Some line → place.thread ≡ t → place.at ≡ placed_of o t
-    → picked o.logs places' ≡ o.trace ++ line ∷ []
+    → lines_at o.logs places' ≡ o.trace ++ line ∷ []
 trace_more o places places' t line place was more next thread at =
-    ap (picked o.logs) more ∙ map-append (line_at o.logs) places (place ∷ [])
+    ap (lines_at o.logs) more ∙ map-append (line_at o.logs) places (place ∷ [])
     ∙ ap₂ (λ (a : List TraceLine) (l : TraceLine). a ++ l ∷ []) (sym was)
     (line_is o t line place next thread at)
 
@@ -93,7 +93,7 @@ pub kept_more : (o : Ordered) (places places' : List Place) (at : List ℕ) (t :
     → places' ≡ places ++ place ∷ [] → next_line o t ≡ Some line → line.thread ≡ t → t < 256
     → length at ≡ 256
     → Agrees o.lock line → place.thread ≡ t → place.at ≡ get_or at t 0
-    → o.trace ≡ picked o.logs places → IsTrue place.quiet ↔ AreIdle (checked o.lock line)
+    → o.trace ≡ lines_at o.logs places → IsTrue place.quiet ↔ AreIdle (lock_with o.lock line)
     → IsKept (with_line o line) places' (set at t (get_or at t 0 + 1))
 kept_more o places places' at t line place kept more next own small long agrees thread where_at was
     idle =

@@ -10,7 +10,7 @@ use Rattle.std.proofs.lemmas.List.{append-nil, get_or-set_same, get_or-set_other
 use Rattle.std.proofs.lemmas.List.Elements.{filter-append, All-append, All-cons, All-nil}
 use Rattle.std.proofs.lemmas.Option.{slice_get_within, get_or_from_slice_get}
 use Rattle.lk_trace.specs.Agreement.{Agrees}
-use Rattle.lk_trace.specs.Checks.{Checked, checked}
+use Rattle.lk_trace.specs.Checks.{Checked, lock_with}
 use Rattle.lk_trace.specs.declared.line.TraceLine.{TraceLine}
 use Rattle.lk_order.specs.Runs.{moves_of}
 use Rattle.lk_order.specs.Orders.{Ordered, IsOrder, IsAccepted, after_lines, lines_by, placed_of}
@@ -20,12 +20,12 @@ accepted_more : (c : Checked) (trace : List TraceLine) (line : TraceLine) → Is
     → Agrees (after_lines c trace) line → IsAccepted c (trace ++ line ∷ [])
 accepted_more c [] line accepted agrees = (agrees, tt)
 accepted_more c (l ∷ rest) line accepted agrees =
-    (accepted.0, accepted_more (checked c l) rest line accepted.1 agrees)
+    (accepted.0, accepted_more (lock_with c l) rest line accepted.1 agrees)
 
 after_more : (c : Checked) (trace : List TraceLine) (line : TraceLine)
-    → after_lines c (trace ++ line ∷ []) ≡ checked (after_lines c trace) line
+    → after_lines c (trace ++ line ∷ []) ≡ lock_with (after_lines c trace) line
 after_more c [] line = refl
-after_more c (l ∷ rest) line = after_more (checked c l) rest line
+after_more c (l ∷ rest) line = after_more (lock_with c l) rest line
 
 -- a line is added to those of its thread alone
 by_own : (t : ℕ) (trace : List TraceLine) (line : TraceLine) → line.thread ≡ t
@@ -89,7 +89,7 @@ order_more o line order next below agrees = record {
   run = order.run;
   accepted =
       accepted_more _ o.trace line order.accepted (subst (λ c. Agrees c line) order.lock_is agrees);
-  lock_is = ap (λ c. checked c line) order.lock_is ∙ sym (after_more _ o.trace line);
+  lock_is = ap (λ c. lock_with c line) order.lock_is ∙ sym (after_more _ o.trace line);
   each = each_more o line order next;
   others =
       All-append (λ (l : TraceLine). l.thread < o.header.threads) o.trace (line ∷ []) order.others

@@ -7,11 +7,11 @@ use Rattle.std.proofs.Math.Seq.{get_or-append_seam}
 use Rattle.std.proofs.lemmas.Bool.{cases_lt}
 use Rattle.std.proofs.lemmas.List.{take-append-le, take_all, get_or_append_left, length-map}
 use Rattle.std.proofs.lemmas.Option.{slice_get_within, get_or_from_slice_get, slice_get-get_or}
-use Rattle.lk_trace.specs.Checks.{Checked, checked}
+use Rattle.lk_trace.specs.Checks.{Checked, lock_with}
 use Rattle.lk_trace.specs.Checks.{new_lock}
 use Rattle.lk_trace.specs.declared.line.TraceLine.{TraceLine}
 use Rattle.lk_order.specs.Orders.{Ordered, IsOrder, AreIdle, IsQuiet, after_lines, with_line}
-use Rattle.lk_order.specs.Picked.{line_at, picked, KeepsQuiet}
+use Rattle.lk_order.specs.Picked.{line_at, lines_at, KeepsQuiet}
 use Rattle.lk_order.specs.declared.order.Place.{Place}
 
 -- the steps before
@@ -24,7 +24,7 @@ quiet_before o line k quiet below is =
 
 -- the last step
 quiet_last : (o : Ordered) (line : TraceLine) (k : ℕ) (quiet : Bool) → IsOrder (with_line o line)
-    → k ≡ length o.trace → IsTrue quiet ↔ AreIdle (checked o.lock line)
+    → k ≡ length o.trace → IsTrue quiet ↔ AreIdle (lock_with o.lock line)
     → IsTrue quiet ↔ IsQuiet (with_line o line) (k + 1)
 quiet_last o line k quiet order last is =
     subst (λ (l : List TraceLine). IsTrue quiet
@@ -48,8 +48,8 @@ place_last places place p k last found =
     ∙ get_or_from_slice_get (places ++ place ∷ []) k p p found
 
 pub quiet_more : (o : Ordered) (places : List Place) (line : TraceLine) (place : Place)
-    → IsOrder (with_line o line) → o.trace ≡ picked o.logs places → KeepsQuiet o places
-    → IsTrue place.quiet ↔ AreIdle (checked o.lock line)
+    → IsOrder (with_line o line) → o.trace ≡ lines_at o.logs places → KeepsQuiet o places
+    → IsTrue place.quiet ↔ AreIdle (lock_with o.lock line)
     → KeepsQuiet (with_line o line) (places ++ place ∷ [])
 quiet_more o places line place order was quiet is = λ k p found.
     let long : length o.trace ≡ length places =

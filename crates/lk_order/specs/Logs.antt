@@ -83,10 +83,10 @@ after_header log number ended line =
     then Err faults.AfterTheEnd
     else with_dropped log number ended line (dropped_of line)
 
-abbrev pub unskipped : Option ThreadLog → ℕ → Bool → List ℕ → Result ThreadLog LogFault
-unskipped None number ended line =
+abbrev pub log_with_line : Option ThreadLog → ℕ → Bool → List ℕ → Result ThreadLog LogFault
+log_with_line None number ended line =
     ok_or (option_map empty_log (log_header_of line)) faults.BadHeader
-unskipped (Some log) number ended line = after_header log number ended line
+log_with_line (Some log) number ended line = after_header log number ended line
 
 abbrev pub now_read : ℕ → Result ThreadLog LogFault → Result Reading LogFault
 now_read number (Ok log) = Ok (record { log = Some log; number = number })
@@ -98,7 +98,7 @@ line_read reading ended line =
     if nat_lt reading.number 4294967294
     then (if is_skipped line
     then Ok (record reading { number = reading.number + 1 })
-    else now_read (reading.number + 1) (unskipped reading.log (reading.number + 1) ended line))
+    else now_read (reading.number + 1) (log_with_line reading.log (reading.number + 1) ended line))
     else Err faults.TooLong
 
 -- the fault is the text's, or memory was refused

@@ -6,7 +6,7 @@ use Rattle.std.specs.List.{All, slice_get}
 use Rattle.lk_locks.specs.declared.kinds.Phase.TheVariants.{Idle}
 use Rattle.lk_locks.specs.State.{Shape}
 use Rattle.lk_trace.specs.Agreement.{Agrees}
-use Rattle.lk_trace.specs.Checks.{Checked, checked, difference_of, answer_to, unless_other}
+use Rattle.lk_trace.specs.Checks.{Checked, lock_with, difference_of, answer_to, unless_other}
 use Rattle.lk_trace.specs.Checks.{new_lock}
 use Rattle.lk_trace.specs.declared.checker.Made.{Made as MadeMove}
 use Rattle.lk_trace.specs.declared.difference.Difference.{Difference}
@@ -38,11 +38,11 @@ next_line o t = slice_get (moves_of o.logs t) (placed_of o t)
 -- each line agrees with the lock after those before it
 abbrev pub IsAccepted : Checked → List TraceLine → Type 0
 IsAccepted c [] = Unit {0}
-IsAccepted c (line ∷ rest) = Agrees c line × IsAccepted (checked c line) rest
+IsAccepted c (line ∷ rest) = Agrees c line × IsAccepted (lock_with c line) rest
 
 abbrev pub after_lines : Checked → List TraceLine → Checked
 after_lines c [] = c
-after_lines c (line ∷ rest) = after_lines (checked c line) rest
+after_lines c (line ∷ rest) = after_lines (lock_with c line) rest
 
 -- each thread is idle: it is in no call, and holds nothing
 abbrev pub AreIdle : Checked → Type 0
@@ -72,7 +72,7 @@ order_of (first ∷ rest) = Some (new_order first.header (first ∷ rest))
 
 -- a line more
 abbrev pub with_line : Ordered → TraceLine → Ordered
-with_line o line = record o { trace = o.trace ++ line ∷ []; lock = checked o.lock line }
+with_line o line = record o { trace = o.trace ++ line ∷ []; lock = lock_with o.lock line }
 
 -- a line is placed if it agrees with the lock
 abbrev pub after_next : Ordered → Option TraceLine → Ordered

@@ -21,13 +21,13 @@ no_line = record { thread = 0; action = Step Read; seen = Nothing }
 abbrev pub line_at : List ThreadLog → Place → TraceLine
 line_at logs place = slice_index_or (moves_of logs place.thread) place.at no_line
 
-abbrev pub picked : List ThreadLog → List Place → List TraceLine
-picked logs places = map (line_at logs) places
+abbrev pub lines_at : List ThreadLog → List Place → List TraceLine
+lines_at logs places = map (line_at logs) places
 
 -- the order whose steps are at these places
 abbrev pub ordered_of : Shape → List ThreadLog → List Place → Checked → Ordered
 ordered_of header logs places lock =
-    record { header = header; logs = logs; trace = picked logs places; lock = lock }
+    record { header = header; logs = logs; trace = lines_at logs places; lock = lock }
 
 abbrev pub IsInside : List ThreadLog → Place → Type 0
 IsInside logs place = place.at < length (moves_of logs place.thread)

@@ -9,7 +9,7 @@ use Rattle.lk_locks.specs.declared.kinds.Refusal.{Refusal}
 use Rattle.lk_replay.specs.declared.schedule.Line.{Line}
 use Rattle.lk_page.specs.Told.{Moment, IsRecord, after_line}
 use Rattle.lk_page.specs.Layout.{record_bytes}
-use Rattle.lk_page.specs.Written.{AreRecords, placed}
+use Rattle.lk_page.specs.Written.{AreRecords, with_bytes_at}
 use Rattle.lk_page.specs.Playing.{moment, HavePlayed, ArePlaying}
 use Rattle.lk_page.specs.declared.told.Record.{Record}
 use Rattle.lk_page.proofs.Tracks.{tracked_on}
@@ -17,7 +17,7 @@ use Rattle.lk_page.proofs.Tracks.{tracked_on}
 one_record : (m : Moment) (l : Line) (ls : List Line) (count : ℕ) (old now new : List ℕ)
     (r : Record)
     → refusal_of m.state l.thread l.action ≡ None → IsRecord m l r
-    → now ≡ placed old (count * 56) (record_bytes r)
+    → now ≡ with_bytes_at old (count * 56) (record_bytes r)
     → AreRecords (after_line m l) ls (count + 1) now new → AreRecords m (l ∷ ls) count old new
 one_record m l ls count old now new r a told w h =
     rw a (r, told, subst (λ (x : List ℕ). AreRecords (after_line m l) ls (count + 1) x new) w h)
@@ -27,7 +27,7 @@ pub playing_on : (s : State) (ms : List Line) (old : List ℕ) (k next : Tracked
     (p : ArePlaying s ms old k (l ∷ rest) count now)
     → refusal_of k.state l.thread l.action ≡ None → next ≡ tracker_after k l.thread l.action
     → IsRecord (moment k.state p.entries) l r
-    → written ≡ placed now (count * 56) (record_bytes r)
+    → written ≡ with_bytes_at now (count * 56) (record_bytes r)
     → ArePlaying s ms old next rest (count + 1) written
 playing_on s ms old k next l rest count now written r p a e told w =
     let g =

@@ -8,7 +8,7 @@ use Rattle.lk_locks.specs.State.{State}
 use Rattle.lk_locks.specs.Holding.{Holding}
 use Rattle.lk_locks.specs.declared.kinds.Refusal.{Refusal}
 use Rattle.lk_page.specs.Codes.{lock_code}
-use Rattle.lk_page.specs.Layout.{padded, holding_code, holder_list, stop_numbers}
+use Rattle.lk_page.specs.Layout.{with_zeros, holding_code, holder_list, stop_numbers}
 use Rattle.lk_page.specs.Layout.{threads_bytes, bytes_of_state}
 
 pub state_put : (moves count : ℕ) (refused : Option (ℕ × Refusal)) (s : State) (held : Holding)
@@ -20,7 +20,8 @@ pub state_put : (moves count : ℕ) (refused : Option (ℕ × Refusal)) (s : Sta
     → o0 ≡ [] → o1 ≡ o0 ++ flat_map (to_le_bytes w32) stop
     → o2 ≡ o1 ++ flat_map (to_le_bytes w32) (kind ∷ threads ∷ bits ∷ count ∷ moves ∷ length words
     ∷ code ∷ length holders ∷ length waiting ∷ 0 ∷ 0 ∷ 0 ∷ [])
-    → o3 ≡ o2 ++ padded 64 holders → o4 ≡ o3 ++ padded 64 waiting → o5 ≡ o4 ++ threads_bytes s 0 64
+    → o3 ≡ o2 ++ with_zeros 64 holders → o4 ≡ o3 ++ with_zeros 64 waiting
+    → o5 ≡ o4 ++ threads_bytes s 0 64
     → o6 ≡ o5 ++ flat_map (to_le_bytes w64) words
     → new ≡ o6 ++ replicate (1088 - 8 * length words) 0
     → new ≡ bytes_of_state moves count refused s held queue

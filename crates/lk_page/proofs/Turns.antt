@@ -13,7 +13,7 @@ use Rattle.lk_replay.specs.Schedule.{first_of}
 use Rattle.lk_replay.specs.declared.schedule.Line.{Line}
 use Rattle.lk_page.specs.Told.{IsRecord}
 use Rattle.lk_page.specs.Layout.{record_bytes}
-use Rattle.lk_page.specs.Written.{placed}
+use Rattle.lk_page.specs.Written.{with_bytes_at}
 use Rattle.lk_page.specs.Playing.{moment, HavePlayed, ArePlaying}
 use Rattle.lk_page.specs.declared.told.Record.{Record}
 use Rattle.lk_page.proofs.Asked.{next_asked}
@@ -26,7 +26,7 @@ pub turn_made : (s : State) (moves left after : List Line) (old now written : Li
     → Some l ≡ first_of left → after ≡ drop 1 left → None ≡ refusal_of k.state l.thread l.action
     → next ≡ tracker_after k l.thread l.action
     → ((es : List Entry) → k ≡ tracker_of k.state es → IsRecord (moment k.state es) l r)
-    → written ≡ placed now (count * 56) (record_bytes r)
+    → written ≡ with_bytes_at now (count * 56) (record_bytes r)
     → ArePlaying s (take most moves) old next (take (most - (count + 1)) after) (count + 1) written
 turn_made s moves left after old now written k next l most count r p h f d a e told w =
     let q = rw (next_asked most count left l h (sym f)) at p in

@@ -48,8 +48,8 @@ record_bytes r =
     ++ to_le_bytes w64 (phase_number r.phase)
 
 -- a list, and zeros after it
-abbrev pub padded : ℕ → List ℕ → List ℕ
-padded n xs = xs ++ replicate (n - length xs) 0
+abbrev pub with_zeros : ℕ → List ℕ → List ℕ
+with_zeros n xs = xs ++ replicate (n - length xs) 0
 
 abbrev pub holding_code : Holding → ℕ
 holding_code Free = 0
@@ -90,7 +90,7 @@ bytes_of_state moves count refused s held queue =
     flat_map (to_le_bytes w32) (stop_numbers refused
     ++ lock_code s.kind ∷ length s.phases ∷ s.bits ∷ count ∷ moves ∷ length s.words
     ∷ holding_code held ∷ length (holder_list held) ∷ length queue ∷ 0 ∷ 0 ∷ 0 ∷ [])
-    ++ padded 64 (holder_list held) ++ padded 64 queue
+    ++ with_zeros 64 (holder_list held) ++ with_zeros 64 queue
     ++ threads_bytes s 0 64
     ++ flat_map (to_le_bytes w64) s.words ++ replicate (1088 - 8 * length s.words) 0
 

@@ -13,8 +13,8 @@ use Rattle.lk_page.specs.Told.{Moment, beginning, after_line, after_lines, IsRec
 use Rattle.lk_page.specs.declared.told.Record.{Record}
 
 -- bytes from a place on, if they fit wholly
-abbrev pub placed : List ℕ → ℕ → List ℕ → List ℕ
-placed old at bytes =
+abbrev pub with_bytes_at : List ℕ → ℕ → List ℕ → List ℕ
+with_bytes_at old at bytes =
     if nat_le (at + length bytes) (length old) then take at old ++ bytes
     ++ drop (at + length bytes) old else old
 
@@ -24,7 +24,8 @@ AreRecords m [] count old new = new ≡ old
 AreRecords m (l ∷ ls) count old new =
     MatchOption (refusal_of m.state l.thread l.action)
     ((r : Record) × IsRecord m l r
-    × AreRecords (after_line m l) ls (count + 1) (placed old (count * 56) (record_bytes r)) new)
+    × AreRecords (after_line m l) ls (count + 1)
+    (with_bytes_at old (count * 56) (record_bytes r)) new)
     (λ _. new ≡ old)
 
 abbrev pub answer_of : Option (ℕ × Refusal) → ℕ

@@ -4,7 +4,7 @@ ghost use Rattle.std.specs.Prelude.{◌≡◌, ◌+◌, ◌*◌, ◌<◌, ◌≤
 ghost use Rattle.lk_locks.specs.Play.{tracker_of};
 ghost use Rattle.lk_page.specs.Layout.{record_bytes};
 ghost use Rattle.lk_page.specs.Playing.{HavePlayed};
-ghost use Rattle.lk_page.specs.Written.{placed};
+ghost use Rattle.lk_page.specs.Written.{with_bytes_at};
 
 use crate::record::{RECORD_BYTES, play_line, record_bytes};
 use crate::told::{Record, Stopped};
@@ -15,7 +15,7 @@ use lk_words::WordArray;
 // Writes record number `count`, if it fits wholly.
 fn put_record(records: &mut [u8], count: u32, told: &Record)
     requires { count ≤ 65536 }
-    ensures { records.new ≡ placed records.old (count * 56) (record_bytes told.now) }
+    ensures { records.new ≡ with_bytes_at records.old (count * 56) (record_bytes told.now) }
 {
     let at = count as usize * RECORD_BYTES;
     let end = at + RECORD_BYTES;

@@ -3,7 +3,7 @@
 ghost use Rattle.std.specs.Prelude.{◌≡◌, ◌+◌, ◌<◌, ◌≤◌, ◌++◌, length};
 ghost use Rattle.lk_locks.specs.Holding.{holding};
 ghost use Rattle.lk_locks.specs.Play.{holding_in, waiting_in};
-ghost use Rattle.lk_page.specs.Layout.{padded, holding_code, holder_list};
+ghost use Rattle.lk_page.specs.Layout.{with_zeros, holding_code, holder_list};
 ghost use Rattle.lk_page.specs.Layout.{thread_bytes, threads_bytes, stop_numbers};
 ghost use Rattle.lk_page.specs.Layout.{bytes_of_state, bytes_of_fault};
 
@@ -72,7 +72,7 @@ fn put_threads(out: &mut ArrayVec<u8, 2304>, machine: &Machine<WordArray>)
 fn put_list(out: &mut ArrayVec<u8, 2304>, threads: &[u8])
     requires room { length out.old.items + 64 ≤ 2304 }
     requires few { length threads.now ≤ 64 }
-    ensures bytes { out.new.items ≡ out.old.items ++ padded 64 threads.now }
+    ensures bytes { out.new.items ≡ out.old.items ++ with_zeros 64 threads.now }
     ensures size { length out.new.items ≡ length out.old.items + 64 }
 {
     put_bytes(out, threads);

@@ -5,7 +5,8 @@ use Rattle.std.specs.List.{flat_map, AllByRecursion, Any}
 use Rattle.lk_locks.specs.Legal.{Legal, subhistory, whole_call}
 use Rattle.lk_locks.specs.Calls.{HasDone}
 use Rattle.lk_locks.proofs.Places.{HasOne, any_of, one_of}
-use Rattle.lk_tests.specs.WorkedHistories.{handed_on, writers_in_turn, announced_entered, uncalled}
+use Rattle.lk_tests.specs.WorkedHistories.{handed_on, writers_in_turn, announced_entered}
+use Rattle.lk_tests.specs.WorkedHistories.{act_without_call}
 use Rattle.lk_locks.specs.declared.kinds.LockKind.TheVariants.{Ticket, Mcs, RwSimple, RwFifo}
 use Rattle.lk_locks.specs.declared.kinds.Op.{Op}
 use Rattle.lk_locks.specs.declared.kinds.Op.TheVariants.{Acquire, Release, ReadLock, ReadUnlock}
@@ -78,7 +79,7 @@ no_call [] rest e = cc
 no_call (op ∷ ops) rest e = cc
 
 -- an act without a call is not legal
-pub not_legal : Legal Mcs 2 uncalled → ⊥
+pub not_legal : Legal Mcs 2 act_without_call → ⊥
 not_legal l = let w = l.well_formed 0 (omega arith) in no_call w.0 w.1 w.2
 
 -- what an entry does not meet, a list of it alone does not have

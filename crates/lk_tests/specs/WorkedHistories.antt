@@ -37,8 +37,8 @@ abbrev pub two_inside : ℕ → ℕ → List Entry
 two_inside t u = enters t ++ enters u
 
 -- thread 1 enters before thread 0, which asked before it
-abbrev pub overtaken : List Entry
-overtaken =
+abbrev pub overtaking : List Entry
+overtaking =
     Called 0 Acquire ∷ Acted 0 Acquire
     ∷ Called 1 Acquire ∷ Acted 1 Acquire ∷ Returned 1 Acquire ∷ []
 
@@ -49,16 +49,16 @@ released_by_another =
     ∷ Called 1 Release ∷ Acted 1 Release ∷ []
 
 -- thread 0 enters, and never asked
-abbrev pub unasked : List Entry
-unasked = Called 0 Acquire ∷ Returned 0 Acquire ∷ []
+abbrev pub entry_without_act : List Entry
+entry_without_act = Called 0 Acquire ∷ Returned 0 Acquire ∷ []
 
 -- thread 0 asks twice in one call
 abbrev pub asked_twice : List Entry
 asked_twice = Called 0 Acquire ∷ Acted 0 Acquire ∷ Acted 0 Acquire ∷ Returned 0 Acquire ∷ []
 
 -- thread 0 asks, and never called
-abbrev pub uncalled : List Entry
-uncalled = Acted 0 Acquire ∷ []
+abbrev pub act_without_call : List Entry
+act_without_call = Acted 0 Acquire ∷ []
 
 -- of read-write locks
 
@@ -107,18 +107,18 @@ abbrev pub left_once : List Entry
 left_once = reads 0 ++ reads 0 ++ unreads 0 ++ writes 1
 
 -- a FIFO writer is announced while thread 0 reads, and enters when that has left
-abbrev pub announced : List Entry
-announced = reads 0 ++ Called 1 WriteLock ∷ Announced 1 ∷ []
+abbrev pub announcement : List Entry
+announcement = reads 0 ++ Called 1 WriteLock ∷ Announced 1 ∷ []
 
 abbrev pub announced_entered : List Entry
-announced_entered = announced ++ unreads 0 ++ Acted 1 WriteLock ∷ Returned 1 WriteLock ∷ []
+announced_entered = announcement ++ unreads 0 ++ Acted 1 WriteLock ∷ Returned 1 WriteLock ∷ []
 
 -- a reader, and a writer, that does not wait for an announced one
 abbrev pub reader_passes : List Entry
-reader_passes = announced ++ reads 2
+reader_passes = announcement ++ reads 2
 
 abbrev pub writer_passes : List Entry
-writer_passes = announced ++ Called 2 WriteLock ∷ Announced 2 ∷ []
+writer_passes = announcement ++ Called 2 WriteLock ∷ Announced 2 ∷ []
 
 -- what the theorem says of a history
 

@@ -8,11 +8,13 @@ ghost use Rattle.std.specs.Prelude.{◌≡◌, ℕ, ◌++◌, List, [], ◌∷�
 ghost use Rattle.lk_tests.specs.WorkedHistories.{one_inside, left_free, handed_on, two_inside};
 ghost use Rattle.lk_tests.specs.WorkedHistories.{unlocked_by_another, left_once, OfEachPromised};
 ghost use Rattle.lk_tests.specs.WorkedHistories.{WritesAlone};
-ghost use Rattle.lk_tests.specs.WorkedHistories.{overtaken, released_by_another, unasked};
-ghost use Rattle.lk_tests.specs.WorkedHistories.{asked_twice, uncalled, reads, writes, two_readers};
+ghost use Rattle.lk_tests.specs.WorkedHistories.{overtaking, released_by_another};
+ghost use Rattle.lk_tests.specs.WorkedHistories.{entry_without_act};
+ghost use Rattle.lk_tests.specs.WorkedHistories.{asked_twice, act_without_call, reads, writes};
+ghost use Rattle.lk_tests.specs.WorkedHistories.{two_readers};
 ghost use Rattle.lk_tests.specs.WorkedHistories.{writers_in_turn, two_writers};
 ghost use Rattle.lk_tests.specs.WorkedHistories.{reader_beside_writer, writer_beside_reader};
-ghost use Rattle.lk_tests.specs.WorkedHistories.{writer_beside_downgraded, announced};
+ghost use Rattle.lk_tests.specs.WorkedHistories.{writer_beside_downgraded, announcement};
 ghost use Rattle.lk_tests.specs.WorkedHistories.{announced_entered, reader_passes, writer_passes};
 ghost use Rattle.lk_tests.specs.WorkedHistories.{ticket_moves, mcs_moves, simple_moves, fifo_moves};
 ghost use Rattle.lk_locks.specs.Legal.{Legal, subhistory};
@@ -39,10 +41,10 @@ pub fn legal_histories()
     ensures mcs { Legal Mcs 2 handed_on }
     ensures simple { Legal RwSimple 2 writers_in_turn }
     ensures fifo { Legal RwFifo 2 announced_entered }
-    ensures overtaken { Legal Mcs 2 overtaken → ⊥ }
+    ensures overtaken { Legal Mcs 2 overtaking → ⊥ }
     ensures another { Legal Ticket 2 released_by_another → ⊥ }
-    ensures unasked { Legal Ticket 2 unasked → ⊥ }
-    ensures uncalled { Legal Mcs 2 uncalled → ⊥ }
+    ensures unasked { Legal Ticket 2 entry_without_act → ⊥ }
+    ensures uncalled { Legal Mcs 2 act_without_call → ⊥ }
     ensures writers { Legal RwSimple 2 (two_writers 0 1) → ⊥ }
     ensures passed { Legal RwFifo 3 reader_passes → ⊥ }
     ensures announced { Legal RwFifo 3 writer_passes → ⊥ }
@@ -62,8 +64,8 @@ pub fn holders_of_histories()
     ensures writer { holding_of RwSimple (writes 0) ≡ WrittenBy 0 }
     ensures readers { holding_of RwSimple two_readers ≡ ReadBy (0 ∷ 1 ∷ []) }
     ensures simple { waiting_of RwSimple two_readers ≡ [] }
-    ensures reader { holding_of RwFifo announced ≡ ReadBy (0 ∷ []) }
-    ensures announced { waiting_of RwFifo announced ≡ 1 ∷ [] }
+    ensures reader { holding_of RwFifo announcement ≡ ReadBy (0 ∷ []) }
+    ensures announced { waiting_of RwFifo announcement ≡ 1 ∷ [] }
     ensures entered { holding_of RwFifo announced_entered ≡ WrittenBy 1 }
     ensures none_waits { waiting_of RwFifo announced_entered ≡ [] }
     ensures not_released { waiting_of Ticket released_by_another ≡ 0 ∷ [] }
@@ -90,7 +92,7 @@ pub fn holders_of_queue_locks()
     ensures not_in_turn { IsHeldInTurn None (two_inside 0 1) → ⊥ }
     ensures another { IsHeldInTurn None released_by_another → ⊥ }
     ensures head { IsHeldByHead Mcs handed_on }
-    ensures overtakes { IsHeldByHead Mcs overtaken → ⊥ }
+    ensures overtakes { IsHeldByHead Mcs overtaking → ⊥ }
 {}
 
 /// A writer is alone.
@@ -117,20 +119,20 @@ pub fn order_of_entering()
     ensures first { entering_order one_inside ≡ 0 ∷ [] }
     ensures both { entering_order handed_on ≡ 0 ∷ 1 ∷ [] }
     ensures in_order { IsInOrder handed_on }
-    ensures out_of_order { IsInOrder overtaken → ⊥ }
-    ensures not_asked { IsInOrder unasked → ⊥ }
+    ensures out_of_order { IsInOrder overtaking → ⊥ }
+    ensures not_asked { IsInOrder entry_without_act → ⊥ }
 {}
 
 /// A call acts once before it returns. Before its act comes a call, and what follows is the
 /// return.
 pub fn acts_of_calls()
     ensures once { ActsOnce Mcs handed_on }
-    ensures never { ActsOnce Mcs unasked → ⊥ }
+    ensures never { ActsOnce Mcs entry_without_act → ⊥ }
     ensures twice { ActsOnce Mcs asked_twice → ⊥ }
     ensures simple { ActsOnce RwSimple writers_in_turn }
     ensures unannounced { ActsOnce RwFifo (writes 0) → ⊥ }
     ensures called { ActsInCalls Mcs handed_on }
-    ensures not_called { ActsInCalls Mcs uncalled → ⊥ }
+    ensures not_called { ActsInCalls Mcs act_without_call → ⊥ }
     ensures acts_next { ActsInCalls Mcs asked_twice → ⊥ }
 {}
 

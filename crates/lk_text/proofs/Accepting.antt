@@ -7,7 +7,7 @@ use Rattle.lk_locks.specs.invariants.WellFormed.{WellFormed}
 use Rattle.lk_lines.specs.Lines.{is_skipped, lines_of}
 use Rattle.lk_locks.specs.State.{Shape}
 use Rattle.lk_trace.proofs.Agreeing.{agreed, agrees, new_is_well, stays_well}
-use Rattle.lk_trace.specs.Checks.{Checked, answer_unless, checked, difference_of, made_of}
+use Rattle.lk_trace.specs.Checks.{Checked, answer_unless, lock_with, difference_of, made_of}
 use Rattle.lk_trace.specs.Checks.{unless_other}
 use Rattle.lk_trace.specs.Lines.{short_line_of}
 use Rattle.lk_trace.specs.Traces.{event_of, after_text_line, read_header_of}
@@ -21,7 +21,7 @@ use Rattle.lk_trace.specs.declared.trace.Event.TheVariants.{Skipped}
 use Rattle.lk_trace.specs.declared.trace.TextFault.{TextFault}
 use Rattle.lk_text.specs.Accepted.{IsMove, AreMoves, IsHeader, IsTrace}
 use Rattle.lk_text.specs.Verdicts.{Verdict, IsOfText, counts_in, unless_ended, verdict}
-use Rattle.lk_text.specs.Verdicts.{hanging, hangs_in, if_hangs, verdict_from, verdict_in}
+use Rattle.lk_text.specs.Verdicts.{hanging_verdict, hangs_in, if_hangs, verdict_from, verdict_in}
 use Rattle.lk_text.specs.Verdicts.{verdict_of}
 use Rattle.lk_text.specs.declared.report.Ending.{Ending}
 use Rattle.lk_text.specs.declared.report.Ending.TheVariants.{Accepted, Refused, Unread}
@@ -65,7 +65,7 @@ move_line n c line lines m stays read =
 abbrev if_differs : ℕ → Checked → TraceLine → List (List ℕ) → Option Difference → Verdict
 if_differs n c l lines d =
     unless_ended n (answer_event l (answer_unless d (made_of c.lock.state l.thread l.action)))
-    (verdict_from (n + 1) (Some (unless_other d (checked c l) c)) lines)
+    (verdict_from (n + 1) (Some (unless_other d (lock_with c l) c)) lines)
 
 made_line : (n : ℕ) (c : Checked) (line : List ℕ) (lines : List (List ℕ)) (l : TraceLine)
     (d : Option Difference)
@@ -103,7 +103,7 @@ agreed_move n c line lines l None well stays read none accepted rest =
       read = read;
       agrees = agree;
       behind =
-          rest (checked c l) (stays_well c l well agree.accepted)
+          rest (lock_with c l) (stays_well c l well agree.accepted)
           (sym (ending_of _ _ (made_line n c line lines l None stays read none)) ∙ accepted);
     }
 agreed_move n c line lines l (Some difference) well stays read some accepted rest =
@@ -150,7 +150,7 @@ moves_end n c (line ∷ lines) well (inr moves) =
     ending_of _ _
     (made_line n c line lines moves.move None moves.kept moves.read
     (agreed c moves.move well moves.agrees))
-    ∙ moves_end (n + 1) (checked c moves.move) lines
+    ∙ moves_end (n + 1) (lock_with c moves.move) lines
     (stays_well c moves.move well moves.agrees.accepted) moves.behind
 
 a_header : (n : ℕ) (line : List ℕ) (lines : List (List ℕ)) (h : Result Shape TextFault)
@@ -194,7 +194,7 @@ trace_ends n (line ∷ lines) (inr trace) =
     (new_is_well trace.header) trace.behind
 
 -- a run that hangs is not accepted
-not_accepted : (e : Ending) (line : ℕ) → (hanging e line).ending ≡ Accepted → ⊥
+not_accepted : (e : Ending) (line : ℕ) → (hanging_verdict e line).ending ≡ Accepted → ⊥
 not_accepted Accepted line is = let no : Hangs ≡ Accepted = is in cc
 not_accepted Refused line is = let no : Refused ≡ Accepted = is in cc
 not_accepted Unread line is = let no : Unread ≡ Accepted = is in cc

@@ -7,7 +7,7 @@ use Rattle.std.specs.Io.KnownBytes.{IsAtEnd}
 use Rattle.std.proofs.lemmas.List.{take_all}
 use Rattle.std.proofs.lemmas.Bool.{cond-true, lt-ltb, cases_lt, eqb-true, false_from_ne_true}
 use Rattle.lk_lines.specs.Lines.{lines_of, is_skipped}
-use Rattle.lk_text.specs.Lines.{TakesLine, kept}
+use Rattle.lk_text.specs.Lines.{TakesLine, kept_bytes}
 use Rattle.lk_text.specs.declared.lines.Line.{Line}
 use Rattle.lk_text.specs.declared.summary.Summary.{Summary}
 use Rattle.lk_trace.specs.Checks.{Checked}
@@ -164,7 +164,8 @@ counts_on number (Fault fault) on report now later follows is = absurd (cc (foll
 pub line_on : (all old new : Option (List ℕ)) (number : ℕ) (reading after : Option Checked)
     (fates told : List Fate) (counts more : Summary) (line : Line) (bytes : List ℕ) (on : Bool)
     (report : Report) → ReadsText all old number reading fates counts
-    → TakesLine old new line → bytes ≡ kept line → Follows number (event_of reading bytes) on report
+    → TakesLine old new line → bytes ≡ kept_bytes line
+    → Follows number (event_of reading bytes) on report
     → on ≡ true → after ≡ after_text_line reading bytes
     → told ≡ after_line fates (event_of reading bytes) bytes
     → more ≡ noted_line counts after (event_of reading bytes)
@@ -221,7 +222,8 @@ counts_end number (Fault fault) on report (Some c) counts later follows is = ref
 pub line_last : (all old new : Option (List ℕ)) (number : ℕ) (reading after : Option Checked)
     (fates : List Fate) (counts : Summary) (line : Line) (bytes : List ℕ) (on : Bool)
     (report : Report) → ReadsText all old number reading fates counts
-    → TakesLine old new line → bytes ≡ kept line → Follows number (event_of reading bytes) on report
+    → TakesLine old new line → bytes ≡ kept_bytes line
+    → Follows number (event_of reading bytes) on report
     → on ≡ false → after ≡ after_text_line reading bytes
     → report.summary ≡ noted_line counts after (event_of reading bytes)
     → IfSome all (IsOfText report)

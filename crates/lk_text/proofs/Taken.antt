@@ -15,7 +15,7 @@ use Rattle.std.proofs.lemmas.Bool.{false_from_ne_true, eqb-true}
 use Rattle.memchr.specs.Find.{Nowhere, NoneBefore, Passes, is_byte}
 use Rattle.lk_lines.proofs.Cuts.{line_first, line_last}
 use Rattle.lk_lines.specs.Lines.{lines_of, is_line_feed}
-use Rattle.lk_text.specs.Lines.{TakesLine, kept, with_end}
+use Rattle.lk_text.specs.Lines.{TakesLine, kept_bytes, with_end}
 use Rattle.lk_text.specs.declared.lines.Line.{Line}
 use Rattle.lk_text.specs.invariants.{TakesPart, Taken}
 
@@ -25,7 +25,7 @@ take_again (suc n) [] ys = refl
 take_again (suc n) (x ∷ xs) ys = ap (λ l. x ∷ l) (take_again n xs ys)
 
 -- nothing yet
-pub taken_none : (old : Option (List ℕ)) (line : Line) → kept line ≡ [] → line.whole ≡ false
+pub taken_none : (old : Option (List ℕ)) (line : Line) → kept_bytes line ≡ [] → line.whole ≡ false
     → Taken old old line false
 taken_none old line empty unended = record {
   bytes = [];
@@ -128,7 +128,7 @@ consumes_front (Some xs) all front rest is = ap (λ l. l ++ xs) is ∙ append_as
 pub part_to : (ahead rest : List ℕ) (k : ℕ) (known : Option (List ℕ)) (before after : Line)
     → rest ≡ drop (k + 1) ahead
     → NoneBefore (Passes (is_byte 10) ahead) 0 (length ahead) k → Passes (is_byte 10) ahead k
-    → kept after ≡ take 97 (kept before ++ take k ahead) → after.whole ≡ true
+    → kept_bytes after ≡ take 97 (kept_bytes before ++ take k ahead) → after.whole ≡ true
     → TakesPart true (prepend_known ahead known) (prepend_known rest known) before after
 part_to ahead rest k known before after rest_is none here stays whole_is =
     let feed : get_or ahead k 0 ≡ 10 = eqb-true (get_or ahead k 0) 10 here in
@@ -155,7 +155,7 @@ part_to ahead rest k known before after rest_is none here stays whole_is =
 -- the whole of what was read ahead
 pub part_all : (ahead : List ℕ) (known : Option (List ℕ)) (before after : Line)
     → Nowhere (Passes (is_byte 10) ahead) 0 (length ahead) → 0 < length ahead
-    → kept after ≡ take 97 (kept before ++ ahead) → after.whole ≡ before.whole
+    → kept_bytes after ≡ take 97 (kept_bytes before ++ ahead) → after.whole ≡ before.whole
     → TakesPart false (prepend_known ahead known) (prepend_known [] known) before after
 part_all ahead known before after none some stays whole_is = record {
   bytes = ahead;

@@ -4,7 +4,7 @@ use Rattle.std.specs.Prelude.{◌≡◌, ◌⊎◌, ℕ, List, [], ◌∷◌, tr
 use Rattle.lk_lines.specs.Lines.{is_skipped}
 use Rattle.lk_locks.specs.State.{Shape}
 use Rattle.lk_trace.specs.Agreement.{Agrees}
-use Rattle.lk_trace.specs.Checks.{Checked, checked}
+use Rattle.lk_trace.specs.Checks.{Checked, lock_with}
 use Rattle.lk_trace.specs.Lines.{short_line_of}
 use Rattle.lk_trace.specs.Traces.{read_header_of}
 use Rattle.lk_trace.specs.Checks.{new_lock}
@@ -16,7 +16,7 @@ pub record IsMove (c : Checked) (line : List ℕ) (Behind : Checked → Type 0) 
   pub move : TraceLine
   pub read : short_line_of line ≡ Some move
   pub agrees : Agrees c move
-  pub behind : Behind (checked c move)
+  pub behind : Behind (lock_with c move)
 
 -- each line is skipped or such a move
 abbrev pub AreMoves : Checked → List (List ℕ) → Type 0

@@ -14,11 +14,11 @@ abbrev pub three_digits : ℕ → List ℕ
 three_digits n = decimal (n / 100) ++ decimal ((n / 10) % 10) ++ decimal (n % 10)
 
 -- a number in at most so many groups of three digits before the last one
-abbrev pub grouped : ℕ → ℕ → List ℕ
-grouped zero n = decimal n
-grouped (suc k) n =
+abbrev pub in_groups : ℕ → ℕ → List ℕ
+in_groups zero n = decimal n
+in_groups (suc k) n =
     if nat_lt n 1000 then decimal n
-    else grouped k (n / 1000) ++ codes "," ++ three_digits (n % 1000)
+    else in_groups k (n / 1000) ++ codes "," ++ three_digits (n % 1000)
 
 -- the bytes of a text that is whole
 abbrev pub bytes_of : Option (List ℕ) → List ℕ
@@ -33,7 +33,7 @@ value_text (Part said) = bytes_of said.now
 value_text (Short said) = inline_text said
 value_text (Numbered word n) = word.now ++ codes " " ++ decimal n
 value_text (Count n one several) =
-    grouped 6 n ++ codes " " ++ (if n == 1 then one.now else several.now)
+    in_groups 6 n ++ codes " " ++ (if n == 1 then one.now else several.now)
 
 -- the value of a name
 abbrev pub value_named : List (Bor (List ℕ) × Value) → List ℕ → Option Value
@@ -62,5 +62,5 @@ filled_from texts (Some name) (b ∷ bs) =
     else filled_from texts (Some (name ++ b ∷ [])) bs
 
 -- a sentence, with its places filled; a brace without its end stays as it is
-abbrev pub filled : List (List ℕ × List ℕ) → List ℕ → List ℕ
-filled texts sentence = filled_from texts None sentence
+abbrev pub sentence_with : List (List ℕ × List ℕ) → List ℕ → List ℕ
+sentence_with texts sentence = filled_from texts None sentence

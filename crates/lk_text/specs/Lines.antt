@@ -7,12 +7,12 @@ use Rattle.lk_text.specs.declared.lines.Line.{Line}
 use Rattle.lk_text.specs.declared.lines.Lines.{Lines}
 
 -- the bytes of a line that are kept
-abbrev pub kept : Line → List ℕ
-kept line = take line.count line.kept
+abbrev pub kept_bytes : Line → List ℕ
+kept_bytes line = take line.count line.kept
 
 -- the bytes that are left: what was read ahead, and then what the input has
-abbrev pub left : {R : Type 0} → (R → Option (List ℕ)) → Lines R → Option (List ℕ)
-left remaining lines =
+abbrev pub bytes_left : {R : Type 0} → (R → Option (List ℕ)) → Lines R → Option (List ℕ)
+bytes_left remaining lines =
     prepend_known (slice_range lines.chunk.items lines.at lines.filled) (remaining lines.input)
 
 -- the bytes of a line, with its line feed if that was there
@@ -25,7 +25,7 @@ with_end false bytes = bytes
 pub record IsFirstLine (text rest : List ℕ) (line : Line) : Type 0 where
   pub bytes : List ℕ
   pub first : lines_of text ≡ bytes ∷ lines_of rest
-  pub kept_is : kept line ≡ take 97 bytes
+  pub kept_is : kept_bytes line ≡ take 97 bytes
   pub whole_is : text ≡ with_end line.whole bytes ++ rest
 
 -- the first line of the bytes that were left is taken

@@ -17,7 +17,7 @@ use Rattle.lk_locks.specs.declared.kinds.StepKind.{StepKind}
 use Rattle.lk_locks.specs.declared.kinds.StepKind.TheVariants.{Cas, Add, Swap, Section}
 use Rattle.lk_trace.specs.declared.checker.Made.{Made}
 use Rattle.lk_trace.specs.declared.line.TraceLine.{TraceLine}
-use Rattle.lk_text.specs.Filled.{grouped}
+use Rattle.lk_text.specs.Filled.{in_groups}
 use Rattle.lk_text.specs.declared.summary.Summary.{Summary}
 
 abbrev pub plus_one : ℕ → ℕ
@@ -82,8 +82,8 @@ after_action s lock (Call op) made = s
 after_action s lock (Step kind) made = after_outcome s lock kind made.from made.outcome
 
 -- a move that led to this lock
-abbrev pub noted : Summary → Tracked → TraceLine → Made → Summary
-noted s lock line made =
+abbrev pub summary_with : Summary → Tracked → TraceLine → Made → Summary
+summary_with s lock line made =
     after_action
     (record s { moves = plus_one s.moves; moved = set s.moved line.thread true })
     lock line.action made
@@ -98,7 +98,7 @@ moved_in moved = count_by (λ m. m) moved
 
 -- a count, and what there are of: one, or several
 abbrev pub count_of : ℕ → List ℕ → List ℕ → List ℕ
-count_of n one several = grouped 6 n ++ codes " " ++ (if n == 1 then one else several)
+count_of n one several = in_groups 6 n ++ codes " " ++ (if n == 1 then one else several)
 
 -- what fills the sentence of the counts
 abbrev pub counts_of : Summary → List (List ℕ × List ℕ)

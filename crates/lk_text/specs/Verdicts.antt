@@ -10,7 +10,7 @@ use Rattle.lk_trace.specs.Checks.{Checked}
 use Rattle.lk_trace.specs.Traces.{event_of, after_text_line}
 use Rattle.lk_trace.specs.declared.trace.Event.{Event}
 use Rattle.lk_trace.specs.declared.trace.Event.TheVariants.{Differs, Fault, Made}
-use Rattle.lk_text.specs.Summaries.{new_summary, noted}
+use Rattle.lk_text.specs.Summaries.{new_summary, summary_with}
 use Rattle.lk_text.specs.declared.summary.Summary.{Summary}
 use Rattle.lk_text.specs.Accepted.{IsTrace}
 use Rattle.lk_text.specs.Fates.{hangs_after, new_fates}
@@ -59,13 +59,13 @@ verdict_from number reading (line ∷ lines) =
     (verdict_from (number + 1) (after_text_line reading line) lines)
 
 -- an accepted trace whose run hangs is none of those that are accepted
-abbrev pub hanging : Ending → ℕ → Verdict
-hanging Accepted line = verdict Hangs 0
-hanging ending line = verdict ending line
+abbrev pub hanging_verdict : Ending → ℕ → Verdict
+hanging_verdict Accepted line = verdict Hangs 0
+hanging_verdict ending line = verdict ending line
 
 abbrev pub if_hangs : Bool → Verdict → Verdict
 if_hangs false v = v
-if_hangs true v = hanging v.ending v.line
+if_hangs true v = hanging_verdict v.ending v.line
 
 -- whether the run of a text hangs
 abbrev pub hangs_in : List (List ℕ) → Bool
@@ -80,7 +80,7 @@ verdict_in report = verdict report.ending report.line
 
 -- the counts after a line that came to this, and led to this lock
 abbrev pub noted_line : Summary → Option Checked → Event → Summary
-noted_line counts (Some c) (Made line made) = noted counts c.lock line made
+noted_line counts (Some c) (Made line made) = summary_with counts c.lock line made
 noted_line counts reading event = counts
 
 -- a line that ends the text counts nothing, and none after it

@@ -8,7 +8,7 @@ use Rattle.lk_lines.specs.Lines.{is_line_feed, lines_of}
 use Rattle.lk_trace.specs.Checks.{Checked}
 use Rattle.lk_trace.specs.declared.trace.Event.{Event}
 use Rattle.lk_trace.specs.declared.trace.Event.TheVariants.{Differs, Fault}
-use Rattle.lk_text.specs.Lines.{kept, with_end}
+use Rattle.lk_text.specs.Lines.{kept_bytes, with_end}
 use Rattle.lk_text.specs.Fates.{hangs_after}
 use Rattle.lk_text.specs.Verdicts.{counts_after, counts_in, if_hangs, verdict, verdict_from}
 use Rattle.lk_text.specs.Verdicts.{verdict_in, verdict_of}
@@ -27,7 +27,7 @@ pub record TakesPart (ended : Bool) (old new : Option (List ℕ)) (before after 
   pub bytes : List ℕ
   pub flat : IsFlat bytes
   pub taken : Consumes old new (with_end ended bytes)
-  pub kept_is : kept after ≡ take 97 (kept before ++ bytes)
+  pub kept_is : kept_bytes after ≡ take 97 (kept_bytes before ++ bytes)
   pub whole_is : after.whole ≡ (ended || before.whole)
   pub some : ended ≡ false → 0 < length bytes
 
@@ -36,7 +36,7 @@ pub record Taken (old new : Option (List ℕ)) (line : Line) (some : Bool) : Typ
   pub bytes : List ℕ
   pub flat : IsFlat bytes
   pub taken : Consumes old new bytes
-  pub kept_is : kept line ≡ take 97 bytes
+  pub kept_is : kept_bytes line ≡ take 97 bytes
   pub whole_is : line.whole ≡ false
   pub none : some ≡ false → bytes ≡ []
   pub some_is : some ≡ true → 0 < length bytes

@@ -1,7 +1,7 @@
 //! Sentences with places in braces, and the values that fill them.
 
 ghost use Rattle.std.specs.Prelude.{◌≡◌, ◌++◌, string_bytes, OnOk};
-ghost use Rattle.lk_text.specs.Filled.{filled, grouped, place_text, texts_of, value_named};
+ghost use Rattle.lk_text.specs.Filled.{sentence_with, in_groups, place_text, texts_of, value_named};
 ghost use Rattle.lk_text.specs.Filled.{value_text};
 
 use crate::texts::Text;
@@ -33,7 +33,7 @@ const GROUPS: u8 = 6;
 // Writes a number with a comma before each three digits, as in 1,018.
 fn put_grouped(text: &mut String, groups: u8, number: u64) -> Result<(), AllocError>
     ensures { OnOk result
-        (string_bytes text.new ≡ string_bytes text.old ++ grouped groups number) }
+        (string_bytes text.new ≡ string_bytes text.old ++ in_groups groups number) }
 {
     if groups == 0 || number < 1000 {
         return write!(text, "{number}");
@@ -96,7 +96,7 @@ pub(crate) fn fill(
     places: &[Place<'_>],
 ) -> Result<(), AllocError>
     ensures { OnOk result (string_bytes text.new
-        ≡ string_bytes text.old ++ filled (texts_of places.now) sentence.now) }
+        ≡ string_bytes text.old ++ sentence_with (texts_of places.now) sentence.now) }
 {
     let mut rest = sentence;
     'places: while let Some((front, place)) = rest.split_once('{') {

@@ -29,11 +29,11 @@ pub struct Line {
 }
 
 impl Line {
-    ghost use Rattle.lk_text.specs.Lines.{kept};
+    ghost use Rattle.lk_text.specs.Lines.{kept_bytes};
 
     /// Nothing is kept.
     pub fn new() -> Line
-        ensures kept { kept result ≡ [] }
+        ensures kept { kept_bytes result ≡ [] }
         ensures whole { result.whole ≡ false }
     {
         Line {
@@ -45,7 +45,7 @@ impl Line {
 
     /// Its bytes, at most 97 of them.
     pub fn bytes(&self) -> &[u8]
-        ensures { result.now ≡ kept self.now }
+        ensures { result.now ≡ kept_bytes self.now }
     {
         &self.kept[..self.count]
     }
@@ -58,7 +58,7 @@ impl Line {
     }
 
     fn clear(&mut self)
-        ensures kept { kept self.new ≡ [] }
+        ensures kept { kept_bytes self.new ≡ [] }
         ensures whole { self.new.whole ≡ false }
     {
         self.count = 0;
@@ -67,7 +67,7 @@ impl Line {
 
     // Keeps as many of these bytes as have room.
     fn keep(&mut self, bytes: &[u8])
-        ensures kept { kept self.new ≡ take 97 (kept self.old ++ bytes.now) }
+        ensures kept { kept_bytes self.new ≡ take 97 (kept_bytes self.old ++ bytes.now) }
         ensures whole { self.new.whole ≡ self.old.whole }
     {
         let taken = bytes.len().min(MOST_KEPT - self.count);
@@ -90,12 +90,12 @@ pub struct Lines<R> {
 }
 
 impl<R: Read + Drop> Lines<R> {
-    ghost use Rattle.lk_text.specs.Lines.{TakesLine, left};
+    ghost use Rattle.lk_text.specs.Lines.{TakesLine, bytes_left};
     ghost use Rattle.lk_text.specs.invariants.{TakesPart};
 
     /// Nothing was read yet.
     pub fn new(alloc: Global, input: R) -> Result<Lines<R>, AllocError>
-        ensures { IfOk result (λ lines. Keeps (R.remaining input) (left R.remaining lines)) }
+        ensures { IfOk result (λ lines. Keeps (R.remaining input) (bytes_left R.remaining lines)) }
     {
         Ok(Lines {
             input,
@@ -107,9 +107,9 @@ impl<R: Read + Drop> Lines<R> {
 
     // Reads on, if nothing is left of what was read ahead. False at the end of the input.
     fn refill(&mut self) -> Result<bool, Error>
-        ensures kept { Keeps (left R.remaining self.old) (left R.remaining self.new) }
+        ensures kept { Keeps (bytes_left R.remaining self.old) (bytes_left R.remaining self.new) }
         ensures some { result ≡ Ok true → self.new.at < self.new.filled }
-        ensures end { result ≡ Ok false → IsAtEnd (left R.remaining self.new) }
+        ensures end { result ≡ Ok false → IsAtEnd (bytes_left R.remaining self.new) }
     {
         if self.at < self.filled {
             return Ok(true);
@@ -123,8 +123,8 @@ impl<R: Read + Drop> Lines<R> {
     // Takes what was read ahead, up to the first line feed. False if there is none.
     fn take_part(&mut self, line: &mut Line) -> bool
         requires { self.old.at < self.old.filled }
-        ensures { TakesPart result (left R.remaining self.old) (left R.remaining self.new)
-            line.old line.new }
+        ensures { TakesPart result (bytes_left R.remaining self.old)
+            (bytes_left R.remaining self.new) line.old line.new }
     {
         let rest = &self.chunk[self.at..self.filled];
         match memchr(b'\n', rest) {
@@ -149,8 +149,9 @@ impl<R: Read + Drop> Lines<R> {
     /// The input failed.
     pub fn next_line(&mut self, line: &mut Line) -> Result<bool, Error>
         ensures line { result ≡ Ok true
-            → TakesLine (left R.remaining self.old) (left R.remaining self.new) line.new }
-        ensures end { result ≡ Ok false → IsAtEnd (left R.remaining self.old) }
+            → TakesLine (bytes_left R.remaining self.old)
+            (bytes_left R.remaining self.new) line.new }
+        ensures end { result ≡ Ok false → IsAtEnd (bytes_left R.remaining self.old) }
     {
         line.clear();
         let mut some = false;

@@ -1,7 +1,7 @@
 //! What is said of an input: how it ended, in words for a reader and in parts for programs.
 
 ghost use Rattle.std.specs.Prelude.{◌≡◌, ◌++◌, ◌∷◌, [], true, None, Some};
-ghost use Rattle.lk_text.specs.Filled.{filled, texts_of};
+ghost use Rattle.lk_text.specs.Filled.{sentence_with, texts_of};
 ghost use Rattle.lk_text.specs.Notes.{IsSaid, Says};
 ghost use Rattle.lk_text.specs.Verdicts.{greatest_status, status_of};
 
@@ -208,7 +208,7 @@ impl Notes {
     /// Says this sentence of a line of another file.
     pub fn say_in(&mut self, file: &str, line: u64, sentence: &str, places: &[Place<'_>])
         ensures { self.new.is_whole ≡ true → Says self.old.notes.items self.new.notes.items
-            file.now line (IsSaid (filled (texts_of places.now) sentence.now)) }
+            file.now line (IsSaid (sentence_with (texts_of places.now) sentence.now)) }
     {
         let mut text = self.text();
         text.fill(sentence, places);
@@ -218,7 +218,7 @@ impl Notes {
     /// Says this sentence of a line.
     pub fn say(&mut self, line: u64, sentence: &str, places: &[Place<'_>])
         ensures { self.new.is_whole ≡ true → Says self.old.notes.items self.new.notes.items
-            [] line (IsSaid (filled (texts_of places.now) sentence.now)) }
+            [] line (IsSaid (sentence_with (texts_of places.now) sentence.now)) }
     {
         self.say_in("", line, sentence, places);
     }

@@ -2,9 +2,10 @@
 //! queue, wraps of the counter.
 
 ghost use Rattle.std.specs.Prelude.{◌≡◌, ◌∷◌, [], codes, decimal, map};
-ghost use Rattle.lk_text.specs.Filled.{filled};
+ghost use Rattle.lk_text.specs.Filled.{sentence_with};
 ghost use Rattle.lk_text.specs.Texts.{Adds};
-ghost use Rattle.lk_text.specs.Summaries.{counts_of, has_counter, moved_in, new_summary, noted};
+ghost use Rattle.lk_text.specs.Summaries.{counts_of, has_counter, moved_in, new_summary};
+ghost use Rattle.lk_text.specs.Summaries.{summary_with};
 ghost use Rattle.lk_text.specs.Summaries.{numbers_of};
 ghost use Rattle.lk_text.specs.Summaries.{after_lock, after_step, after_wait, is_contended};
 
@@ -114,7 +115,7 @@ impl Summary {
 
     /// Counts a move that was made on this lock.
     pub fn note(&mut self, lock: &Tracker<WordArray>, line: TraceLine, made: Made)
-        ensures { self.new ≡ noted self.old lock.now line made }
+        ensures { self.new ≡ summary_with self.old lock.now line made }
     {
         self.moves = self.moves.saturating_add(1);
         self.moved[line.thread as usize] = true;
@@ -151,7 +152,7 @@ impl Summary {
 
     /// Writes the counts, as a sentence.
     pub fn put(&self, text: &mut Text)
-        ensures { Adds (filled (counts_of self.now) COUNTS.now) text.old text.new }
+        ensures { Adds (sentence_with (counts_of self.now) COUNTS.now) text.old text.new }
     {
         let cas = "failed compare-and-swap";
         let late = "poll of a late link";

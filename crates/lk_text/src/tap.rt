@@ -3,7 +3,7 @@
 
 ghost use Rattle.lk_text.specs.Texts.{Adds, Grows};
 ghost use Rattle.std.specs.Prelude.{◌∷◌, [], codes, decimal};
-ghost use Rattle.lk_text.specs.Filled.{filled};
+ghost use Rattle.lk_text.specs.Filled.{sentence_with};
 
 use crate::fills::Value;
 use crate::texts::Text;
@@ -17,7 +17,8 @@ const MARKED: &str = "#\\";
 
 /// Writes the version, and how many points there will be.
 pub fn put_plan(text: &mut Text, count: usize)
-    ensures { Adds (filled ((codes "count", decimal count) ∷ []) PLAN.now) text.old text.new }
+    ensures { Adds (sentence_with ((codes "count", decimal count) ∷ []) PLAN.now)
+        text.old text.new }
 {
     text.fill(PLAN, &[("count", Value::Number(count as u64))]);
 }

@@ -35,7 +35,7 @@ impl Model for Text {
 
 impl Text {
     ghost use Rattle.std.specs.Fmt.{decimal};
-    ghost use Rattle.lk_text.specs.Filled.{filled, texts_of};
+    ghost use Rattle.lk_text.specs.Filled.{sentence_with, texts_of};
     ghost use Rattle.lk_text.specs.Texts.{Adds, Grows};
 
     /// An empty text.
@@ -103,7 +103,7 @@ impl Text {
     /// Adds a sentence, with its places `{name}` filled. A name that there is not and a brace
     /// without its end stay as they are.
     pub fn fill(&mut self, sentence: &str, places: &[Place<'_>])
-        ensures { Adds (filled (texts_of places.now) sentence.now) self.old self.new }
+        ensures { Adds (sentence_with (texts_of places.now) sentence.now) self.old self.new }
     {
         if self.is_whole {
             self.is_whole = fill(&mut self.text, sentence, places).is_ok();

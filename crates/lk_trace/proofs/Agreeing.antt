@@ -20,7 +20,7 @@ use Rattle.lk_locks.specs.declared.kinds.LockKind.{LockKind}
 use Rattle.lk_locks.specs.declared.kinds.Move.TheVariants.{Call, Step}
 use Rattle.lk_locks.specs.declared.kinds.Refusal.{Refusal}
 use Rattle.lk_trace.specs.Agreement.{Agrees, AgreesOn, AgreesOnWord, IsCounted, count_in}
-use Rattle.lk_trace.specs.Checks.{Checked, checked, count_given, difference_of, effect_of}
+use Rattle.lk_trace.specs.Checks.{Checked, lock_with, count_given, difference_of, effect_of}
 use Rattle.lk_trace.specs.Checks.{effect_other, is_word, name_of, new_lock, other_word}
 use Rattle.lk_trace.specs.Checks.{part_other}
 use Rattle.lk_trace.specs.Checks.{seen_other, values_other}
@@ -193,7 +193,7 @@ new_is_well shape =
     (λ i h. get_or-replicate count i 0 0 (omega (arith, long, h)))
 
 pub stays_well : (c : Checked) (l : TraceLine) → WellFormed c.lock.state
-    → refusal_of c.lock.state l.thread l.action ≡ None → WellFormed (checked c l).lock.state
+    → refusal_of c.lock.state l.thread l.action ≡ None → WellFormed (lock_with c l).lock.state
 stays_well c l w accepted =
     well_kept c.lock.state l.thread l.action w (accepted_of c.lock.state l.thread l.action accepted)
 

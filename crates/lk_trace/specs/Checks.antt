@@ -124,13 +124,13 @@ count_given last (WithOutcome (Some count) outcome) = count
 count_given last seen = last
 
 -- the lock after a move that it accepts
-abbrev pub moved : Tracked → ℕ → Move → Tracked
-moved lock t m = tracker_with lock (next_state lock.state t m) (entries_of lock.state t m)
+abbrev pub lock_after : Tracked → ℕ → Move → Tracked
+lock_after lock t m = tracker_with lock (next_state lock.state t m) (entries_of lock.state t m)
 
 -- a line without a difference is made
-abbrev pub checked : Checked → TraceLine → Checked
-checked c l = record {
-  lock = moved c.lock l.thread l.action;
+abbrev pub lock_with : Checked → TraceLine → Checked
+lock_with c l = record {
+  lock = lock_after c.lock l.thread l.action;
   sections = count_given c.sections l.seen;
 }
 
@@ -140,7 +140,7 @@ unless_other None next now = next
 unless_other (Some difference) next now = now
 
 abbrev pub after_line : Checked → TraceLine → Checked
-after_line c l = unless_other (difference_of c l) (checked c l) c
+after_line c l = unless_other (difference_of c l) (lock_with c l) c
 
 -- what is answered of a move that is made
 abbrev pub made_of : State → ℕ → Move → Made

@@ -50,17 +50,17 @@ word_in reads next (word ∷ rest, due) =
 word_in reads next ([], due) = Err ([], due)
 
 -- a tag and the word after it, if the tag comes next: what is due at that word, and after it
-abbrev pub tagged : {A : Type 0} → List ℕ → (List ℕ → Option A) → Due → Due → Remaining
+abbrev pub after_tag : {A : Type 0} → List ℕ → (List ℕ → Option A) → Due → Due → Remaining
     → Read (Option A)
-tagged tag reads value next (word ∷ rest, due) =
+after_tag tag reads value next (word ∷ rest, due) =
     if bytes_eq word tag
     then word_in reads next (rest, value) >>= (λ part. Ok (Some part.0, part.1))
     else Ok (None, (word ∷ rest, due))
-tagged tag reads value next ([], due) = Ok (None, ([], due))
+after_tag tag reads value next ([], due) = Ok (None, ([], due))
 
 -- whose record it is, if that is said: `of J`
 abbrev pub owner_of : StepKind → Remaining → Read (Option ℕ)
-owner_of kind = tagged (codes "of") (number_of 0 255) (Owner kind) (Found kind)
+owner_of kind = after_tag (codes "of") (number_of 0 255) (Owner kind) (Found kind)
 
 -- or else the thread's own
 abbrev pub in_record : ℕ → (ℕ → WordName) → Read (Option ℕ) → Read (Option WordName)
@@ -85,21 +85,21 @@ result_alone Cas word =
 result_alone kind word = None
 
 -- nothing may follow
-abbrev pub ended : {A : Type 0} → A → Words → Result A Remaining
-ended part [] = Ok part
-ended part (word ∷ rest) = Err (word ∷ rest, OfSchedule End)
+abbrev pub at_end : {A : Type 0} → A → Words → Result A Remaining
+at_end part [] = Ok part
+at_end part (word ∷ rest) = Err (word ∷ rest, OfSchedule End)
 
 -- whether a compare-and-swap wrote, if that is said, and nothing else
 abbrev pub result_of : StepKind → Remaining → Result (Option Bool) Remaining
 result_of kind (word ∷ rest, due) =
-    ok_or (result_alone kind word) (word ∷ rest, due) >>= λ said. ended (Some said) rest
+    ok_or (result_alone kind word) (word ∷ rest, due) >>= λ said. at_end (Some said) rest
 result_of kind ([], due) = Ok None
 
 -- what a step found and left in its word, and whether it wrote
 abbrev pub values_in : StepKind → Remaining → Result (Option ℕ × Option ℕ × Option Bool) Remaining
 values_in kind at = do
-  found ← tagged (codes "found") whole_number (FoundValue kind) (Left kind) at
-  left ← tagged (codes "left") whole_number (LeftValue kind) (ResultDue kind) found.1
+  found ← after_tag (codes "found") whole_number (FoundValue kind) (Left kind) at
+  left ← after_tag (codes "left") whole_number (LeftValue kind) (ResultDue kind) found.1
   wrote ← result_of kind left.1
   Ok (found.0, left.0, wrote)
 
@@ -119,7 +119,7 @@ values_of thread kind at = with_place kind (place_in thread kind at)
 abbrev pub outcome_of : Option ℕ → Remaining → Result Seen Remaining
 outcome_of count (word ∷ rest, due) =
     ok_or (outcome_named word) (word ∷ rest, due)
-    >>= λ outcome. ended (WithOutcome count (Some outcome)) rest
+    >>= λ outcome. at_end (WithOutcome count (Some outcome)) rest
 outcome_of count ([], due) = Ok (WithOutcome count None)
 
 -- the count of a section, its outcome, or both
@@ -142,7 +142,7 @@ step_of thread kind words =
 
 -- what follows a move, on this word if the line does not name it
 abbrev pub seen_of : ℕ → Option WordName → Move → Words → Result Seen Remaining
-seen_of thread None (Call op) words = ended Nothing words
+seen_of thread None (Call op) words = at_end Nothing words
 seen_of thread None (Step Section) words = section_of words
 seen_of thread None (Step kind) words = step_of thread kind words
 seen_of thread (Some word) (Call op) words = Err (words, OfSchedule End)

@@ -24,8 +24,8 @@ abbrev pub move_after : ℕ → Option WordName → Words → Result TraceLine R
 move_after thread on (first ∷ words) = move_with thread on (words, OpenMove)
 move_after thread on [] = Err ([], AnyThread)
 
-abbrev pub filled : ℕ → Option WordName → List ℕ → Option TraceLine
-filled thread on line =
+abbrev pub as_move_of : ℕ → Option WordName → List ℕ → Option TraceLine
+as_move_of thread on line =
     if nat_lt 96 (length line) then None else result_ok (move_after thread on (words_of line))
 
 -- whose move the line is
@@ -34,8 +34,8 @@ doer_of line = doer_named (words_of line)
 
 -- the line of a trace that a line of a sketch is, as a move of this thread
 unfoldable pub filled_line : ℕ → List ℕ → Option TraceLine
-filled_line thread line = filled thread None line
+filled_line thread line = as_move_of thread None line
 
 -- the same if the line does not name its word, which is this one
 unfoldable pub filled_line_on : ℕ → WordName → List ℕ → Option TraceLine
-filled_line_on thread word line = filled thread (Some word) line
+filled_line_on thread word line = as_move_of thread (Some word) line

@@ -25,14 +25,14 @@ abbrev pub trace_place_of : List ℕ → Option (ℕ × Due)
 trace_place_of line = option_map (place_of line) (result_err (line_of_words (words_of line)))
 
 -- a sketch may leave out the name of the word
-abbrev pub opened : Due → Due
-opened (Place kind) = Open kind
-opened due = due
+abbrev pub open_due : Due → Due
+open_due (Place kind) = Open kind
+open_due due = due
 
 -- a line of a sketch names its word or does not, and stops where the reading that goes further does
 abbrev pub later : Remaining → Remaining → Remaining
 later named unnamed =
-    if nat_lt (width unnamed.0) (width named.0) then unnamed else (named.0, opened named.1)
+    if nat_lt (width unnamed.0) (width named.0) then unnamed else (named.0, open_due named.1)
 
 abbrev pub both_stop : Result TraceLine Remaining → Result TraceLine Remaining → Option Remaining
 both_stop (Err named) (Err unnamed) = Some (later named unnamed)

@@ -112,7 +112,12 @@ pub fn check_line(
             left,
             wrote,
         } => effect_other(machine.kind(), made.effect, word, found, left, wrote),
-        Seen::WithOutcome { count, outcome } => section_other(sections, made.outcome, count, outcome),
+        Seen::WithOutcome { count, outcome } => section_other(
+            sections,
+            made.outcome,
+            count,
+            outcome,
+        ),
     };
     match difference {
         Some(difference) => Err(difference),

@@ -8,7 +8,7 @@ ghost use Rattle.lk_lines.specs.Vocabulary.{number_of};
 ghost use Rattle.lk_trace.specs.Lines.{line_of_words, move_with, outcome_alone, outcome_of};
 ghost use Rattle.lk_trace.specs.Lines.{owner_of, part_of, place_in, remaining, result_alone};
 ghost use Rattle.lk_trace.specs.Lines.{result_of, section_of, seen_of, short_line_of};
-ghost use Rattle.lk_trace.specs.Lines.{short_log_line_of, step_of, tagged, values_of, values_on};
+ghost use Rattle.lk_trace.specs.Lines.{short_log_line_of, step_of, after_tag, values_of, values_on};
 ghost use Rattle.lk_trace.specs.Lines.{whole_of, word_in, words_left};
 
 use crate::WordName;
@@ -126,7 +126,7 @@ fn place_in(rest: Rest<'_>, thread: u8, kind: StepKind) -> Part<'_, Option<WordN
 // `next` after the number.
 #[inline(always)]
 fn tagged<'a>(rest: Rest<'a>, tag: &[u8], value: Due, next: Due) -> Part<'a, Option<u64>>
-    ensures { part_of result ≡ tagged tag.now whole_number value next (remaining rest.entry) }
+    ensures { part_of result ≡ after_tag tag.now whole_number value next (remaining rest.entry) }
 {
     let Some((word, after)) = first_word(rest.0) else {
         return Ok((None, rest));

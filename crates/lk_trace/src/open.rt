@@ -2,7 +2,7 @@
 //! follows the move may be left out, the name of the word too.
 
 ghost use Rattle.std.specs.Prelude.{◌≡◌};
-ghost use Rattle.lk_trace.specs.Open.{doer_of, filled, filled_line, filled_line_on};
+ghost use Rattle.lk_trace.specs.Open.{doer_of, as_move_of, filled_line, filled_line_on};
 
 use crate::line::{MOST_OF_A_LINE, first_word, move_with};
 use crate::{Due, TraceLine, WordName};
@@ -30,7 +30,7 @@ pub fn doer_of(line: &[u8]) -> Option<Doer>
 
 // What follows the thread, as a move of this one, on this word if the line does not name it.
 fn filled(line: &[u8], thread: u8, on: Option<WordName>) -> Option<TraceLine>
-    ensures { result ≡ filled thread on line.now }
+    ensures { result ≡ as_move_of thread on line.now }
 {
     if line.len() > MOST_OF_A_LINE {
         return None;

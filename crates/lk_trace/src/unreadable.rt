@@ -4,7 +4,8 @@
 ghost use Rattle.std.specs.Prelude.{◌≡◌, ℕ, ◌≤◌, ◌↔◌, IsNone, IsSome, IsTrue, length, option_map};
 ghost use Rattle.lk_lines.specs.Lines.{words_of};
 ghost use Rattle.lk_trace.specs.Lines.{remaining, trace_line_of, words_left};
-ghost use Rattle.lk_trace.specs.Unreadable.{is_open_line, later, opened, place_of, sketch_place_of};
+ghost use Rattle.lk_trace.specs.Unreadable.{is_open_line, later, open_due, place_of};
+ghost use Rattle.lk_trace.specs.Unreadable.{sketch_place_of};
 ghost use Rattle.lk_trace.specs.Unreadable.{sketch_stop, trace_place_of, width};
 ghost use Rattle.lk_trace.specs.declared.names.WordName.{WordName};
 
@@ -42,7 +43,7 @@ pub fn unreadable_line(line: &[u8]) -> Option<(usize, Due)>
 
 // What is due in a sketch where in a trace this is.
 fn opened(due: Due) -> Due
-    ensures { result ≡ opened due }
+    ensures { result ≡ open_due due }
 {
     match due {
         Due::Place(kind) => Due::Open(kind),

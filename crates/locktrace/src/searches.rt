@@ -133,7 +133,7 @@ pub fn find_given(alloc: Global, matches: &ArgMatches<'_>) -> Result<SearchJob, 
         [_] if matches.get_str("bits").is_some() => {
             return usage(
                 alloc,
-                "error: --bits goes with a lock and its threads; a file has its own in its header\n",
+                "error: --bits goes with a lock and its threads; a file has its own\n",
             );
         }
         [file] => Place::File(String::from_str(alloc, *file)?),

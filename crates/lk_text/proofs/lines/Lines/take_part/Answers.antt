@@ -6,7 +6,7 @@ use Rattle.std.specs.Io.KnownBytes.{prepend_known}
 use Rattle.std.specs.Prelude.{slice_range}
 use Rattle.memchr.specs.Find.{IsFirstByte, is_byte}
 use Rattle.lk_text.proofs.Taken.{part_to, part_all, range_rest, range_empty}
-use Rattle.lk_text.specs.Lines.{kept}
+use Rattle.lk_text.specs.Lines.{kept_bytes}
 use Rattle.lk_text.specs.invariants.{TakesPart}
 use Rattle.lk_text.proofs.lines.Lines.take_part.Goals as goal
 
@@ -22,7 +22,7 @@ returns-in-Some g c =
     c.deref.ensures.value c.in-Some.ensures in
     part_to ahead (slice_range lines.chunk.items (lines.at + (end + 1)) lines.filled) end known _ _
     (range_rest lines.chunk.items lines.at lines.filled (end + 1)) found.0 found.1
-    (c.keep.ensures.kept ∙ ap (λ (l : List ℕ). take 97 (kept c.args.line.now ++ take end
+    (c.keep.ensures.kept ∙ ap (λ (l : List ℕ). take 97 (kept_bytes c.args.line.now ++ take end
     (slice_range l lines.at lines.filled))) c.deref.ensures.value) refl
 
 pub returns-in-None : goal.returns-in-None
@@ -41,5 +41,6 @@ returns-in-None g c =
     (sym (range_empty lines.chunk.items lines.filled lines.filled (omega arith)))
     (part_all ahead known _ _ found (omega (arith, c.requires, size))
     (c.keep-in-None.ensures.kept
-    ∙ ap (λ (l : List ℕ). take 97 (kept c.args.line.now ++ slice_range l lines.at lines.filled))
+    ∙ ap (λ (l : List ℕ).
+    take 97 (kept_bytes c.args.line.now ++ slice_range l lines.at lines.filled))
     c.deref.ensures.value) c.keep-in-None.ensures.whole)
