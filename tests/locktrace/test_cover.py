@@ -68,11 +68,6 @@ def test_status(program, words, begin, error, status):
     assert output.startswith(begin)
 
 
-def test_name_of_no_kind(program):
-    assert program.run("cover", "--require", f"{FAILED},release", "late") == (
-        "", "error: --require 'release' is no kind of transition\n", 2)
-
-
 def test_refused_move(program):
     output, error, status = program.run("cover", "refused")
     assert output.startswith("mcs: 1 of 16 kinds of transition, in 1 move\n") and status == 1

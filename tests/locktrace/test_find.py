@@ -88,12 +88,6 @@ def test_usage(tracer, words):
     assert (output, status) == ("", 2) and error.startswith("error:")
 
 
-def test_bits_beside_a_file(tracer):
-    tracer.write(sketch="lock mcs threads 2\n* cas failed\n")
-    assert tracer.run("find", "--bits", "8", "sketch") == (
-        "", "error: --bits goes with a lock and its threads; a file has its own\n", 2)
-
-
 @pytest.mark.parametrize("line, why", NEVER)
 def test_line_that_no_run_has(tracer, line, why):
     """In the words of the command, and in a text. Nothing is searched."""

@@ -43,7 +43,7 @@ pub enum LineFault {
     #[error("{0}")]
     Unread(SketchFault),
     /// Each lock of the header's shape refuses this move, whatever was done before.
-    #[error("no run has this line: {0} ({})", .0.name())]
+    #[error("no run has this line: {} ({})", .0.message(), .0.name())]
     Never(Refusal),
 }
 
