@@ -48,9 +48,11 @@ fn is_own_name(name: &[u8]) -> bool
     if name == TRACE.as_bytes() {
         return true;
     }
-    match name.strip_prefix(RUN.as_bytes()) {
-        Some(rest) => is_schedule_name(rest),
-        None => is_schedule_name(name),
+    let (front, rest) = name.split_at(RUN.len().min(name.len()));
+    if front == RUN.as_bytes() {
+        is_schedule_name(rest)
+    } else {
+        is_schedule_name(name)
     }
 }
 
