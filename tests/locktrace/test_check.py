@@ -89,6 +89,8 @@ def test_summary(tracer):
 END, BLANK = "the end of the line", "nothing after a blank"
 NUMBER, THREAD = "a number of at most 64 bits", "a thread's number, from 0 to 255"
 OUTCOME = "the end, the section's count, or moved, waits, entered or left"
+PLACE = ("the end, a word (next_ticket, now_serving, tail, next or locked), or moved, waits, "
+         "entered or left")
 
 
 @pytest.mark.parametrize("line, column, there, due", [
@@ -101,12 +103,8 @@ OUTCOME = "the end, the section's count, or moved, waits, entered or left"
     ("2 swap tail found 18446744073709551616", 19, "'18446744073709551616'", NUMBER),
     ("2 swap tail left 1 found 1", 20, "'found'", "the end"),
     ("2 swap tail done", 13, "'done'", "the end, 'found' or 'left'"),
-    ("2 swap found 1", 8, "'found'",
-     "the end, a word (next_ticket, now_serving, tail, next or locked), or moved, waits, entered or "
-     "left"),
-    ("2 swap moved tail", 8, "'moved'",
-     "the end, a word (next_ticket, now_serving, tail, next or locked), or moved, waits, entered or "
-     "left"),
+    ("2 swap found 1", 8, "'found'", PLACE),
+    ("2 swap moved tail", 8, "'moved'", PLACE),
     ("2 write next of 256 left 1", 17, "'256'", THREAD), ("2 write next of", 17, END, THREAD),
     ("2 write tail of 1", 14, "'of'", "the end, 'found' or 'left'"),
     ("2 cas tail failed left 1", 19, "'left'", "the end"),

@@ -20,7 +20,7 @@ SAID = {
     "record/rust/Cargo.lock": [f'name = "lockreplay-record" version = "{VERSION}"'],
     "crates/locktrace/src/*.rt": [f'VERSION: &str = "{VERSION}";', f'"{either(LOCKS)}"'],
     "crates/lk_lines/src/unreadable.rt": [f'"{either(LOCKS)}"', f"({', '.join(STEPS.values())})"],
-    DUE: [f'"{either(OUTCOMES)}"', f"a word: {either(PLACES)}"],
+    DUE: [f'"{either(OUTCOMES)}"', f"a word ({either(PLACES)})"],
     C: [f'"{name}: {text}"' for name, text in MESSAGES.items() if name != "NoHeader"],
     f"{PAGE}/machine/codes.js": [
         f"FIRST_STEP = {MOVES[STEPS['Read']]};",
@@ -31,7 +31,8 @@ SAID = {
 ALL, ITEM, KEY = (r"\A", r"\Z"), r"^\.It Li (\w+)", r"(\w+): ['`]"
 LISTS = (
     ("VERSION", *ALL, ".+", [RELEASE]),
-    (DUE, "OPEN: ", r"\];", r'"(\w+)"', [*PLACES.values(), *PARTS]),
+    (DUE, "OPEN: ", r"\];", r'"(\w+)"', [*PLACES.values(), *OUTCOMES.values(), *(
+        part for part in PARTS if part not in OUTCOMES.values())]),
     ("crates/lk_trace/src/line.rt", *ALL, r'b"(\w+)"', {*PLACES.values(), OF, *PARTS}),
     ("crates/lk_trace/src/names.rt", *ALL, r'"\w+ (\w+) \{thread\}"', {OF}),
     (C, r"match fault \{", "_ =>", r'=> (?:Refusal::|")(\w+)',
