@@ -17382,6 +17382,13 @@ static int lt_read_values(struct lt_words *words, struct lt_seen *seen)
     return words->at == words->count;
 }
 
+/* Reads the outcome of a step: 0 if anything else is left. */
+static int lt_read_outcome(struct lt_words *words, struct lt_seen *seen)
+{
+    if (words->at + 1 == words->count) seen->outcome = LT_IN(lt_outcomes, words->word[words->at]);
+    return seen->outcome >= 0;
+}
+
 static int lt_read_section(struct lt_words *words, struct lt_seen *seen)
 {
     seen->has_count = lt_number(words->word[words->at], UINT64_MAX, &seen->count);
@@ -17404,7 +17411,8 @@ static int lt_read_move(struct lt_words *words, struct lt_seen *seen)
     seen->action = (uint32_t)action;
     if (words->at == words->count) return 1;
     if (seen->action < LT_READ) return 0;
-    return seen->action == LT_SECTION ? lt_read_section(words, seen) : lt_read_values(words, seen);
+    if (seen->action == LT_SECTION) return lt_read_section(words, seen);
+    return lt_read_outcome(words, seen) || lt_read_values(words, seen);
 }
 
 /* The schedule of a text, with each of its lines in its place: `length` bytes, up to a line that is
@@ -17601,7 +17609,7 @@ size_t lt_fault_text(uint32_t fault, uint8_t *text, size_t room)
         "LeftOther: the lock leaves another value in the word",
         "WroteOther: the lock's compare-and-swap ends otherwise",
         "CountNotAbove: the section's count is not above those before it",
-        "OtherOutcome: something else comes of the lock's section", "", "",
+        "OtherOutcome: something else comes of the lock's step", "", "",
         "NoHeader: there is no header", "BadHeader: not a header",
         "BadThreads: not a number of threads", "WordsTooNarrow: words too narrow for the threads",
         "BadLine: not a move",
