@@ -17386,7 +17386,7 @@ static int lt_read_values(struct lt_words *words, struct lt_seen *seen)
 static int lt_read_outcome(struct lt_words *words, struct lt_seen *seen)
 {
     if (words->at + 1 == words->count) seen->outcome = LT_IN(lt_outcomes, words->word[words->at]);
-    return seen->outcome >= 0;
+    return seen->outcome > 0;
 }
 
 static int lt_read_section(struct lt_words *words, struct lt_seen *seen)
@@ -17395,7 +17395,7 @@ static int lt_read_section(struct lt_words *words, struct lt_seen *seen)
     words->at += (size_t)seen->has_count;
     if (words->at == words->count) return 1;
     seen->outcome = LT_IN(lt_outcomes, words->word[words->at++]);
-    return seen->outcome >= 0 && words->at == words->count;
+    return seen->outcome > 0 && words->at == words->count; /* no step is `called` */
 }
 
 /* Reads a move: 0 if the line is none. */

@@ -26,7 +26,7 @@ ROOM = 8  # fewer than most runs have moves
 MOST, TOO_LONG = 65536, 21  # what the source alone says, of a trace with more moves
 WORDS = """0 1 2 3 00 255 256 lock ticket mcs rw-simple rw-fifo threads bits acquire release rlock
     runlock wlock wunlock downgrade read write swap cas add section next_ticket now_serving tail
-    next locked of found left done failed moved waits entered
+    next locked of found left done failed called moved waits entered
     18446744073709551615 18446744073709551616
     -1 # x""".split() + ["1" * 90]  # which makes a line too long
 OTHERS = {"next": "locked", "locked": "next", "done": "failed", "failed": "done",
