@@ -76,11 +76,12 @@ test-parts:
 
 # `rt ci` sets `out` aside, and in the end puts the libraries of earlier checks back. They are deleted
 # first, so that `out` has the libraries that it proved. Its copies take gigabytes, and in Debian 13
-# /tmp is memory.
+# /tmp is memory. It gives a crate the processors that are idle when the crate begins: lk_jobs, which
+# takes longest, would have one, beside three others. So lk_jobs and those below it come first.
 ## gate | the proofs, from nothing, and the stored runs
 gate: needs-rt
 	rm -rf crates/*/out/rlib
-	TMPDIR=$${TMPDIR:-/var/tmp} rt ci
+	export TMPDIR=$${TMPDIR:-/var/tmp} && rt ci lk_jobs && rt ci
 	touch --no-create $(PROGRAM) $(TRACER) $(TESTS_BUILT)
 	touch $(PROVED)
 
