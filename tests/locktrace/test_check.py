@@ -104,7 +104,6 @@ PLACE = ("the end, a word (next_ticket, now_serving, tail, next or locked), or m
     ("2 swap tail left 1 found 1", 20, "'found'", "the end"),
     ("2 swap tail done", 13, "'done'", "the end, 'found' or 'left'"),
     ("2 swap found 1", 8, "'found'", PLACE),
-    ("2 swap moved tail", 8, "'moved'", PLACE),
     ("2 write next of 256 left 1", 17, "'256'", THREAD), ("2 write next of", 17, END, THREAD),
     ("2 write tail of 1", 14, "'of'", "the end, 'found' or 'left'"),
     ("2 cas tail failed left 1", 19, "'left'", "the end"),

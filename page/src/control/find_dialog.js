@@ -6,12 +6,11 @@ import {
   buttonOf, byId, closesBeside, dialogOf, elementOf, formOf, inputOf, selectOf,
 } from '../lib/elements.js';
 import { html, show, write } from '../lib/markup.js';
-import { ANSWER, LOCK_NAMES, OUTCOMES } from '../machine/codes.js';
+import { ANSWER, LOCK_NAMES } from '../machine/codes.js';
 import { findRun, FOUND } from '../machine/search.js';
 import { language } from '../texts/language.js';
 import { texts } from '../texts/texts.js';
 import { firstOf, kindsOf } from '../model/kinds.js';
-import { findOutcome, outcomeLine } from '../model/outcome_search.js';
 import { lockOptions, newHeader } from '../view/choices_view.js';
 
 const T = texts.find;
@@ -19,23 +18,18 @@ const T = texts.find;
 const withCommas = (number) => number.toLocaleString(language);
 
 // Why there is no run to show.
-function refusal({ answer, count }, { threads, rounds, sketch }) {
+function refusal({ answer, count }, { threads, rounds }) {
   const states = withCommas(count);
   return {
     [FOUND.nowhere]: () => T.nowhere(texts.threads(threads), T.rounds(rounds), states),
     [FOUND.tooLarge]: () => T.tooLarge(states),
     [FOUND.longRun]: () => T.longRun,
-    [FOUND.badLine]: () => {
-      const word = sketch.split('\n')[count - 1].split(' ').find((one) => OUTCOMES.includes(one));
-      return word ? T.outcome(count, word) : T.badLine(count);
-    },
+    [FOUND.badLine]: () => T.badLine(count),
     [FOUND.manyLines]: () => T.manyLines(count),
     [FOUND.noRoom]: () => T.noRoom(count),
     [FOUND.notAsked]: () => T.notAsked,
   }[answer]();
 }
-
-const linesText = (moves) => moves.map((move) => `${move}\n`).join('');
 
 // The schedule with what was looked for, as comments.
 function scheduleOf(header, moves, { title, sketch, threads, rounds }) {
@@ -43,7 +37,7 @@ function scheduleOf(header, moves, { title, sketch, threads, rounds }) {
     `#! title ${title}`, `# ${T.comment(texts.threads(threads), T.rounds(rounds))}`,
     ...sketch.split('\n').filter((line) => line.trim()).map((line) => `#   ${line}`),
   ];
-  return bytesOf(`${comments.join('\n')}\n${header}${linesText(moves)}`);
+  return bytesOf(`${comments.join('\n')}\n${header}${moves.map((move) => `${move}\n`).join('')}`);
 }
 
 class Finding {
@@ -111,21 +105,11 @@ class Finding {
     return { header, state, rounds, sketch, title, kind, threads: state.threads };
   }
 
-  // The run, or what is answered in its place, of a sketch or of one line of a report.
-  answerFor({ header, state, rounds, sketch }) {
-    const found = findRun(this.machine, state, rounds, sketch);
-    const line = found.answer === FOUND.badLine && outcomeLine(sketch);
-    if (!line) return found;
-    const played = (moves) => this.page.session.runOf(bytesOf(`${header}${linesText(moves)}`));
-    return findOutcome(played([]), line, rounds, played)
-      ?? { ...found, never: T.never(line.word, line.outcome) };
-  }
-
   search() {
     const asked = this.asked();
-    const found = asked && this.answerFor(asked);
+    const found = asked && findRun(this.machine, asked.state, asked.rounds, asked.sketch);
     if (found?.answer === FOUND.run) this.show(asked, found.moves);
-    else write(byId('find-answer'), asked ? found.never ?? refusal(found, asked) : T.notAsked);
+    else write(byId('find-answer'), asked ? refusal(found, asked) : T.notAsked);
   }
 
   // The schedule, at the move that was looked for.

@@ -67,9 +67,9 @@ export function findRun(machine, state, rounds, sketch) {
 }
 
 // A shortest run from the state after a move, whose last move is a transition of this kind. Each
-// thread begins at most so many more rounds.
-export function findNext(machine, run, move, kind, rounds = 1) {
-  const numbers = [move, kind, rounds].map(BigInt);
+// thread begins at most one more round.
+export function findNext(machine, run, move, kind) {
+  const numbers = [move, kind, 1].map(BigInt);
   return searched(machine, run.begun, MOST_NEXT_CELLS, run.played, (text, states, memory) => (
     machine.exports.soon(...text, ...numbers, states, ...memory)));
 }

@@ -82,11 +82,6 @@ export const german = {
       tooLarge: (states) => `Nicht entschieden: ${states} Zustände gefunden, mehr als diese Seite `
         + 'durchsucht. Nimm weniger Threads oder Runden.',
       longRun: 'Der kürzeste Lauf ist zu lang für diese Seite.',
-      outcome: (line, word) => `Zeile ${line}: „${word}“ ist ein Ergebnis des Berichts. Nach `
-        + '„* read waits“ kann allein gefragt werden. Neben anderen Zeilen nennt eine Skizze, was '
-        + 'ein Schritt fand, wie „* read locked found 1“ oder „* cas failed“. Beispiele sind unter '
-        + '„Welcher Zug“.',
-      never: (word, outcome) => `Kein „${word}“ dieser Sperre hat das Ergebnis „${outcome}“.`,
       badLine: (line) => `Zeile ${line} ist keine Zeile einer Skizze. Eine Zeile ist die Nummer `
         + 'eines Threads oder *, und ein Aufruf oder Schritt, wie „* cas failed“.',
       manyLines: (line) => `Zeile ${line} ist eine zu viel: Eine Skizze hat höchstens 255 Zeilen.`,
@@ -137,8 +132,8 @@ export const german = {
     resting: (threads) => `${threads} nicht gezeichnet: ohne Zug in dieser Zeit`,
     away: (count) => `${count} Zeilen darüber oder darunter`,
     folded: (count) => `${count} weitere`,
-    covered: 'Pfeile und Bildunterschrift kommen mit der Antwort (A).',
-    coveredSentence: 'Was dieser Zug tat, kommt mit der Antwort (A).',
+    covered: 'Pfeile und Bildunterschrift kommen mit der Antwort (Taste A).',
+    coveredSentence: 'Was dieser Zug tat, kommt mit der Antwort (Taste A).',
     showStory: 'Worum es geht',
     wrote: (word, left, found) => `${word} = ${left} (war ${found})`,
     legend: {
@@ -285,6 +280,7 @@ export const german = {
         entered: 'Das Ergebnis ist „entered“: Von diesem Zug an hält der Thread die Sperre.',
         left: 'Das Ergebnis ist „left“: Von diesem Zug an hält der Thread so nicht mehr.',
       },
+      whyQueue: 'In der Schlange steht, wer einen Platz hat und nicht gegangen ist, der älteste vorn.',
     },
     noMachine: 'Dieser Browser hat keinen WebAssembly-Speicher mit 64 Bit, also läuft die Maschine '
       + 'hier nicht. Die Lektionen werden gezeigt, wie die Maschine sie gespielt hat; ein eigener '

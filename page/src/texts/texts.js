@@ -68,10 +68,6 @@ const english = {
     tooLarge: (states) => `Not decided: ${states} states were found, more than this page searches. `
       + 'Take fewer threads or rounds.',
     longRun: 'The shortest run is too long for this page.',
-    outcome: (line, word) => `Line ${line}: “${word}” is an outcome of the report. “* read waits” `
-      + 'may be asked for alone. Beside other lines a sketch names what a step found, as in '
-      + '“* read locked found 1” or “* cas failed”. “Which move” has examples.',
-    never: (word, outcome) => `No “${word}” of this lock has the outcome “${outcome}”.`,
     badLine: (line) => `Line ${line} is not a line of a sketch. A line is a thread’s number or *, `
       + 'and a call or a step, as in “* cas failed”.',
     manyLines: (line) => `Line ${line} is one too many: a sketch has at most 255 lines.`,
@@ -120,8 +116,8 @@ const english = {
   resting: (threads) => `${threads} not drawn: no move at this time`,
   away: (count) => `${count} lanes above or below`,
   folded: (count) => `${count} more`,
-  covered: 'Arrows and caption come with the answer (A).',
-  coveredSentence: 'What this move did comes with the answer (A).',
+  covered: 'Arrows and caption come with the answer (key A).',
+  coveredSentence: 'What this move did comes with the answer (key A).',
   showStory: 'What this is about',
   wrote: (word, left, found) => `${word} = ${left} (was ${found})`,
   legend: {
@@ -262,6 +258,7 @@ const english = {
       left: 'The outcome is “left”: from this move on the thread no longer holds the lock in that '
         + 'mode.',
     },
+    whyQueue: 'In the queue is who has taken a place there and has not left, the oldest first.',
   },
 
   keys,

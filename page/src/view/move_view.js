@@ -164,7 +164,7 @@ function lastView({ remarks: { learn }, place, run, next, answered, move, remark
   if (place < run.last || !learn || due) return null;
   return html`<div class="last"><p><b>${texts.lessons.ended}</b> ${learn}</p>
     ${next && html`<button type="button" class="strong" data-next="${next.name}">${
-  texts.lessons.next(next.title)}<kbd>→</kbd></button>`}</div>`;
+  texts.lessons.next(next.title)}<kbd>Enter</kbd></button>`}</div>`;
 }
 
 function spokenMove({ run: { records }, names }, move) {

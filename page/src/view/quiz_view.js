@@ -36,12 +36,13 @@ export function quizForm(view, question) {
     <button class="strong">${T.check}<kbd>Enter</kbd></button></form>`;
 }
 
-// Whether it was right, and why: the move's outcome says what becomes of holders and queue.
+// Whether it was right, and why: the move's outcome says what becomes of the holders.
 export function resultView({ kind, truth, given, right }, outcome) {
   return html`<div class="result"><p class="${right ? 'right' : 'wrong'}">
     <b>${right ? '✓' : '✕'}</b> <span>${T.short[kind]}</span> <code>${truth}</code>
     ${!right && html`<span class="soft">${T.wrong(given)}</span>`}</p>
-    ${!right && html`<p class="why">${T.why[outcome]}</p>`}</div>`;
+    ${!right && html`<p class="why">${
+  kind === 'queue' ? T.whyQueue : T.why[outcome]}</p>`}</div>`;
 }
 
 export function scoreView(quiz) {

@@ -61,8 +61,8 @@ fn schedule_of(alloc: Global, order: &Order, piece: Piece) -> Text {
     text
 }
 
-// The names of the files of an order.
-fn names_of(alloc: Global, order: &Order) -> Result<Vec<String>, AllocError> {
+// The names of the files of an order, and how many moves are in no schedule.
+fn names_of(alloc: Global, order: &Order) -> Result<(Vec<String>, usize), AllocError> {
     let mut names = vec![in alloc; String::from_str(alloc, TRACE)?]?;
     let mut pieces = Pieces::new(order);
     for number in 1..usize::MAX {
@@ -71,17 +71,17 @@ fn names_of(alloc: Global, order: &Order) -> Result<Vec<String>, AllocError> {
         }
         names.push(format!(in alloc; "{RUN}{number:04}{ENDING}")?)?;
     }
-    Ok(names)
+    Ok((names, pieces.left_out()))
 }
 
-// Writes the schedules of an order under these names, and gives how many moves are in none.
+// Writes the schedules of an order under these names.
 fn write_schedules<R: Files>(
     rt: &R,
     alloc: Global,
     order: &Order,
     folder: Folder<'_>,
     names: &[String],
-) -> Result<usize, Failure> {
+) -> Result<(), Failure> {
     let mut pieces = Pieces::new(order);
     for name in names {
         let Some(piece) = pieces.next_piece() else {
@@ -90,7 +90,7 @@ fn write_schedules<R: Files>(
         let text = schedule_of(alloc, order, piece);
         folder.write(rt, alloc, name, text.as_str()?)?;
     }
-    Ok(pieces.left_out())
+    Ok(())
 }
 
 /// Writes the trace and the schedules of an order into a folder, in place of an earlier order, and
@@ -106,12 +106,12 @@ pub fn write_files<R: Files>(
         path,
         command: "order",
     };
-    let names = names_of(alloc, order)?;
+    let (names, left_out) = names_of(alloc, order)?;
     folder.clear(rt, alloc, &names)?;
     let mut file = folder.create(rt, alloc, TRACE)?;
     let written = write_trace(alloc, order, hung, &mut file);
     folder.finish(rt, alloc, TRACE, written)?;
-    let left_out = write_schedules(rt, alloc, order, folder, names.get(1..).unwrap_or(&[]))?;
+    write_schedules(rt, alloc, order, folder, names.get(1..).unwrap_or(&[]))?;
     folder.write_list(rt, alloc, &names)?;
     Ok(left_out)
 }
