@@ -67,7 +67,7 @@ def test_the_form_of_before_is_valid(page, move, question, hidden):
     page.show(OWN, move)
     shown = page.js("beside")
     found = [part for part in ("sentence", "facts") if not shown[part]]
-    if "answer (A)" in shown["caption"]:
+    if "answer (key A)" in shown["caption"]:
         found.append("caption")
     assert found == hidden, shown
     assert page.text("#now .question p") == f"Question: {question}"
