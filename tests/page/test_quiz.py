@@ -62,6 +62,17 @@ def test_a_wrong_answer_takes_a_point(page):
             f"Points: {points} ({points + 1} right, 1 wrong)"), points
 
 
+def test_a_wrong_queue_is_told_why(page):
+    """Not by the outcome, which says who holds."""
+    moves = moves_of(LESSONS["ticket-hand-over"])
+    begin(page, "ticket-hand-over")
+    while (shown := page.js("asked"))["kind"] != "queue":
+        page.js("answer", moves[shown["move"] - 1][TRUTH[shown["kind"]]])
+    page.js("answer", "7")
+    assert page.text("#now .why") == (
+        "In the queue is who has taken a place there and has not left, the oldest first.")
+
+
 @pytest.mark.parametrize("outcome, threads", zip(ALWAYS, [None, "-", "0", "1"]))
 def test_chance_earns_nothing(page, outcome, threads):
     begin(page, "mcs-late-link")
