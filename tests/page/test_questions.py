@@ -26,7 +26,8 @@ def test_each_part_comes_with_the_answer(page):
             assert before["facts"] == before["report"] == "" and before["marks"] == 0, where
             assert after["facts"] and after["report"], where
         if "memory" in parts:
-            assert before["caption"].endswith("come with the answer (key A).") and not before["links"]
+            assert before["caption"].endswith("come with the answer (key A).")
+            assert not before["links"]
             assert after["caption"] and after["caption"] != before["caption"], where
 
 

@@ -280,7 +280,7 @@ export const german = {
         entered: 'Das Ergebnis ist „entered“: Von diesem Zug an hält der Thread die Sperre.',
         left: 'Das Ergebnis ist „left“: Von diesem Zug an hält der Thread so nicht mehr.',
       },
-      whyQueue: 'In der Schlange steht, wer einen Platz hat und nicht gegangen ist, der älteste vorn.',
+      whyQueue: 'In der Schlange steht, wer einen Platz hat und noch nicht ging, der älteste vorn.',
     },
     noMachine: 'Dieser Browser hat keinen WebAssembly-Speicher mit 64 Bit, also läuft die Maschine '
       + 'hier nicht. Die Lektionen werden gezeigt, wie die Maschine sie gespielt hat; ein eigener '
