@@ -33,6 +33,9 @@ class Tab:
         self.scripts = "".join(path.read_text() for path in files if path.exists())
         self.added, self.path = {}, PAGE
         self.browser.told.clear()
+        # A file that an earlier test saved would give one of this test another name.
+        for path in (browser.home / "Downloads").glob("*"):
+            path.unlink(missing_ok=True)
         for name in ["reportViolations", "forget"]:
             self.before(name)
         self.resize(1440, 900)
