@@ -102,8 +102,8 @@ assert.equal(differs(runOf(...BEGUN, '0 read'), runOf(...BEGUN)), 3);
 const CAPTIONS = {
   'ticket-hand-over': {
     0: 'No ticket is in use: the next one is 0.',
-    6: 'It is the turn of ticket 0; the next ticket is 2.',
-    10: 'It is the turn of ticket 1; the next ticket is 2.',
+    6: 'Ticket 0 has its turn; the next is 2.',
+    10: 'Ticket 1 has its turn; the next is 2.',
   },
   'mcs-late-link': {
     0: 'The queue is empty.', 3: 'Ann is alone in the queue.',

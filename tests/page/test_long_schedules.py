@@ -2,10 +2,11 @@
 moves takes 50 ms at most, an edit of a long text is settled soon, and what Undo keeps has a bound.
 
 Loading goes from the bytes of the file to the page laid out, a step from the button's click to the
-page laid out; a step's time is the mean of twelve. The least of some rounds is bounded, so that
-other work on the machine counts little.
+page laid out; a step's time is the mean of twelve, a key's that of seven. The least of some rounds
+is bounded, so that other work on the machine counts little.
 """
 import random
+from statistics import mean
 
 import pytest
 
@@ -38,10 +39,11 @@ def test_loads_and_steps(page, record_property, lock):
 
 
 def test_typing(page, record_property):
-    """Each key at the end of 10,004 moves, and each pause after it, in which the text is played."""
+    """A key at the end of 10,004 moves, and a pause after it, in which the text is played: the means
+    of a line's seven."""
     page.open()
     times = page.js("typing", "1 read\n", ROUNDS)
-    key, pause = max(times[::2]), max(times[1::2])
+    key, pause = mean(times[::2]), mean(times[1::2])
     record_property("measured", f"key {key:.0f} ms, pause {pause:.0f} ms")
     shown = page.shown()
     assert shown["moves"] == 10_004 + ROUNDS and shown["area"].endswith("1 read\n" * 4)

@@ -27,7 +27,7 @@ const T = translated('ticket', {
   wraps: 'After {found} comes {left}: the numbers wrap around.',
   captions: {
     nobody: 'No ticket is in use: the next one is {next}.',
-    queue: 'It is the turn of ticket {serving}; the next ticket is {next}.',
+    queue: 'Ticket {serving} has its turn; the next is {next}.',
     wraps: 'The tickets have wrapped around: {first} is served before {last}.',
   },
 });

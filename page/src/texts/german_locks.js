@@ -9,7 +9,7 @@ export const germanLocks = {
     wraps: 'Nach {found} kommt {left}: Die Zahlen beginnen wieder bei 0.',
     captions: {
       nobody: 'Kein Ticket ist vergeben: Das nächste ist {next}.',
-      queue: 'An der Reihe ist {serving}; das nächste Ticket ist {next}.',
+      queue: 'An der Reihe ist {serving}; das nächste ist {next}.',
       wraps: 'Die Tickets haben wieder bei 0 begonnen: {first} kommt vor {last} dran.',
     },
   },
