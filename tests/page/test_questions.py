@@ -26,7 +26,7 @@ def test_each_part_comes_with_the_answer(page):
             assert before["facts"] == before["report"] == "" and before["marks"] == 0, where
             assert after["facts"] and after["report"], where
         if "memory" in parts:
-            assert before["caption"].endswith("come with the answer (key A).")
+            assert before["caption"].endswith("Press A for the arrows and the caption.")
             assert not before["links"]
             assert after["caption"] and after["caption"] != before["caption"], where
 
@@ -68,7 +68,7 @@ def test_the_form_of_before_is_valid(page, move, question, hidden):
     page.show(OWN, move)
     shown = page.js("beside")
     found = [part for part in ("sentence", "facts") if not shown[part]]
-    if "answer (key A)" in shown["caption"]:
+    if "Press A" in shown["caption"]:
         found.append("caption")
     assert found == hidden, shown
     assert page.text("#now .question p") == f"Question: {question}"

@@ -132,8 +132,8 @@ export const german = {
     resting: (threads) => `${threads} nicht gezeichnet: ohne Zug in dieser Zeit`,
     away: (count) => `${count} Zeilen darüber oder darunter`,
     folded: (count) => `${count} weitere`,
-    covered: 'Pfeile und Bildunterschrift kommen mit der Antwort (Taste A).',
-    coveredSentence: 'Was dieser Zug tat, kommt mit der Antwort (Taste A).',
+    covered: 'Taste A zeigt Pfeile und Bildunterschrift.',
+    coveredSentence: 'Taste A zeigt, was dieser Zug tat.',
     showStory: 'Worum es geht',
     wrote: (word, left, found) => `${word} = ${left} (war ${found})`,
     legend: {
