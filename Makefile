@@ -47,7 +47,8 @@ SPREAD := -n $(LANES) --dist loadgroup
 
 # Targets that are no files: those with a line ##, and these
 .PHONY: $(shell sed -n 's/^## \([a-z-]*\).*/\1/p' Makefile packaging/targets.mk) \
-	help needs-rt test-needs test-parts test-programs gate-built by-root
+	help needs-rt test-needs test-parts test-programs page-built \
+	gate-built gate-module gate-library by-root
 
 help:
 	@sed -n 's/^## //p' $(MAKEFILE_LIST) | awk -F ' [|] ' '{ printf "make %-43s%s\n", $$1, $$2 }'
@@ -74,20 +75,31 @@ test: test-needs
 test-parts:
 	@echo $(PARTS)
 
-# `rt ci` sets `out` aside, and in the end puts the libraries of earlier checks back. They are deleted
-# first, so that `out` has the libraries that it proved. Its copies take gigabytes, and in Debian 13
-# /tmp is memory. It gives a crate the processors that are idle when the crate begins: lk_jobs, which
-# takes longest, would have one, beside three others. So lk_jobs and those below it come first.
+# `rt ci` sets `out` aside, and in the end puts the libraries of earlier checks back. They are
+# deleted first, so that `out` has the libraries that it proved. Its copies take gigabytes, and in
+# Debian 13 /tmp is memory. `rt ci NAME..` gives a crate at most half of the processors, and keeps
+# what passed: so the longest chain of crates goes on beside the others, step by step.
+beside = { rt ci $(1) & first=$$!; rt ci $(2); second=$$?; wait $$first && [ $$second = 0 ]; }
 ## gate | the proofs, from nothing, and the stored runs
 gate: needs-rt
 	rm -rf crates/*/out/rlib
-	export TMPDIR=$${TMPDIR:-/var/tmp} && rt ci lk_jobs && rt ci
+	export TMPDIR=$${TMPDIR:-/var/tmp} && \
+	    $(call beside,lk_trace,lk_why lk_workers) && \
+	    $(call beside,lk_text,lk_search lk_order) && \
+	    $(call beside,lk_jobs,lk_checks) && \
+	    $(call beside,locktrace,lk_tests lk_page lk_trace_c lockreplay two_threads) && \
+	    rt ci
 	touch --no-create $(PROGRAM) $(TRACER) $(TESTS_BUILT)
 	touch $(PROVED)
 
 # The static libraries, which `rt ci` proves and does not build, over the libraries that it leaves
 gate-built:
+	+$(MAKE) --no-print-directory -j 2 gate-module gate-library
+
+gate-module:
 	BUILT=1 page/build-module.sh
+
+gate-library:
 	tests/prover/static_library.py lk_trace_c x86_64-unknown-linux-gnu out/liblk_trace_c.a
 
 $(PROVED): $(SOURCES)
@@ -146,11 +158,14 @@ page: $(MODULE)
 	node page/build.mjs $(MODULE)
 
 ## test-page | the page is what its sources build to, and works in two browsers
-test-page: $(MODULE) $(PROGRAM) test-needs
+test-page: $(PROGRAM) page-built
+	$(PYTEST) $(SPREAD) tests/page
+
+# The page is what its sources build to.
+page-built: $(MODULE) test-needs
 	node page/build.mjs $(MODULE) --check
 	@[ "$$(git status --porcelain 2> /dev/null)" != ' M $(PAGE)' ] || \
 	    { echo 'only $(PAGE) differs from what is committed: commit it too' >&2; exit 1; }
-	$(PYTEST) $(SPREAD) tests/page
 
 ## test-library | tests the static library for traces, from C and from Python
 test-library: $(LIBRARY) test-needs

@@ -2,7 +2,8 @@
 """Counts the states and transitions of spaces of schedules with SPIN, by the models in bench/spin.
 
     count.py                               each space of tests/rows/spaces.txt
-    count.py LOCK THREADS ROUNDS [BITS]    one space, which need not be there; words of 64 bits
+    count.py LOCK THREADS ROUNDS [BITS]    one space, which need not be there; words of 64 bits.
+                                           ROUNDS is a number, or any
 
 Printed are the states, the transitions, the depth, which is the longest of the shortest runs, and
 the seconds of the search. If tests/rows/spaces.txt has a space, its numbers have to agree. The

@@ -24,7 +24,8 @@ DOCUMENTS="README.md CHANGELOG.md CONTRIBUTING.md SECURITY.md CODE_OF_CONDUCT.md
     $(find crates/*/specs docs/*.md docs/pictures examples/*.md examples/*.schedule \
     examples/*.report examples/*.json examples/recording/*.md examples/recording/*.[ch] \
     record/*.[ch] \
-    record/rust/Cargo.* record/rust/src record/rust/examples \
+    record/rust/Cargo.* record/rust/build.rs record/rust/README.md record/rust/src \
+    record/rust/examples \
     -type f -size +0 | sort)"
 
 # put MODE PLACE FILE...: copies files to a place, or removes them there

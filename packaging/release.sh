@@ -1,6 +1,6 @@
 #!/bin/sh
-# Makes a release in dist/: the source, the tarball and the Debian package, and SHA256SUMS of these
-# three. It changes nothing else.
+# Makes a release in dist/: the source, the tarball, the Debian package and the site, and SHA256SUMS
+# of these four. It changes nothing else.
 #
 #   packaging/release.sh
 #
@@ -30,6 +30,8 @@ git -c tar.umask=022 archive --prefix="lockreplay-$VERSION/" HEAD |
 SOURCE=$(publish "$SOURCE")
 TARBALL=$(packaging/dist.sh)
 PACKAGE=$(packaging/deb.sh)
-(cd dist && sha256sum "${SOURCE#dist/}" "${TARBALL#dist/}" "${PACKAGE#dist/}") > "$STAGE/SHA256SUMS"
+SITE=$(packaging/site.sh)
+(cd dist && sha256sum "${SOURCE#dist/}" "${TARBALL#dist/}" "${PACKAGE#dist/}" "${SITE#dist/}") \
+    > "$STAGE/SHA256SUMS"
 publish SHA256SUMS > "$STAGE/published"
 cat dist/SHA256SUMS

@@ -29,9 +29,24 @@ dist: $(BUILT)
 deb: $(BUILT)
 	packaging/deb.sh
 
-## release | source, tarball, package and SHA256SUMS, in dist/
+## crate | the Rust crate as `cargo package` and `cargo publish` take it, in out/crate
+crate:
+	rm -rf out/crate
+	packaging/crate.sh out/crate
+
+## release | source, tarball, package, site and SHA256SUMS, in dist/
 release: $(BUILT)
 	packaging/release.sh
+
+# The page is the committed one: a forge publishes the site, and has no kit to build it.
+SITE := out/site
+## site | the documents as static HTML with search, and the page at its root, in out/site
+site:
+	@command -v sphinx-build > /dev/null || \
+	    { echo 'make site needs furo and python3-myst-parser of Debian' >&2; exit 1; }
+	rm -rf '$(SITE)'
+	read=$$(mktemp -d) && trap 'rm -rf "$$read"' EXIT && \
+	    sphinx-build -q -W --keep-going -c packaging/site -d "$$read" . '$(SITE)'
 
 $(PAGE): $(MODULE) VERSION docs/LOCKS.md $(wildcard page/build.mjs page/build/* page/src/*.* \
 	page/src/*/* examples/*.schedule examples/README.md)

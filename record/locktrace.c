@@ -1,4 +1,4 @@
-/* locktrace.c: the check of a trace (docs/TRACE.md) that locktrace.h declares, for any C compiler.
+/* locktrace.c: the check of a trace (docs/FORMATS.md) that locktrace.h declares, for a C compiler.
    SPDX-License-Identifier: Apache-2.0 OR MIT
 
    Compile it with your program: nothing else is needed. It is made by `make checker`, and not
@@ -14,7 +14,7 @@
 #include <stdlib.h>
 #include <string.h>
 
-/* locktrace.h: the check of a trace (docs/TRACE.md) from C, C++ and whatever calls C.
+/* locktrace.h: the check of a trace (docs/FORMATS.md) from C, C++ and whatever calls C.
    SPDX-License-Identifier: Apache-2.0 OR MIT
 
    Link with liblk_trace_c.a. No call allocates memory; the text and the records are the caller's.

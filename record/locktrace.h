@@ -1,4 +1,4 @@
-/* locktrace.h: the check of a trace (docs/TRACE.md) from C, C++ and whatever calls C.
+/* locktrace.h: the check of a trace (docs/FORMATS.md) from C, C++ and whatever calls C.
    SPDX-License-Identifier: Apache-2.0 OR MIT
 
    Link with liblk_trace_c.a. No call allocates memory; the text and the records are the caller's.

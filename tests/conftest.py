@@ -52,7 +52,8 @@ def pytest_addoption(parser):
     parser.addoption("--fuzz-seconds", type=float, default=60,
                      help="how long lockreplay and the oracle replay random texts")
     parser.addoption("--quick", action="store_true", help="a tenth of the random values")
-    parser.addoption("--write-planted", action="store_true", help="writes docs/PLANTED.md anew")
+    parser.addoption("--write-planted", action="store_true",
+                     help="writes the tables of tests/record/mistakes/README.md anew")
     parser.addoption("--threads", type=int, default=3, help="of the tours that locks follow")
     parser.addoption("--rounds", type=int, default=1, help="of each thread in these tours")
 

@@ -9,6 +9,11 @@
  * Different from the source: each thread has one record, which it uses again. NIL is 0, and RECORD
  * is one more than the number of the thread.
  */
+#ifdef ROUNDS
+#define BEGIN begun < ROUNDS -> begun++
+#else                   /* any number of rounds, of which none is counted */
+#define BEGIN true
+#endif
 #define NIL 0
 #define RECORD (_pid + 1)
 #define OWNER(record) (record - 1)
@@ -24,7 +29,7 @@ active [THREADS] proctype thread()
 
 end_Idle:               /* `end`: a thread may stay here for ever */
     do
-    :: d_step { begun < ROUNDS -> begun++ };       /* the call: acquire */
+    :: d_step { BEGIN };                           /* the call: acquire */
 ClearNext:
        next[_pid] = NIL;
 SwapTail:

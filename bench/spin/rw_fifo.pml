@@ -10,6 +10,11 @@
  * themselves or set it; a waiting thread may look again at any time, as after a spurious wake; the
  * counts have BITS bits; a writer may downgrade.
  */
+#ifdef ROUNDS
+#define BEGIN begun < ROUNDS -> begun++
+#else                   /* any number of rounds, of which none is counted */
+#define BEGIN true
+#endif
 #ifndef BITS
 #define BITS 8
 #endif
@@ -24,7 +29,7 @@ active [THREADS] proctype thread()
 
 end_Idle:               /* `end`: a thread may stay here for ever */
     do
-    :: d_step { begun < ROUNDS -> begun++ };       /* the call: rlock */
+    :: d_step { BEGIN };                           /* the call: rlock */
 TryRead:
        do
        :: flag                                     /* it waits */
@@ -35,7 +40,7 @@ Reading:
        true;                                       /* the call: runlock */
 LeaveRead:
        readReleases = WRAP(readReleases + 1)
-    :: d_step { begun < ROUNDS -> begun++ };       /* the call: wlock */
+    :: d_step { BEGIN };                           /* the call: wlock */
 TryWrite:
        do
        :: flag                                     /* it waits */

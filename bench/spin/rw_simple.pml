@@ -9,6 +9,11 @@
  * Different from the source: a waiting thread may look again at any time, as after a spurious wake;
  * the count has BITS bits; a writer may downgrade.
  */
+#ifdef ROUNDS
+#define BEGIN begun < ROUNDS -> begun++
+#else                   /* any number of rounds, of which none is counted */
+#define BEGIN true
+#endif
 #ifndef BITS
 #define BITS 8
 #endif
@@ -23,7 +28,7 @@ active [THREADS] proctype thread()
 
 end_Idle:               /* `end`: a thread may stay here for ever */
     do
-    :: d_step { begun < ROUNDS -> begun++ };       /* the call: rlock */
+    :: d_step { BEGIN };                           /* the call: rlock */
 TryRead:
        do
        :: flag                                     /* it waits */
@@ -34,7 +39,7 @@ Reading:
        true;                                       /* the call: runlock */
 LeaveRead:
        readers = WRAP(readers - 1)
-    :: d_step { begun < ROUNDS -> begun++ };       /* the call: wlock */
+    :: d_step { BEGIN };                           /* the call: wlock */
 TryWrite:
        do
        :: readers != 0 || flag                     /* it waits */

@@ -8,6 +8,11 @@
  *
  * Different from the source: a release is a read and a write, and words have BITS bits.
  */
+#ifdef ROUNDS
+#define BEGIN begun < ROUNDS -> begun++
+#else                   /* any number of rounds, of which none is counted */
+#define BEGIN true
+#endif
 #ifndef BITS
 #define BITS 8
 #endif
@@ -22,7 +27,7 @@ active [THREADS] proctype thread()
 
 end_Idle:               /* `end`: a thread may stay here for ever */
     do
-    :: d_step { begun < ROUNDS -> begun++ };       /* the call: acquire */
+    :: d_step { BEGIN };                           /* the call: acquire */
 TakeTicket:
        d_step { ticket = next_ticket; next_ticket = WRAP(next_ticket + 1) };
 AwaitTurn:

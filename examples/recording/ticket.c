@@ -41,7 +41,7 @@ static void ticket_release(ticket_lock *lock)
 
 static ticket_lock the_lock;
 
-static void open_lock(void) { memset(&the_lock, 0, sizeof the_lock); }
+static void open_lock(void) { the_lock.next_ticket = the_lock.now_serving = LR_START; }
 
 static void one_round(unsigned thread, unsigned round)
 {

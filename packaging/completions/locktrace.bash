@@ -3,7 +3,7 @@
 _locktrace() {
     local cur prev words cword split
     _init_completion -s -n : || return
-    local commands='check explain order schedule find tour space cover help'
+    local commands='check explain order schedule find tour space why cover help'
     case $cword,${words[1]},$prev in
     *,check,--format | *,order,--format) _locktrace_of 'text tap json' ;;
     *,space,--format) _locktrace_of 'text json dot' ;;
@@ -12,6 +12,7 @@ _locktrace() {
     *,check,-j | *,check,--jobs) _locktrace_of '{1..64}' ;;
     *,order,-o | *,tour,-o) _filedir -d ;;
     *,cover,--require) _locktrace_kinds ;;
+    *,find,--rounds | *,space,--rounds) _locktrace_of 'any' ;;
     *,--format | *,--color | *,--moves | *,--names | *,--rounds | *,--bits | *,--limit) ;;
     1,*) _locktrace_of "$commands --help -h --version -V" ;;
     2,help,*) _locktrace_of "$commands" ;;
@@ -22,6 +23,7 @@ _locktrace() {
     *,find,*) _locktrace_lock '--rounds --bits --limit --help -h' ;;
     *,tour,*) _locktrace_lock '-o --rounds --bits --limit --help -h' ;;
     *,space,*) _locktrace_lock '--rounds --bits --limit --format --help -h' ;;
+    *,why,*) _locktrace_lock '--rounds --bits --limit --runs --help -h' ;;
     *,cover,*) _locktrace_files '--require --format --help -h' ;;
     esac
     __ltrim_colon_completions "$cur"

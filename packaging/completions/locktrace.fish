@@ -1,6 +1,6 @@
 # Completion of locktrace's command line for fish.
 
-set -l commands check explain order schedule find tour space cover help
+set -l commands check explain order schedule find tour space why cover help
 set -l none "not __fish_seen_subcommand_from $commands"
 set -l help '__fish_seen_subcommand_from help'
 set -l check "__fish_seen_subcommand_from check; and not $help"
@@ -10,6 +10,7 @@ set -l schedule "__fish_seen_subcommand_from schedule; and not $help"
 set -l find "__fish_seen_subcommand_from find; and not $help"
 set -l tour "__fish_seen_subcommand_from tour; and not $help"
 set -l space "__fish_seen_subcommand_from space; and not $help"
+set -l why "__fish_seen_subcommand_from why; and not $help"
 set -l cover "__fish_seen_subcommand_from cover; and not $help"
 # generated: locks
 set -l locks ticket mcs rw-simple rw-fifo
@@ -66,6 +67,7 @@ complete -c locktrace -n $none -a schedule -d 'Write a trace without its values'
 complete -c locktrace -n $none -a find -d 'Find a shortest run that has these lines'
 complete -c locktrace -n $none -a tour -d 'Write schedules that take every transition of a lock'
 complete -c locktrace -n $none -a space -d 'Count the states of all runs of a lock'
+complete -c locktrace -n $none -a why -d 'Find what each step of a lock is for'
 complete -c locktrace -n $none -a cover -d 'Count which kinds of transition traces took'
 complete -c locktrace -n $none -a help -d 'Print help'
 complete -c locktrace -n $none -s V -l version -d 'Print the version'
@@ -81,8 +83,14 @@ complete -c locktrace -n $order -s o -x -a '(__fish_complete_directories)' \
     -d 'Where the trace and the schedules are written'
 complete -c locktrace -n $order -l format -x -a 'text tap json' -d 'The form of the report'
 complete -c locktrace -n $order -s q -l quiet -d 'Write no report'
-for search in $find $tour $space
+for search in $tour $why
     complete -c locktrace -n $search -l rounds -x -d 'How many times each thread takes the lock'
+end
+for search in $find $space
+    complete -c locktrace -n $search -l rounds -x -a any \
+        -d 'How many times each thread takes the lock'
+end
+for search in $find $tour $space $why
     complete -c locktrace -n $search -l bits -x -d 'How many bits a word has'
     complete -c locktrace -n $search -l limit -x -d 'How many states are searched at most'
     complete -c locktrace -n "$search; and not __fish_seen_subcommand_from $locks" -a "$locks"
@@ -90,6 +98,7 @@ end
 complete -c locktrace -n $tour -s o -x -a '(__fish_complete_directories)' \
     -d 'Where the schedules are written'
 complete -c locktrace -n $space -l format -x -a 'text json dot' -d 'The form of the counts'
+complete -c locktrace -n $why -l runs -d 'Write the moves of each run'
 complete -c locktrace -n $cover -l format -x -a 'text json' -d 'The form of the counts'
 complete -c locktrace -n $cover -l require -x -a '(__locktrace_kinds)' \
     -d 'Kinds that may not be missing, or all'

@@ -17,6 +17,7 @@ _locktrace() {
                      find\:"find a shortest run that has these lines"
                      tour\:"write schedules that take every transition of a lock"
                      space\:"count the states of all runs of a lock"
+                     why\:"find what each step of a lock is for"
                      cover\:"count which kinds of transition traces took"
                      help\:"print help"))' \
         '*::argument:->argument'
@@ -40,7 +41,7 @@ _locktrace() {
         '*:log:_files' ;;
     schedule) _arguments '(- *)'{-h,--help}'[print help]' '1:trace:_files' ;;
     find) _arguments '(- *)'{-h,--help}'[print help]' \
-        '--rounds[how many times each thread takes the lock]:number:' \
+        '--rounds[how many times each thread takes the lock]:number, or any:(any)' \
         '--bits[how many bits a word has]:number:' \
         '--limit[how many states are searched at most]:number:' \
         "1: :_alternative 'locks\:lock\:($locks)' 'files\:sketch\:_files'" \
@@ -52,16 +53,22 @@ _locktrace() {
         '--limit[how many states are searched at most]:number:' \
         "1:lock:($locks)" '2:threads:()' ;;
     space) _arguments '(- *)'{-h,--help}'[print help]' \
-        '--rounds[how many times each thread takes the lock]:number:' \
+        '--rounds[how many times each thread takes the lock]:number, or any:(any)' \
         '--bits[how many bits a word has]:number:' \
         '--limit[how many states are searched at most]:number:' \
         '--format[the form of the counts]:form:(text json dot)' \
         "1:lock:($locks)" '2:threads:()' ;;
+    why) _arguments '(- *)'{-h,--help}'[print help]' \
+        '--rounds[how many times each thread takes the lock]:number:' \
+        '--bits[how many bits a word has]:number:' \
+        '--limit[how many states are searched at most]:number:' \
+        '--runs[write the moves of each run]' \
+        "1:lock:($locks)" '2:threads:(1 2 3 4)' ;;
     cover) _arguments '(- *)'{-h,--help}'[print help]' \
         '--require[kinds that may not be missing]:kind, or all:_locktrace_kinds' \
         '--format[the form of the counts]:form:(text json)' \
         '*:trace:_files' ;;
-    help) _arguments '1:command:(check explain order schedule find tour space cover help)' ;;
+    help) _arguments '1:command:(check explain order schedule find tour space why cover help)' ;;
     esac
 }
 

@@ -48,8 +48,9 @@ static inline void lr_tell_fault(lr_run *run, const struct lt_answer *answer,
     if (at < run->ordered) {
         const lr_move *move = lr_move_at(run, at);
         unsigned by = run->order[at];
-        lr_tell(run->said, ", %s: '%u %s'", lr_where(where, &run->logs[by], move), by,
-                lr_text_of(line, move));
+        const lr_log *log = &run->logs[by];
+        lr_tell(run->said, ", %s: '%u %s'", lr_where(where, log, move), by,
+                lr_text_of(line, log, move));
     }
     lr_tell(run->said, ": %.*s", (int)(size < sizeof why ? size : sizeof why), (const char *)why);
     if (at >= run->ordered || answer->fault != LT_FOUND_OTHER) return;

@@ -2,7 +2,7 @@
    SPDX-License-Identifier: Apache-2.0 OR MIT
 
    One file for C11 and for C++14 and later, with GCC or Clang and POSIX threads. Include it after
-   all other headers. docs/RECORDING.md says which steps to note, docs/TRACE.md what is written.
+   all other headers. docs/RECORDING.md says which steps to note, docs/FORMATS.md what is written.
 
    IN SHORT: a ticket lock, noted, and its test.
        void acquire(void) {
@@ -45,6 +45,8 @@
      LR_SPURIOUS=n   with SEED: one turn in n wakes a thread of LR_WAIT that nobody signalled; else
                      one in 8 does with an even seed. EXPLORE wakes such a thread in the place of a
                      preemption. 0: none is woken
+     LR_START=n      the lock's counters begin at n, near where they wrap around: `reset` sets them
+                     so. A trace has what was counted since then
      LR_PATIENCE=n   a run hangs after so many turns with nothing but repeated polls
      LR_MOVES=n      with EXPLORE: room for so many moves of a thread (4,096)
 

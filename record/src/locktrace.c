@@ -1,4 +1,4 @@
-/* locktrace.c: the check of a trace (docs/TRACE.md) that locktrace.h declares, for any C compiler.
+/* locktrace.c: the check of a trace (docs/FORMATS.md) that locktrace.h declares, for a C compiler.
    SPDX-License-Identifier: Apache-2.0 OR MIT
 
    Compile it with your program: nothing else is needed. It is made by `make checker`, and not

@@ -54,6 +54,11 @@
 #error "LR_ATOMICS is for SEED, EXPLORE, and VALUES with LR_NOISE: points before atomic operations"
 #endif
 
+/* At which number the lock's counters begin. */
+#ifndef LR_START
+#define LR_START 0
+#endif
+
 /* LR_POINTS: each atomic operation has a point before it, at which another thread may be next. */
 #if (LR_SEEDED || LR_EXPLORES || defined LR_NOISE) && (!defined LR_ATOMICS || LR_ATOMICS + 0)
 #define LR_POINTS 1

@@ -1,5 +1,7 @@
 /* Writing what was recorded: the log of each thread, and of one thread at a time the trace. */
 
+enum { LR_SHORT = 1000 }; /* moves */
+
 /* A text, which goes to a file or into memory. */
 typedef struct lr_text {
     FILE *file;
@@ -38,10 +40,10 @@ __attribute__((format(printf, 2, 3))) static inline void lr_put(lr_text *text, c
     if (length > 0) lr_put_bytes(text, line, (size_t)length);
 }
 
-static inline void lr_print_move(lr_text *text, const lr_move *move)
+static inline void lr_print_move(lr_text *text, const lr_log *log, const lr_move *move)
 {
     char line[LR_LINE];
-    lr_put(text, "%s\n", lr_text_of(line, move));
+    lr_put(text, "%s\n", lr_text_of(line, log, move));
 }
 
 /* Comments, by which runs are told apart and made again, and the header up to a log's thread. */
@@ -49,6 +51,8 @@ static inline void lr_print_head(lr_text *text, const lr_run *run)
 {
     lr_put(text, "# run %016" PRIx64 "\n", run->number);
     if (LR_SEEDED) lr_put(text, "# seed %" PRIu64 "\n", run->seed);
+    if (LR_START)
+        lr_put(text, "# counters began at %" PRIu64 ", here at 0\n", (uint64_t)(LR_START));
     lr_put(text, "lock %s threads %u bits %u", run->lock, run->threads, run->bits);
 }
 
@@ -68,7 +72,7 @@ static inline void lr_print_log(lr_text *text, const lr_log *log)
     int ended = lr_count_of(log->ended);
     size_t count = lr_length_of(log);
     lr_put(text, " thread %u\n", log->thread);
-    for (size_t i = 0; i < count; i++) lr_print_move(text, &log->moves[i]);
+    for (size_t i = 0; i < count; i++) lr_print_move(text, log, &log->moves[i]);
     if (ended)
         lr_put(text, "dropped %zu\n", lr_count_of(log->dropped));
     else
@@ -82,21 +86,34 @@ static inline void lr_print_moves(lr_text *text, const lr_run *run)
     for (size_t turn = 0; turn < ordered; turn++) {
         unsigned t = run->order[turn];
         lr_put(text, "%u ", t);
-        lr_print_move(text, &run->logs[t].moves[next[t]++]);
+        lr_print_move(text, &run->logs[t], &run->logs[t].moves[next[t]++]);
     }
 }
 
-/* With EXPLORE: what was chosen, by which `lr_main` makes the same run again. A program that has
-   crashed took it along. */
+/* With EXPLORE: what was chosen, by which `lr_main` makes the same run again. */
 static inline void lr_print_way(lr_text *text, const lr_run *run)
 {
-    if (!LR_EXPLORES || run->is_crashed) return;
+    if (!LR_EXPLORES) return;
     for (size_t i = 0; i < run->chosen; i++)
         lr_put(text, "%s %u%s", i % 24 ? "" : "# way", (unsigned)run->choices[i].chosen,
                i % 24 == 23 || i + 1 == run->chosen ? "\n" : "");
 }
 
-/* The trace: its moves, and in comments how the run ended. */
+/* Where each move of a short run was noted, by its line in the trace. */
+static inline void lr_print_places(lr_text *text, const lr_run *run)
+{
+    size_t next[LR_THREADS] = {0}, ordered = lr_count_of(run->ordered);
+    unsigned line = 2 + LR_SEEDED + (LR_START != 0);
+    char at[LR_LINE];
+    for (size_t turn = 0; turn < ordered && ordered <= LR_SHORT; turn++) {
+        const lr_log *log = &run->logs[run->order[turn]];
+        const lr_move *move = &log->moves[next[log->thread]++];
+        lr_put(text, "# line %u is %s\n", ++line, lr_where(at, log, move));
+    }
+}
+
+/* The trace: its moves, and in comments how the run ended, where its moves were noted, and what
+   makes it again. A program that has crashed took the last two along. */
 static inline void lr_print_trace(lr_text *text, const lr_run *run)
 {
     lr_print_head(text, run);
@@ -111,6 +128,8 @@ static inline void lr_print_trace(lr_text *text, const lr_run *run)
         lr_put_bytes(text, run->said, strlen(run->said));
         lr_put(text, "\n");
     }
+    if (run->is_crashed) return;
+    lr_print_places(text, run);
     lr_print_way(text, run);
 }
 

@@ -1,9 +1,17 @@
 /* The text of a move, as a trace has it. */
 
-/* Writes a move without its thread into at most LR_LINE bytes. */
 enum { LR_LINE = 128 };
 
-static inline const char *lr_text_of(char *line, const lr_move *move)
+/* The value of a move as a trace has it, in which counters begin at 0. */
+static inline uint64_t lr_value_of(const lr_log *log, const lr_move *move)
+{
+    unsigned place = lr_move_place(move);
+    int is_counter = place == LR_PLACE_next_ticket || place == LR_PLACE_now_serving;
+    return is_counter ? (move->value - (uint64_t)(LR_START)) & log->mask : move->value;
+}
+
+/* Writes a move without its thread into at most LR_LINE bytes. */
+static inline const char *lr_text_of(char *line, const lr_log *log, const lr_move *move)
 {
     static const char *const places[] = {
         "",
@@ -26,7 +34,7 @@ static inline const char *lr_text_of(char *line, const lr_move *move)
     char owner[16] = "", count[24] = "", value[24] = "";
     if (of != LR_OWN) snprintf(owner, sizeof owner, " of %u", of);
     if (word == LR_STEP_section) snprintf(count, sizeof count, " %" PRIu64, move->value);
-    if (has_value) snprintf(value, sizeof value, " %" PRIu64, move->value);
+    if (has_value) snprintf(value, sizeof value, " %" PRIu64, lr_value_of(log, move));
     snprintf(line, LR_LINE, "%s%s%s%s%s%s", lr_word(word), places[lr_move_place(move)], owner,
              count, parts[part], value);
     return line;
@@ -60,5 +68,5 @@ static inline void lr_tell_last(char *text, const lr_log *log)
 {
     char line[LR_LINE], at[LR_LINE];
     const lr_move *last = lr_last_of(log);
-    if (last) lr_tell(text, " ('%s' at %s)", lr_text_of(line, last), lr_where(at, log, last));
+    if (last) lr_tell(text, " ('%s' at %s)", lr_text_of(line, log, last), lr_where(at, log, last));
 }

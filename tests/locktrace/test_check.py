@@ -1,7 +1,7 @@
 """`locktrace check`, and what all commands share: words, texts, formats, files that fail, inputs
 without end, devices that take nothing, little memory, several threads, and a terminal.
 
-What is due is written by hand from packaging/man/locktrace.1 and docs/TRACE.md.
+What is due is written by hand from packaging/man/locktrace.1 and docs/FORMATS.md.
 """
 import json
 import os

@@ -1,7 +1,8 @@
 """`locktrace find`: how a sketch is read, what is said of it, and the schedules that are found.
 
-What is said is written by hand from packaging/man/locktrace.1 and docs/TRACE.md. Lengths and counts
-of states are those of tests/rows/sketches.txt, and a schedule is a run of the second replayer.
+What is said is written by hand from packaging/man/locktrace.1 and docs/FORMATS.md. Lengths and
+counts of states are those of tests/rows/sketches.txt, and a schedule is a run of the second
+replayer.
 """
 import re
 import shlex
@@ -23,6 +24,9 @@ NOWHERE = [
     (["mcs", "2", "--rounds", "2", "0 swap tail found 1"],
      "no run of 2 threads with 2 rounds each has '0 swap tail found 1': "
      "all 325 states were searched\n"),
+    (["mcs", "2", "--rounds", "any", "0 swap tail found 1"],
+     "no run of 2 threads with any number of rounds each has '0 swap tail found 1': "
+     "all 89 states were searched\n"),
     (["ticket", "3", "--bits", "2", "* write now_serving left 0"],
      "no run of 3 threads with 1 round each, on words of 2 bits, has '* write now_serving left 0': "
      "all 231 states were searched\n"),
@@ -116,7 +120,8 @@ def test_line_that_is_none(tracer, line, said):
     "256 lines": ("lock mcs threads 2\n" + 256 * "* acquire\n",
                   "-:257: a sketch has at most 255 lines (TooManyLines)\n"),
     "no header": ("# none\n", "-:2: no header (NoHeader)\n"),
-    "no rounds": ("#! rounds 0\n", "-:1: not a number of rounds, from 1 to 255 (BadRounds)\n"),
+    "no rounds": ("#! rounds 0\n",
+                  "-:1: not a number of rounds, from 1 to 255, or any (BadRounds)\n"),
     "a long line": (f"lock mcs threads 2\n0 cas{92 * ' '}\n",
                     f"-:2: {LINE}\n  no header and no move has more than 96 bytes\n"),
 })
@@ -144,6 +149,27 @@ def test_rounds_of_a_text(tracer):
     assert len(search_rows.moves_of(output)) == 9
     assert tracer.run("find", "--rounds", "1", "-", stdin="#! rounds 2\nlock mcs threads 2\n"
                       "0 cas done\n0 swap\n") == ("", NOWHERE[0][1], 1)
+
+
+def test_any_rounds_of_a_text(tracer):
+    output, *more = tracer.run("find", "-", stdin="#! rounds any\nlock mcs threads 1\n0 cas done\n"
+                               "0 cas done\n0 swap\n")
+    assert more == ["", 0]
+    assert output.startswith(
+        "# A shortest run of 1 thread with any number of rounds that has these lines, in this "
+        "order:\n# line 11: 0 cas done\n# line 17: 0 cas done\n# line 20: 0 swap\n")
+    assert len(search_rows.moves_of(output)) == 15
+
+
+@pytest.mark.parametrize("lock", ["ticket", "rw-fifo"])
+def test_space_without_end(tracer, lock):
+    """The counts of wide words have no end. Four threads need words of three bits."""
+    output, error, status = tracer.run("find", lock, "4", "--rounds", "any", "--limit", "9",
+                                       "0 release" if lock == "ticket" else "0 runlock")
+    assert (output, status) == ("", 3)
+    assert re.fullmatch(r"locktrace: not decided: the search stopped at \d\d states; in wide words "
+                        r"the counts have no end, and narrow ones \(--bits 3\) make the space "
+                        r"finite\n", error)
 
 
 def test_limit(tracer):

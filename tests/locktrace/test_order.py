@@ -1,6 +1,6 @@
 """`locktrace order`: the order of a run's logs, its trace and schedules, and logs that have none.
 
-What is said of each is worked out by hand from docs/TRACE.md and packaging/man/locktrace.1.
+What is said of each is worked out by hand from docs/FORMATS.md and packaging/man/locktrace.1.
 """
 import pytest
 

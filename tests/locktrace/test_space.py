@@ -42,6 +42,11 @@ def test_counts(tracer, row, counts, _):
     "JSON": ("ticket 2 --rounds 3 --bits 2 --format json",
              '{"lock":"ticket","threads":2,"rounds":3,"bits":2,"states":289,"transitions":540,'
              '"depth":36}\n'),
+    "any rounds": ("ticket 3 --rounds any --bits 2", "ticket, 3 threads with any number of rounds "
+                   "each: 512 states, 1,536 transitions, 27 moves to the farthest state\n"),
+    "any rounds in JSON": ("mcs 2 --rounds any --format json",
+                           '{"lock":"mcs","threads":2,"rounds":"any","bits":64,"states":89,'
+                           '"transitions":178,"depth":18}\n'),
     "a drawing": ("ticket 1 --format dot", TICKET_DRAWN),
 })
 def test_format(tracer, words, due):
@@ -65,12 +70,16 @@ def graph_of(text):
     return graph
 
 
+@pytest.mark.parametrize("rounds", [1, search_rows.ANY])
 @pytest.mark.parametrize("lock", search_rows.names())
-def test_drawing(tracer, lock):
-    """The graph of a space is that of the second replayer, from the first state on."""
-    output, *more = tracer.run("space", lock, "2", "--format", "dot")
+def test_drawing(tracer, lock, rounds):
+    """The graph of a space is that of the second replayer, from the first state on. Rounds without
+    a bound are not counted."""
+    output, *more = tracer.run("space", lock, "2", "--rounds", rounds, "--bits", "2",
+                               "--format", "dot")
     assert more == ["", 0]
-    graph, space = graph_of(output), searched(search_rows.Space(lock, 2, 1, 64))
+    assert ("rounds begun" in output) == (rounds == 1)
+    graph, space = graph_of(output), searched(search_rows.Space(lock, 2, rounds, 2))
     assert list(graph) == list(range(len(space)))
     numbers = {0: 0}
     for node, edges in graph.items():

@@ -4,13 +4,14 @@ they are written.
 from pathlib import Path
 from typing import NamedTuple
 
+ANY = "any"  # rounds without a bound
 ROWS = Path(__file__).resolve().parents[1] / "rows"
 
 
 class Space(NamedTuple):
     lock: str
     threads: int
-    rounds: int
+    rounds: int | str  # a number of them, or ANY
     bits: int
 
     def __str__(self):
@@ -48,8 +49,8 @@ def rows(name):
 
 
 def space(written):
-    lock, *numbers = written.split()
-    return Space(lock, *map(int, numbers))
+    lock, threads, rounds, bits = written.split()
+    return Space(lock, int(threads), rounds if rounds == ANY else int(rounds), int(bits))
 
 
 def run(written):

@@ -6,6 +6,7 @@ with that of `locktrace`.
 import pytest
 
 import search_rows
+from changed_locks import Searched
 from spaces import PHASES, Space, measured, searched
 
 
@@ -14,6 +15,16 @@ def test_counts(row, counts, kinds):
     space = searched(row)
     assert (len(space), sum(map(len, space.transitions)), max(space.lengths)) == counts
     assert len(space.kinds()) == kinds
+
+
+@pytest.mark.parametrize("row, counts, _", [
+    each for each in search_rows.spaces() if each[0].rounds != search_rows.ANY
+    and each[0].bits == 64], ids=str)
+def test_lock_as_it_is(row, counts, _):
+    """The search over changed locks, if nothing is changed."""
+    space = Searched(row.lock, row.threads, row.rounds)
+    transitions = sum(map(len, space.sources.values()))
+    assert (len(space.lengths), transitions, max(space.lengths.values())) == counts
 
 
 @pytest.mark.parametrize("lock", PHASES)

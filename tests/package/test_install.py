@@ -19,7 +19,8 @@ BUILDS = {BUILT["lockreplay"][0]: "cd crates/lockreplay && rt run",
           "page/lockreplay.html": "node page/build.mjs"}
 DOCUMENTS = """*.md CITATION.cff VERSION LICENSE-* THIRD-PARTY docs/*.md docs/pictures/*
     page/lockreplay.html examples/*.* examples/recording/* examples/bindings/*.py record/*.[ch]
-    record/rust/Cargo.* record/rust/src/*.rs record/rust/examples/**/*.rs
+    record/rust/Cargo.* record/rust/build.rs record/rust/README.md record/rust/src/*.rs
+    record/rust/examples/**/*.rs
     crates/*/specs/**/*.antt"""
 
 

@@ -29,9 +29,9 @@ def test_manual_page(installed, tmp_path, page):
 
 @cases("name, commands, due", {
     "lockreplay": ("lockreplay", "replay batch", "replay batch help workers"),
-    "locktrace": ("locktrace", "check explain order schedule find tour space cover",
-                  "check explain order schedule find tour space cover help version format color "
-                  "summary quiet jobs moves names rounds bits limit require"),
+    "locktrace": ("locktrace", "check explain order schedule find tour space why cover",
+                  "check explain order schedule find tour space why cover help version format "
+                  "color summary quiet jobs moves names rounds bits limit runs require"),
 })
 def test_words(installed, name, commands, due):
     """What a program's help offers is what is due, and each word of it is in the program's page."""

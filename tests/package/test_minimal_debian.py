@@ -14,7 +14,7 @@ from documents import Room, faults_of_block
 from installs import in_root, make_root
 
 INSTALLED = "usr/share/doc/lockreplay"
-DOCUMENTS = ("docs/GUIDE.md", "docs/REPORT.md", "docs/TRACE.md", "examples/recording/README.md")
+DOCUMENTS = ("docs/GUIDE.md", "docs/FORMATS.md", "examples/recording/README.md")
 ALONE = """mkdir -p /root/alone/logs && cd /root/alone && cat > try.c &&
 gcc -O2 -Wall -Wextra -Werror -pthread -DLR_MODE=SEED try.c -o try && ./try 3 1000 17 logs &&
 locktrace check logs/run.trace"""

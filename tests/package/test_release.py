@@ -82,12 +82,12 @@ class Release:
 
 
 def test_release(tmp_path):
-    """Its four files, with their sums, are the same bytes twice. What is not committed or not
+    """Its five files, with their sums, are the same bytes twice. What is not committed or not
     released is refused."""
     release = Release(tmp_path / "tree")
-    assert len(release.make().splitlines()) == 3
+    assert len(release.make().splitlines()) == 4
     files = release.files()
-    assert len(files) == 4
+    assert len(files) == 5
     assert output("sha256sum", "--check", "--quiet", "SHA256SUMS", cwd=release.tree / "dist") == ""
     shutil.rmtree(release.tree / "dist")
     release.make()

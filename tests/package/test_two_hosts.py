@@ -1,4 +1,4 @@
-"""Many schedules and traces over two hosts, by the commands of docs/REPORT.md for GNU parallel.
+"""Many schedules and traces over two hosts, by the commands of docs/FORMATS.md for GNU parallel.
 
 A host is an sshd of its own on a port of the loopback device; nothing of the machine's own ssh is
 read. In the middle of a run one host goes away. The same command, given again when it is back, does
@@ -18,7 +18,7 @@ import corpus
 from tree import TOP, environment, output, ran
 
 FILES, PATIENCE = 24, 100  # seconds
-COMMANDS = re.search(r"```sh\n(parallel .*?)\n```", (TOP / "docs" / "REPORT.md").read_text(),
+COMMANDS = re.search(r"```sh\n(parallel .*?)\n```", (TOP / "docs" / "FORMATS.md").read_text(),
                      re.DOTALL)[1].replace("\\\n", "").splitlines()
 SERVER = """ListenAddress 127.0.0.1
 Port {port}

@@ -33,6 +33,16 @@ async function alone(parts) {
   return { families: [...new Set(families)].sort(), bands };
 }
 
+// The colour of the ground of a picture, as the browser draws it.
+async function groundOf(parts) {
+  const image = new Image();
+  image.src = `data:image/svg+xml;charset=utf-8,${encodeURIComponent(await taken('svg', parts))}`;
+  await image.decode();
+  const pen = document.createElement('canvas').getContext('2d');
+  pen.drawImage(image, 0, 0);
+  return `rgb(${pen.getImageData(3, 3, 1, 1).data.join()})`;
+}
+
 // The kinds of the chunks of an animated picture, and its width as the browser finds it.
 async function animation(from, to) {
   click('#show-take');

@@ -37,4 +37,5 @@ const presented = () => window.opened && plain(window.opened.document.body.textC
 const pressThere = (name) => {
   window.opened.dispatchEvent(new KeyboardEvent('keydown', { key: name }));
 };
+const themeThere = () => window.opened.document.documentElement.dataset.theme;
 const closeThere = () => window.opened.close();

@@ -28,3 +28,38 @@ function withoutMachine() {
     constructor() { throw new WebAssembly.CompileError('no memory of 64 bits'); }
   };
 }
+
+// The sentence on each of these moves, with the answer to its question.
+const said = (moves) => moves.map((move) => {
+  go(move);
+  key('a');
+  return text('#now .say');
+});
+
+// Where a path ends on the screen.
+function endOf(path) {
+  const end = path.getPointAtLength(path.getTotalLength());
+  return end.matrixTransform(path.getScreenCTM());
+}
+
+// The record at which, or just before which, each pointer ends.
+const pointedAt = () => all('#memory-picture .link:not(.missing)').map((path) => {
+  const { x, y } = endOf(path);
+  const near = ({ left, right, top, bottom }) => x > left - 9 && x < right && y > top - 9
+    && y < bottom;
+  return all('.record .frame').find((one) => near(rect(one)))?.closest('.record').dataset.record;
+});
+
+// The moves between which the arrows in the lanes lead.
+function waitsEnded() {
+  const middles = all('#lanes .move').map((one) => {
+    const { left, right } = rect(one.querySelector('.target'));
+    return [Number(one.dataset.move), (left + right) / 2];
+  });
+  const nearest = (x) => middles.reduce((one, other) => (
+    Math.abs(one[1] - x) < Math.abs(other[1] - x) ? one : other))[0];
+  return all('#lanes .arrow:not(.halo)').map((path) => {
+    const begin = path.getPointAtLength(0).matrixTransform(path.getScreenCTM());
+    return [nearest(begin.x), nearest(endOf(path).x)];
+  });
+}

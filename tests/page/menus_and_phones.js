@@ -48,6 +48,12 @@ function withoutMachine() {
   };
 }
 
+// Before the page's script: the screen is touched.
+function withFingers() {
+  const { matchMedia } = window;
+  window.matchMedia = (asked) => matchMedia(asked.replace('(pointer: coarse)', 'all'));
+}
+
 function swipe(by) {
   const node = byId('lanes');
   const touch = (x) => new Touch({ identifier: 1, target: node, clientX: x, clientY: 300 });

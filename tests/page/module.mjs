@@ -158,7 +158,7 @@ function checkOwned(machine, order) {
   });
 }
 
-// Where no lock has records, and what docs/SCHEDULE.md says of headers.
+// Where no lock has records, and what docs/FORMATS.md says of headers.
 function checkNumbers(machine, bytes) {
   for (const lock of ['ticket', 'rw-simple', 'rw-fifo']) {
     const { state } = machine.play(bytesOf(`lock ${lock} threads 2\n`), 0, false);
@@ -170,7 +170,7 @@ function checkNumbers(machine, bytes) {
   assert.deepEqual(rangesOf(bytes), { threads: [1, 64], bits: [2, 64], thread: [0, 255] });
 }
 
-// Where lines stop, by docs/SCHEDULE.md. A word that is missing would be after one blank more.
+// Where lines stop, by docs/FORMATS.md. A word that is missing would be after one blank more.
 const HEADERS = [
   ['', 1, 'lock'], ['Lock mcs threads 2', 1, 'lock'], ['lock', 6, 'name'], ['lock clh', 6, 'name'],
   ['lock mcs', 10, 'threads'], ['lock mcs thread 2', 10, 'threads'],

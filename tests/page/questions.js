@@ -18,3 +18,18 @@ function readers() {
   return [count('#memory-picture .token.reads, #code .disc.reads'),
     Math.max(...ends) - rect(here).right];
 }
+
+// The notice, and how many questions are marked as waiting.
+const waiting = () => [text('#notice'),
+  all('.question.waits').filter((one) => one.checkVisibility()).length];
+
+// The moves whose numbers have a mark above them, and those below a mark of the slider.
+function marked() {
+  const track = rect(document.querySelector('#slider-picture .track'));
+  const { last } = port.state();
+  return {
+    numbers: all('#numbers .ask-mark').map((one) => Number(one.previousElementSibling.textContent)),
+    slider: all('#slider-picture .tick.ask').map(rect).map(({ left, right }) => (
+      Math.round(((left + right) / 2 - track.left) / track.width * last))),
+  };
+}

@@ -20,12 +20,29 @@ function reportViolations() {
 }
 
 // What an earlier test has left in this browser.
-const forget = () => location.protocol === 'file:' && localStorage.clear();
+function forget() {
+  if (location.protocol === 'file:') localStorage.clear();
+}
+
+// Whether the browser still has what a test stored, which no page knows of.
+const mark = () => localStorage.setItem('mark', 'set');
+const isMarked = () => localStorage.getItem('mark') === 'set';
 
 const isThere = () => document.readyState === 'complete' && Boolean(window.lockreplay);
 
+// A document is complete before its page has begun, which waits for the letters.
 function isAt(url) {
-  return document.readyState === 'complete' && location.href.split('#')[0] === url;
+  const hasBegun = url.startsWith('about:') ? document.readyState === 'complete' : isThere();
+  return hasBegun && location.href.split('#')[0] === url;
+}
+
+// Before the page's script: letters that come late.
+function delayLetters() {
+  const { load } = FontFace.prototype;
+  FontFace.prototype.load = async function later() {
+    await new Promise((go) => { setTimeout(go, 300); });
+    return load.call(this);
+  };
 }
 
 // The test port. A text that goes through JSON has a letter for each byte.

@@ -21,5 +21,13 @@ function sheet() {
     spans: count('#paper .strip :is(.span, .found, .arrow, .unlinked)'),
     words: count('#paper .figure .word'), values: count('#paper .figure .value'),
     lines: count('#paper .name-line span'), places: count('#paper .figure .cell'),
+    discs: count('#paper .figure .code .disc'),
   };
+}
+
+// The sheet that is printed at a move.
+function sheetAt(move) {
+  go(move);
+  sheet();
+  return byId('paper').innerHTML;
 }

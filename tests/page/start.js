@@ -17,10 +17,16 @@ const ticked = () => all('#lessons [data-lesson]').filter((one) => one.textConte
   .map((one) => one.dataset.lesson);
 const topOf = (selector) => rect(document.querySelector(selector)).top;
 
-// What is said of a term that one points at, and whether all of it is on the screen.
-function explained(term) {
-  all('.term').find((one) => one.dataset.term === term && one.checkVisibility()).focus();
+// What is said of a term of a part that one points at, and whether all of it is on the screen, with
+// nothing over it.
+function explained(part, term) {
+  all(`${part} .term`).find((one) => one.dataset.term === term && one.checkVisibility()).focus();
   const box = byId('tip-box');
+  const { left, right, top, bottom } = rect(box);
   const screen = { left: 0, top: 0, right: innerWidth, bottom: innerHeight };
-  return [!box.hidden && box.textContent, inside(rect(box), screen)];
+  // Else a pointer goes through it.
+  box.style.pointerEvents = 'auto';
+  const above = document.elementFromPoint((left + right) / 2, (top + bottom) / 2);
+  box.style.pointerEvents = '';
+  return [!box.hidden && box.textContent, inside(rect(box), screen) && above === box];
 }

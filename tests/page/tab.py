@@ -36,8 +36,8 @@ class Tab:
         # A file that an earlier test saved would give one of this test another name.
         for path in (browser.home / "Downloads").glob("*"):
             path.unlink(missing_ok=True)
-        for name in ["reportViolations", "forget"]:
-            self.before(name)
+        self.before("reportViolations")
+        self.before("forget")
         self.resize(1440, 900)
 
     def ask(self, method, **params):
@@ -54,10 +54,11 @@ class Tab:
         assert answer["type"] == "success", (name, answer["exceptionDetails"]["text"])
         return json.loads(answer["result"]["value"])
 
-    def before(self, name):
+    def before(self, name, *values):
         """Calls a function in each page before the page's own script."""
         added = self.browser.ask("script.addPreloadScript", contexts=[self.context],
-                                 functionDeclaration=f"() => {{ {self.scripts}\n{name}(); }}")
+                                 functionDeclaration=f"() => {{ {self.scripts}\n"
+                                 f"{name}(...{json.dumps(values)}); }}")
         self.added[name] = added["script"]
 
     def no_longer(self, *names):

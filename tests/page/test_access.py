@@ -55,6 +55,15 @@ def test_what_is_read_aloud(page):
     assert page.text("#spoken") == spoken
 
 
+def test_the_names_of_the_foot(page):
+    """Each button does what it is called."""
+    page.open("#lesson=mcs-late-link&move=3")
+    for name, place in [("One move forward", 4), ("One move back", 3), ("Last move", 16),
+                        ("First move", 0)]:
+        page.click(f"footer [aria-label='{name}']")
+        assert page.shown()["place"] == place, name
+
+
 def test_everything_has_a_name(page):
     """Each control and part, and each picture; and each move is spoken."""
     page.open(LATE_LINK)

@@ -74,16 +74,25 @@ def test_a_branch_and_back(page):
     assert (shown["lesson"], shown["place"]) == ("mcs-late-link", 7)
 
 
-def test_a_long_schedule(page):
-    """Its address names what this browser keeps, and a reload brings it back."""
+def kept_and_loaded_again(page):
+    """Links to a long schedule, loads the page anew, and says whether a mark of this test, set
+    before, is still stored. Chromium at times loses all that was stored, by whomever, at a load."""
     page.open(LESSON)
+    page.js("mark")
     page.show(LONG)
     page.go(4000)
-    name = page.until("keptAt", 4000)
+    page.until("keptAt", 4000)
     page.js("click", "#link")
     assert "saved as a file" in page.js("notice")
     page.reload()
+    return page.js("isMarked")
+
+
+def test_a_long_schedule(page):
+    """Its address names what this browser keeps, and a reload brings it back."""
+    assert any(kept_and_loaded_again(page) for _ in range(5)), "the browser stores nothing"
     shows(page, LONG.encode(), 4000)
+    name = page.js("keptAt", 4000)
     page.press("o")
     assert name in page.js("keptNames")
 
@@ -166,6 +175,24 @@ def test_a_link_that_names_nothing(page, fragment):
 def test_the_nearest_move(page, move, shown):
     page.open(f"#lesson=mcs-late-link&move={move}")
     assert page.shown()["place"] == shown
+
+
+def test_a_text_is_kept_once(page):
+    """Also if it is opened again."""
+    page.open(LESSON)
+    for _ in range(2):
+        page.show(MINE)
+        page.lesson("ticket-hand-over")
+    page.press("Escape", "o")
+    assert len(page.js("keptNames")) == 1
+
+
+def test_what_is_kept_has_its_place(page):
+    mine_at(page, 2)
+    page.lesson("ticket-hand-over", 5)
+    page.press("Escape", "o")
+    page.click("[data-kept]")
+    shows(page, MINE, 2)
 
 
 def test_the_last_twelve_are_kept(page):

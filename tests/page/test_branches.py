@@ -49,7 +49,7 @@ def test_the_branch_and_the_original(page):
     page.open("#lesson=mcs-late-link&move=6")
     page.press("c")
     assert not page.js("compared")["shown"]
-    page.press("g", "0", "0", "c")
+    page.press("Escape", "g", "0", "0", "c")
     shown = page.js("compared")
     assert shown["there"] == shown["here"] == "8", shown
     assert shown["title"] == "Compared with: The late link First difference: move 8", shown

@@ -1,4 +1,6 @@
 """Hall mode in a class: quiz and clicker work in it, the screen is blanked, Escape leaves."""
+import re
+
 import pytest
 
 from tree import EXAMPLES
@@ -41,6 +43,18 @@ def test_a_reload_keeps_the_answers(page):
     assert page.text(".score") == score and "(0 right, 0 wrong)" not in score
 
 
+def test_another_language_keeps_the_answers(page):
+    page.open(f"{LATE_LINK}&move=0")
+    page.press("q", "End")
+    page.js("answer", "-")
+    points = re.findall(r"\d+", page.text(".score"))
+    page.js("click", "#show-about")
+    page.js("click", "#about [data-lang=de]")
+    page.wait(lambda: page.tried("attribute", "html", "lang") == "de", lambda: "it stays English")
+    score = page.text(".score")
+    assert score.startswith("Punkte: ") and re.findall(r"\d+", score) == points, score
+
+
 def test_the_answers_for_the_teacher(page):
     """Name, day and link are in them."""
     page.open(f"{LATE_LINK}&move=0")
@@ -67,6 +81,17 @@ def test_a_name_is_an_answer(page):
             page.js("answer", "-")
         page.press("End")
     assert named
+
+
+def test_a_name_within_a_name(page):
+    """Anna is not Ann."""
+    page.open(f"{LATE_LINK}&move=0")
+    calls = "1 acquire\n1 write\n1 swap\n0 acquire\n0 write\n0 swap\n"
+    page.show(f"#! name 0 Ann\n#! name 1 Anna\nlock mcs threads 2\n{calls}")
+    page.press("q", "End")
+    assert page.js("asked")["kind"] == "queue"
+    page.js("answer", "Anna")
+    assert page.text(".result")[0] == "✓", page.text(".result")
 
 
 def test_what_was_wrong_is_listed_at_the_end(page):
@@ -96,6 +121,14 @@ def test_a_clicker(page):
     assert not page.js("isHall")
     page.press("PageDown")
     assert page.js("place") == 11
+
+
+def test_a_click_brings_the_screen_back(page):
+    page.open(f"{LATE_LINK}&move=3&hall")
+    page.press(".")
+    assert page.js("isBlack")
+    page.click("body")
+    assert not page.js("isBlack") and page.js("place") == 3
 
 
 @pytest.mark.parametrize("lesson, move", [

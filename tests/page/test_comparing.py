@@ -39,7 +39,7 @@ def test_the_other_lock(page, width, height, look):
     shown = page.js("compared")
     assert sorted(shown["here"]) == sorted(shown["there"]) and is_seen(shown), shown
     assert len(shown["here"]) == 6 and shown["words"] == [2, 3], shown
-    assert "First difference: move 4" in shown["first"], shown
+    assert shown["first"] == "Compared with: Simple read-write lock First difference: move 4"
 
 
 def test_turns_without_a_move(page):
@@ -53,6 +53,17 @@ def test_turns_without_a_move(page):
     assert sorted(here)[:6] == sorted(there)[:6] and sorted(here)[9] not in there, shown
 
 
+def test_a_click_beside_this_run(page):
+    """After its move 9 the reader has no turn there, so move 10 there is beside move 11 here. The
+    button goes to the first difference, which is move 4."""
+    page.resize(1366, 768)
+    page.open("#lesson=fifo-reader-waits-behind-writer&move=15&compare")
+    page.click("#other [data-move='10']")
+    page.shown(position="11 of 15")
+    page.click("#other [data-first]")
+    page.shown(position="4 of 15")
+
+
 @pytest.mark.parametrize("width, height", SCREENS)
 def test_the_sign_is_whole(page, width, height):
     """The dashed line of the first difference begins below its sign, in both pictures."""
@@ -60,3 +71,65 @@ def test_the_sign_is_whole(page, width, height):
     page.open("#lesson=mcs-late-link&move=7&play=0+cas")
     below = page.js("belowSigns")
     assert len(below) == 2 and min(below) >= 2, below
+
+
+@pytest.mark.parametrize("look", LOOKS)
+@pytest.mark.parametrize("width, height", SCREENS)
+def test_no_sign_covers_a_word(page, width, height, look):
+    page.resize(width, height)
+    for run in ("mcs-late-link&move=7&play=0+cas",
+                "fifo-reader-waits-behind-writer&move=6&compare"):
+        page.open(f"#lesson={run}{look}")
+        assert page.js("count", ".different") == 2
+        assert page.js("wordsUnderSigns") == [], run
+
+
+def test_what_it_needs(page):
+    """Where there is nothing to compare with it says what it needs, and offers each way: Play, a
+    schedule of the reader's own that was kept, and the lessons of the same lock."""
+    page.open("#lesson=ticket-hand-over&move=5")
+    page.show("#! title Mine\nlock ticket threads 2\n0 acquire\n0 add\n", 2)
+    page.show("#! title Another lock\nlock mcs threads 1\n", 0)
+    page.lesson("ticket-hand-over", 5)
+    page.press("Escape", "c")
+    assert page.text("#choose-other .hint").startswith("Two schedules of one lock are shown")
+    assert page.js("offered") == [
+        "Play: choose another next move", "Your own: change the text, or open one", "Mine",
+        "The order is that of tickets, not of calls", "Tickets wrap around"]
+    page.click("#choose-other [data-way=play]")
+    assert page.shown()["mode"] == "play"
+
+
+def test_nothing_is_offered_to_itself(page):
+    """Of two schedules that are kept, the other one."""
+    page.open("#lesson=ticket-hand-over&move=5")
+    for title, thread in [("First", 0), ("Second", 1)]:
+        page.show(f"#! title {title}\nlock ticket threads 2\n{thread} acquire\n")
+    page.press("c")
+    assert {"First", "Second"} & set(page.js("offered")) == {"First"}
+
+
+@pytest.mark.parametrize("look", LOOKS)
+def test_a_chosen_schedule(page, look):
+    """A lesson of the same lock is above this one, in the same columns, up to the next C."""
+    page.resize(1366, 768)
+    page.open(f"#lesson=mcs-record-used-again&move=5{look}")
+    page.press("c")
+    page.click("#choose-other [data-other='0']")
+    shown = page.js("compared")
+    assert shown["first"].startswith("Compared with: The late link First difference: move 4"), shown
+    assert len(shown["here"]) == len(shown["there"]) == 5 and is_seen(shown), shown
+    assert max(abs(one - other) for one, other in zip(shown["here"], shown["there"])) <= 1, shown
+    page.press("c")
+    assert page.js("count", "#other:not([hidden])") == 0
+    page.press("c")
+    assert page.js("offered"), "the next time another one can be chosen"
+
+
+def test_a_first_move_that_differs(page):
+    """Of two lessons whose first moves are of different threads."""
+    page.open("#lesson=ticket-hand-over&move=1")
+    page.press("c")
+    page.click("#choose-other [data-other='1']")
+    assert page.js("compared")["first"] == (
+        "Compared with: Tickets wrap around First difference: move 1")

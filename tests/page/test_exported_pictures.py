@@ -6,6 +6,8 @@ import xml.etree.ElementTree
 
 import pytest
 
+from contrast import luminance
+
 LATE_LINK = "#lesson=mcs-late-link&move=9"
 EVERYTHING = ["title", "legend", "code", "answer"]
 
@@ -49,6 +51,16 @@ def test_the_band_has_no_gap(page):
     assert below <= above
 
 
+def test_the_theme(page):
+    """It is that of the page, whatever the system has."""
+    grounds = []
+    for theme in ["light", "dark"]:
+        page.open(f"{LATE_LINK}&theme={theme}")
+        grounds.append(luminance(page.js("groundOf", [])))
+    light, dark = grounds
+    assert light > 0.8 and dark < 0.05, grounds
+
+
 def test_an_open_question_is_asked_about(page):
     page.open(LATE_LINK)
     page.press("t")
@@ -77,6 +89,14 @@ def test_an_animation(page):
     kinds = shown["kinds"]
     assert kinds.count("fcTL") == 4 and kinds[:3] == ["IHDR", "acTL", "fcTL"], kinds
     assert kinds.count("fdAT") >= 3 and kinds[-1] == "IEND" and shown["width"] > 1000
+
+
+def test_dashes_for_latex(page):
+    """A failed poll is dashed, of which there are two, and nothing else that is round."""
+    page.open("#lesson=mcs-late-link&move=12")
+    lines = page.js("taken", "tikz", []).splitlines()
+    dashed = [line for line in lines if "dash pattern=on 3pt off 2.3pt" in line]
+    assert len(dashed) == 2 and all("circle" in line for line in dashed), dashed
 
 
 @pytest.mark.skipif(not shutil.which("pdflatex"), reason="needs texlive-latex-base and pgf")

@@ -31,6 +31,15 @@ def test_the_picture_of_points(page):
     assert name == "mcs-late-link-9.png"
 
 
+def test_how_sharp_the_picture_is(page):
+    """It has two points for one of the drawing."""
+    page.open(LATE_LINK)
+    drawing = xml.etree.ElementTree.fromstring(page.js("take", "svg")[1].encode("latin-1"))
+    head = page.js("take", "png")[1][16:24].encode("latin-1")
+    assert [int.from_bytes(side, "big") for side in (head[:4], head[4:])] == [
+        int(2 * float(drawing.get(side))) for side in ("width", "height")]
+
+
 @pytest.mark.parametrize("what, name", [
     ("report", "mcs-late-link-9.report"), ("schedule", "mcs-late-link.schedule")])
 def test_the_report_and_the_schedule(page, what, name):

@@ -63,6 +63,13 @@ def test_each_lock_lists_its_kinds(page, lock, count):
     assert len(set(page.js("kinds"))) == count
 
 
+def test_lines_go_with_their_lock(page):
+    page.open(HAND_OVER)
+    page.press("m")
+    assert "cas failed" in page.js("fill", [["lock", "mcs"], ["kind", "12"]])
+    assert page.js("fill", [["lock", "ticket"]]) == ""
+
+
 def test_lines_of_ones_own(page):
     """By thread, word and value, over more threads and rounds than are shown."""
     page.open(HAND_OVER)
@@ -163,8 +170,12 @@ AFTER_THE_SWAP = {
 
 
 def what_is_next(page, wanted):
-    """In how many moves each kind can be reached, of those that are wanted. Gives all kinds."""
-    found = dict(page.until("nextOf", len(wanted)))
+    """In how many moves each kind can be reached, of those that are wanted. Gives all kinds, of
+    which the nearest come first."""
+    listed = page.until("nextOf", len(wanted))
+    lengths = [int(said.split()[1]) for _, said in listed]
+    assert lengths == sorted(lengths), listed
+    found = dict(listed)
     assert {kind: found.get(kind) for kind in wanted} == {
         kind: f"in {moves} move{'s' if moves != 1 else ''}" for kind, moves in wanted.items()}
     return list(found)

@@ -35,7 +35,7 @@ def test_by_key(page):
     page.press("h")
     assert not page.js("header") and page.js("parts") == ["memory", "code"]
     page.becomes(f"{LATE_LINK}&hall", "address")
-    page.press("ArrowRight")
+    page.press("a", "ArrowRight")
     assert page.text("#current").startswith("10 Ann, read await succ")
     page.press("h")
     assert page.js("header")
@@ -103,17 +103,45 @@ def test_a_frame_for_a_slide(page):
         shown = page.js("inView")
         assert shown["parts"] == ["memory", "code"] and not shown["header"], (lesson, shown)
         assert shown["line"] and shown["moving"], (lesson, shown)
-    page.press("ArrowRight")
+    page.press("a", "ArrowRight")
     page.until("addressEnds", "&move=17&embed&show=memory,code")
 
 
-def test_a_theme_in_the_link(page):
-    """It is in the link once it is chosen, and the browser remembers it."""
+def chosen_and_opened_again(page):
+    """Chooses the light theme, opens the link without it, and says whether a mark of this test, set
+    before, is still stored. Chromium at times loses all that was stored, by whomever, at a load."""
     page.open(f"{LATE_LINK}&theme=dark")
     assert page.js("theme") == "dark"
+    page.js("mark")
     # What opening writes into the address is written by then.
     page.js("leave")
     page.press("d")
     page.until("addressEnds", "&theme=light")
     page.open(LATE_LINK)
+    return page.js("isMarked")
+
+
+@pytest.mark.parametrize("letters", ["soon", "late"])
+def test_a_theme_in_the_link(page, letters):
+    """It is in the link once it is chosen, and the browser remembers it; also if the letters, for
+    which the page waits, come late."""
+    if letters == "late":
+        page.before("delayLetters")
+    assert any(chosen_and_opened_again(page) for _ in range(5)), "the browser stores nothing"
     assert page.js("theme") == "light"
+
+
+def test_the_link_comes_before_what_was_chosen(page):
+    page.open(LATE_LINK)
+    page.press("d")
+    page.becomes("dark", "theme")
+    page.js("follow", f"{LATE_LINK}&theme=light")
+    assert page.js("theme") == "light"
+
+
+def test_the_theme_button_names_the_other(page):
+    """After a link with a theme, and after one without, whose theme is the system's."""
+    page.open(f"{LATE_LINK}&theme=dark")
+    assert page.text("#theme").startswith("Light")
+    page.js("follow", LATE_LINK)
+    assert page.js("theme") == "" and page.text("#theme").startswith("Dark")

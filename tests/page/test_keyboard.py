@@ -40,6 +40,13 @@ def test_running(page):
     page.becomes("false", *runs)
 
 
+def test_running_from_the_end(page):
+    """Play begins anew there."""
+    page.open(f"{LATE_LINK}16")
+    page.press(",", "Space", "Space")
+    page.shown(position="0 of 16")
+
+
 def test_speed(page):
     """A full stop is faster and a comma slower, up to the ends of the list."""
     page.open(f"{LATE_LINK}0")
@@ -119,10 +126,14 @@ KEYS = {
 
 @pytest.mark.parametrize("language", ["en", "de"])
 def test_the_list_of_keys(page, language):
+    """It says what each key does, and a tool that one points at says the same."""
     page.open(f"{LATE_LINK}0&lang={language}")
     page.press("?")
     listed = dict(zip(page.js("texts", "#key-list dt"), page.js("texts", "#key-list dd")))
     said = {key: words[language == "de"] in listed[key] for key, words in KEYS.items()}
     assert all(said.values()), (said, listed)
+    tools = page.js("tools")
+    assert len(tools) >= 14 and all(listed[key].lower() == title.lower()
+                                    for key, title in tools.items()), (tools, listed)
     others = set(listed) - set(KEYS)
     assert len(others) == 11 and not any(key in KEYS for key in others), others

@@ -1,11 +1,15 @@
 """The page in German: every sentence is there, none has a hole, pictures have room for its words,
 and reports stay as they are."""
+import json
+
 import pytest
 
 from reports import LESSONS, moves_of
 from tree import EXAMPLES
 
 GERMAN = "#lesson=mcs-late-link&move=0&lang=de"
+TRANSLATIONS = json.loads((EXAMPLES / "lessons.de.json").read_text("utf-8"))
+PLANS = json.loads((EXAMPLES / "plans.json").read_text("utf-8"))
 # Words of schedules and reports, names of files, and what has no word in it.
 THE_SAME = {f"page.{name}" for name in [
     "product", "shortThread", "outcomes", "wordBecomes", "spoken.did", "own.fileName",
@@ -33,6 +37,18 @@ def test_no_holes(page):
                     assert hole not in text, name
 
 
+def test_lesson_plans(page):
+    """Each sentence of theirs, that of the homework too."""
+    page.open(GERMAN)
+    page.press("n")
+    said = page.text("#plan-list")
+    for plan in PLANS:
+        texts = [plan["aim"], *(part.get(name) for part in [*plan["steps"], plan["homework"]]
+                                for name in ("say", "ask"))]
+        for text in filter(None, texts):
+            assert text not in said and TRANSLATIONS[text] in said, text
+
+
 @pytest.mark.parametrize("width, height, look", [
     (390, 844, ""), (1280, 720, ""), (1280, 720, "&hall"), (1440, 900, "")])
 def test_pictures_fit(page, width, height, look):
@@ -54,6 +70,16 @@ def test_by_the_address_and_back(page):
     page.js("click", "#about [data-lang=en]")
     page.wait(lambda: page.tried("language") == "en", lambda: "it stays German")
     page.becomes("#lesson=mcs-late-link&move=10&lang=en", "address")
+
+
+@pytest.mark.parametrize("language, name", [("en", "English"), ("de", "Deutsch")])
+def test_the_language_is_pressed(page, language, name):
+    """At the start, and in the dialog that says who the page is."""
+    page.open(f"#lang={language}")
+    assert page.js("texts", "#lessons [data-lang][aria-pressed=true]") == [name]
+    page.press("Escape")
+    page.js("click", "#show-about")
+    assert page.js("texts", "#about [data-lang][aria-pressed=true]") == [name]
 
 
 # How threads stand, in a lesson at a move: what German calls it by the report's line, in the room,

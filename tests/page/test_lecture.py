@@ -65,6 +65,15 @@ def test_the_clock_of_a_later_step(page):
     assert re.fullmatch(r"6:00|5:5\d", page.js("step")["clock"])
 
 
+def test_the_last_step(page):
+    """Its button says that no other one follows."""
+    begin(page, "mcs")
+    for _ in range(4):
+        assert page.text("#lecture [data-lecture=next]") == "Next step N"
+        page.press("n")
+    assert page.text("#lecture [data-lecture=next]") == "Last step"
+
+
 def test_minutes():
     """Each plan has ten, in at least five steps of its lock, and homework."""
     assert [plan["lock"] for plan in PLANS] == list(LESSONS)
@@ -98,4 +107,6 @@ def test_a_second_window(page):
     assert "Next step: The late link, 9" in said, said
     page.js("pressThere", "n")
     assert page.js("step")["place"] == 9
+    page.press("d")
+    assert page.js("themeThere") == page.js("theme") != ""
     page.js("closeThere")

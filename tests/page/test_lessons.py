@@ -1,11 +1,14 @@
 """Each lesson is stepped through by key to its end. At each move the outcome, the holders and the
 line that the page shows are those of the lesson's report; also where the machine cannot run."""
+import re
+
 import pytest
 
 from reports import LESSONS, moves_of, numbers_of
-from tree import cases
+from tree import EXAMPLES, cases
 
 MODES = {"r": "reads", "w": "writes"}
+ANSWER = re.compile(r"^#! answer (\d+) ", re.MULTILINE)
 each_lesson = pytest.mark.parametrize("name", LESSONS)
 
 
@@ -26,8 +29,10 @@ def check_lesson(page, name, has_banner):
     page.open(f"#lesson={name}&move=0")
     assert page.text("#verdict .report-line") == last
     assert page.js("banner") == has_banner
+    asked = {*map(int, ANSWER.findall((EXAMPLES / f"{name}.schedule").read_text("latin-1")))}
     for move in range(1, count + 1):
-        page.press("ArrowRight")
+        # A step stops once at a question.
+        page.press(*["ArrowRight"] * (2 if move - 1 in asked else 1))
         shown = page.js("atMove")
         assert shown["position"] == f"{move} of {count}"
         compare(shown, move, report)
@@ -91,3 +96,64 @@ def test_what_was_there(page, lesson, wrote):
     """Each word that a move wrote is said with what was there before."""
     page.open(f"#lesson={lesson}")
     assert page.js("wrote", list(wrote)) == list(wrote.values())
+
+
+# Of the late link: what some moves did, with the threads that they name.
+SENTENCES = {
+    8: "Bob swaps the tail and finds Ann; it is in the queue from here on, though no word of "
+       "Ann's record says so.",
+    10: "Ann polls its own next and waits for the link: it is still nil.",
+    13: "Bob writes the link: Ann's next now points to Bob.",
+    14: "The link is there: Ann finds Bob.",
+    15: "Ann clears Bob's locked, and has left; Bob is next, and enters with its next poll.",
+}
+
+
+def test_what_a_move_did(page):
+    """Each sentence names the thread that moved, and the one whose word it is."""
+    page.open("#lesson=mcs-late-link")
+    assert page.js("said", list(SENTENCES)) == list(SENTENCES.values())
+
+
+# Threads of a FIFO lock that have a section due, in the order of their numbers, and what for.
+WANTS = {
+    "0 rlock\n0 section\n0 runlock\n1 rlock\n": ["wants to stop reading", "wants to read"],
+    "0 wlock\n0 section\n0 wunlock\n1 wlock\n": ["wants to stop writing", "wants to write"],
+    "0 wlock\n0 section\n0 downgrade\n": ["wants to become a reader"],
+    "0 rlock\n0 section\n1 wlock\n1 section\n": ["announced, awaits the readers"],
+}
+
+
+def test_what_is_wanted_at_the_monitor(page):
+    page.open()
+    for moves, wanted in WANTS.items():
+        page.show(f"lock rw-fifo threads 2\n{moves}", moves.count("\n"))
+        assert page.js("texts", "#memory-picture .wants title") == wanted, moves
+
+
+def test_who_has_polled_in_vain(page):
+    """A writer waits for the reader inside; another reader has only called."""
+    page.open()
+    page.show("lock rw-simple threads 3\n0 rlock\n0 section\n1 wlock\n1 section\n2 rlock\n", 5)
+    assert page.js("texts", "#memory-picture .wants + .note") == ["failed poll"]
+    assert page.js("texts", "#memory-picture .wants:has(+ .note) title") == ["wants to write"]
+
+
+@cases("lesson, move, records", {
+    "only the tail": ("mcs-late-link", 9, ["1"]), "both": ("mcs-late-link", 14, ["1", "1"]),
+    "out of order": ("mcs-third-linked-before-second", 12, ["2", "2"])})
+def test_where_pointers_lead(page, lesson, move, records):
+    """The tail's to the last record, and a record's to the next one in the queue."""
+    page.open(f"#lesson={lesson}&move={move}")
+    page.press("a")
+    page.becomes(records, "pointedAt")
+
+
+@cases("lesson, move, arrows", {
+    "ticket": ("ticket-hand-over", 10, [[9, 10]]), "link": ("mcs-late-link", 14, [[13, 14]]),
+    "grant": ("mcs-late-link", 16, [[13, 14], [15, 16]])})
+def test_what_ended_a_wait(page, lesson, move, arrows):
+    """An arrow leads from the write to the step that it let go on."""
+    page.open(f"#lesson={lesson}&move={move}")
+    page.press("a")
+    assert page.js("waitsEnded") == arrows

@@ -40,7 +40,9 @@ def test_loads_and_steps(page, record_property, lock):
 def test_typing(page, record_property):
     """Each key at the end of 10,004 moves, and each pause after it, in which the text is played.
 
-    The key that begins a line took 59 to 62 ms in Chromium, so it is bounded as a pause is."""
+    The key that begins a line at the end of the text is bounded as a pause is. In Chromium it takes
+    twice the time of another key, 38 to 42 ms on a quiet processor and 60 on a loaded one, also in
+    a field to which nobody listens, and not in the middle of a text: that work is the browser's."""
     page.open()
     times = page.js("typing", "1 read\n", ROUNDS)
     begun, key, pause = times[0], max(times[2::2]), max(times[1::2])

@@ -49,6 +49,16 @@ def test_from_a_lesson(page, lockreplay):
     assert page.shown()["area"] == before
 
 
+@pytest.mark.parametrize("move, hint", [
+    (9, "A choice here is the next move after move 9."),
+    (16, "Choose who moves next. The machine plays what you choose.")], ids=["branch", "end"])
+def test_where_a_choice_goes_on(page, move, hint):
+    """Within a schedule it is a branch."""
+    page.open(f"#lesson=mcs-late-link&move={move}")
+    page.click("#mode-play")
+    assert page.text("#choices .hint") == hint
+
+
 @pytest.mark.parametrize("header", [
     "lock ticket threads 3 bits 2\n", "lock mcs threads 5", "lock rw-simple threads 4\n",
     "# a comment\nlock rw-fifo threads 3 bits 2\n\n"], ids=lambda it: it.split()[1])

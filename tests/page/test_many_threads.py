@@ -73,6 +73,15 @@ def test_no_value_is_cut(page, lock, moves, mode):
     assert page.js("cut") == []
 
 
+@pytest.mark.parametrize("lock, call, line", [
+    ("mcs", "acquire", "me.next := nil"), ("rw-fifo", "rlock", "await flag = 0")])
+def test_the_line_a_thread_makes_next(page, lock, call, line):
+    """It is marked there; of several lines of one step at the first."""
+    page.open()
+    page.show(f"lock {lock} threads 1\n0 {call}\n", 1)
+    assert page.js("texts", "#code-lines .code-line:has(.disc) code") == [line]
+
+
 def test_marks_beside_a_line(page):
     """Of eight threads at one line of code five are marked, and three counted."""
     page.open()

@@ -93,14 +93,24 @@ def test_the_move_on_a_phone(page):
     assert page.js("seenOfMove", parts) == parts
 
 
+@pytest.mark.parametrize("device, hint", [
+    ("keys", "Press → for the first move."),
+    ("fingers", "Swipe to the left for the first move.")], ids=["keys", "fingers"])
+def test_how_one_begins(page, device, hint):
+    if device == "fingers":
+        page.before("withFingers")
+    page.open("#lesson=mcs-late-link&move=0")
+    assert page.text("#now .hint") == hint
+
+
 def test_a_finger(page):
     """To the left is a move forward, and no control is smaller than a finger."""
     page.resize(390, 844)
-    page.open("#lesson=mcs-late-link&move=9")
+    page.open("#lesson=mcs-late-link&move=10")
     page.js("swipe", -120)
-    assert page.js("place") == 10
+    assert page.js("place") == 11
     page.js("swipe", 120)
-    assert page.js("place") == 9
+    assert page.js("place") == 10
     assert page.js("small") == []
 
 

@@ -36,6 +36,26 @@ def test_files(page, tmp_path, data, said, count):
     assert page.shown()["moves"] == count
 
 
+def test_a_title_by_default(page):
+    """It is the first comment, up to its first colon or full stop."""
+    page.open()
+    for comment in ["Two rounds: who is first?", "Two rounds. Who is first?", "Two rounds"]:
+        page.show(f"# {comment}\n# More of it.\nlock ticket threads 1\n")
+        assert page.text("#title") == "Two rounds", comment
+
+
+def test_the_line_of_the_move(page):
+    """It has a sign beside its number, and the move of the line with the caret is shown."""
+    page.open()
+    page.show("lock ticket threads 2\n0 acquire\n0 add\n0 read\n", 2)
+    assert page.text("#gutter .here") == "▸ 3"
+    page.click("#text")
+    page.press("Control+Home", "ArrowDown", "ArrowDown", "ArrowDown")
+    page.shown(position="3 of 3")
+    page.press("ArrowUp")
+    page.shown(position="2 of 3")
+
+
 def test_dropped_and_pasted(page):
     page.open()
     page.js("dropFile", "lock mcs threads 1\n0 acquire\n")

@@ -6,6 +6,7 @@ import zlib
 import pytest
 
 from reports import LESSONS, moves_of
+from tree import cases
 
 MOST_SHEETS = 12
 LATE_LINK = "#lesson=mcs-late-link&move=9"
@@ -22,6 +23,16 @@ def test_a_lesson(page):
     assert all(row[4] for row in rows)
     assert page.js("count", "#paper .strip") >= 2
     assert page.js("count", "#paper .future") == 0
+
+
+@cases("language, heads", {
+    "en": ("en", ["Move", "Thread", "Call or step", "Outcome", "What it did", "Holds", "Queue"]),
+    "de": ("de", ["Zug", "Thread", "Aufruf oder Schritt", "Ergebnis", "Was er tat", "Hält",
+                  "Schlange"])})
+def test_the_heads_of_columns(page, language, heads):
+    page.open(f"{LATE_LINK}&lang={language}")
+    page.js("drawPaper")
+    assert page.js("texts", "#paper th") == heads
 
 
 def test_only_paper_is_printed(page):
@@ -83,6 +94,14 @@ def test_an_exercise_sheet(page):
     assert page.js("drawn") == [0, 10]
     assert "record that nobody reads" not in said and "no link" not in said
     assert page.js("print", "worked") == "worked"
+    assert "record that nobody reads" in page.js("words", "#paper")
+
+
+def test_after_an_exercise_sheet(page):
+    """What the browser's own command prints has answers again."""
+    page.open(LATE_LINK)
+    page.js("print", "exercise")
+    page.js("drawPaper")
     assert "record that nobody reads" in page.js("words", "#paper")
 
 

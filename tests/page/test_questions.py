@@ -31,6 +31,13 @@ def test_each_part_comes_with_the_answer(page):
             assert after["caption"] and after["caption"] != before["caption"], where
 
 
+def test_where_questions_are(page):
+    """They are marked above the numbers of their moves, and on the slider."""
+    page.open("#lesson=mcs-late-link&move=16")
+    asked = [move for name, move, _ in QUESTIONS if name == "mcs-late-link"]
+    assert page.js("marked") == {"numbers": asked, "slider": asked}
+
+
 def test_who_holds_is_not_drawn(page):
     """A question whether a reader is still inside: neither lane, picture nor code says it."""
     page.resize(1366, 768)
@@ -72,3 +79,22 @@ def test_the_form_of_before_is_valid(page, move, question, hidden):
         found.append("caption")
     assert found == hidden, shown
     assert page.text("#now .question p") == f"Question: {question}"
+
+
+WAITS = "A question waits here: A shows its answer, another → goes on."
+
+
+@pytest.mark.parametrize("look, key", [("", "ArrowRight"), ("&hall", "PageDown")])
+def test_a_step_stops_once(page, look, key):
+    """At a question whose answer was not seen, and says what there is to do."""
+    page.open(f"#lesson=mcs-late-link&move=6{look}")
+    page.press(key)
+    assert page.shown()["place"] == 7 and page.js("waiting") == ["", 0]
+    page.press(key)
+    assert page.shown()["place"] == 7 and page.js("waiting") == [WAITS, 1]
+    page.press(key)
+    assert page.shown()["place"] == 8 and page.js("waiting")[1] == 0
+    page.press("a", key)
+    assert page.shown()["place"] == 9, "an answer that was seen lets one go on"
+    page.press(key, "ArrowLeft", key)
+    assert page.shown()["place"] == 8 and page.js("waiting")[1] == 1, "at the next visit again"

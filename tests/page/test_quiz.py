@@ -73,6 +73,20 @@ def test_a_wrong_queue_is_told_why(page):
         "In the queue is who has taken a place there and has not left, the oldest first.")
 
 
+def test_it_is_read_aloud(page):
+    """Whether an answer was right is said first, and what was, before the move that was made."""
+    moves = moves_of(LESSONS[LESSON])
+    begin(page, LESSON)
+    shown = page.js("asked")
+    page.js("answer", moves[shown["move"] - 1][TRUTH[shown["kind"]]])
+    assert page.text("#spoken").startswith(f"Right. Move {shown['move']} of 15. ")
+    shown = page.js("asked")
+    truth = moves[shown["move"] - 1][TRUTH[shown["kind"]]]
+    wrong = next(one for one in ("waits", "entered") if one != truth)
+    page.js("answer", wrong if shown["kind"] == "outcome" else "w2")
+    assert page.text("#spoken").startswith(f"Wrong: {truth}. Move {shown['move']} of 15. ")
+
+
 @pytest.mark.parametrize("outcome, threads", zip(ALWAYS, [None, "-", "0", "1"]))
 def test_chance_earns_nothing(page, outcome, threads):
     begin(page, "mcs-late-link")
@@ -82,3 +96,19 @@ def test_chance_earns_nothing(page, outcome, threads):
     score = page.text("#now .score")
     right, wrong = map(int, re.search(r"\((\d+) right, (\d+) wrong\)", score).groups())
     assert right <= wrong and right + wrong >= 100, score
+
+
+@pytest.mark.parametrize("look, box", [("", "#now"), ("&hall", "#current")])
+def test_what_there_is_to_do(page, look, box):
+    """Before the first question it is said how one gets to it, and after the last that there is
+    none left. While one is asked its form is all."""
+    page.open(f"#lesson=ticket-hand-over&move=0{look}")
+    page.press("q")
+    assert page.text(f"{box} .quiz-how").startswith("Go on with →: before move 2 it is asked"), box
+    page.press("ArrowRight")
+    assert page.js("count", f"{box} .quiz-how") == 0 and page.js("count", "#quiz-form") == 1
+    page.press("Escape", "q")
+    page.go(10)
+    page.press("q")
+    assert page.text(f"{box} .quiz-how") == (
+        "No question is left in this schedule. Q ends the quiz.")

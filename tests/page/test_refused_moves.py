@@ -68,6 +68,13 @@ def test_the_word_that_decided_it(page):
     assert page.js("markedWords") == ["next_ticket changed"]
 
 
+@pytest.mark.parametrize("name, word", [("no-such-thread", "1"), ("wrong-lock", "ticket")])
+def test_the_word_of_the_header(page, name, word):
+    """Marked is how many threads there are, or which lock it is."""
+    page.open(f"#lesson=refused-{name}&move=1")
+    assert page.js("texts", "#now [data-decided] mark") == [word]
+
+
 @pytest.mark.parametrize("name, code", [
     ("wrong-step", "ticket := add(next_ticket, 1)"), ("no-call", "")])
 def test_the_line_that_is_due(page, name, code):

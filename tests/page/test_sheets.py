@@ -27,7 +27,18 @@ def test_marks_and_places(page):
         moves = len((EXAMPLES / f"{name}.report").read_text().splitlines()) - 1
         assert shown["waits"] == shown["spans"] == shown["values"] == 0, (name, shown)
         assert shown["blanks"] == moves and shown["lines"] == 2, (name, shown)
+        assert shown["discs"] == 0, "no thread has a line before the first move"
         assert shown["words"] >= 2 and shown["places"] >= 2, (name, shown)
+
+
+@pytest.mark.parametrize("name, move", [
+    ("ticket-hand-over", 6), ("mcs-late-link", 9), ("simple-downgrade", 4),
+    ("fifo-reader-waits-behind-writer", 6)])
+def test_it_is_the_same_at_each_move(page, name, move):
+    """No line of code is marked, and no thread stands there, at the move that is shown."""
+    page.open()
+    page.lesson(name)
+    assert page.js("sheetAt", move) == page.js("sheetAt", 0)
 
 
 @pytest.mark.parametrize("name", LESSONS)

@@ -1,4 +1,6 @@
 """The start: what the page is, four cards with the lessons in their order, and where to go on."""
+import pytest
+
 from tree import EXAMPLES
 
 LOCKS = ["ticket", "mcs", "rw-simple", "rw-fifo"]
@@ -29,8 +31,9 @@ def test_without_a_link(page):
 
 
 def test_a_link_opens_its_lesson(page):
+    """By whose title the window goes."""
     page.open("#lesson=mcs-late-link&move=3")
-    assert not page.js("isOpen")
+    assert not page.js("isOpen") and page.text("title") == "The late link - lockreplay"
 
 
 def test_the_first_lesson(page):
@@ -39,10 +42,22 @@ def test_the_first_lesson(page):
     page.press("Enter")
     assert page.js("lessonNow") == "ticket-hand-over"
     for move in range(1, 11):
-        page.press("ArrowRight")
+        # A step stops once at a question.
+        page.press(*["ArrowRight"] * (2 if move in (6, 8, 10) else 1))
         said = page.js("seen", "#now .own-say")
         assert (said == "") == (move in (5, 7, 9)), (move, said)
         assert "fetch" not in said and "compare" not in said, (move, said)
+
+
+@pytest.mark.parametrize("language, said", [
+    ("en", "Thread 0 is Bob, thread 1 is Ann."), ("de", "Thread 0 ist Bob, Thread 1 ist Ann.")])
+def test_who_is_which_thread(page, language, said):
+    """Before the first move, in the order of the lanes, also at the least of the screens."""
+    page.resize(1024, 768)
+    page.open(f"#lesson=ticket-hand-over&move=0&lang={language}")
+    assert page.js("seen", "#now .names") == said
+    page.lesson("simple-downgrade")
+    assert page.js("count", "#now .names") == 0, "no names are given"
 
 
 def test_the_end_of_a_lesson(page):
@@ -52,8 +67,18 @@ def test_the_end_of_a_lesson(page):
     assert "You saw: As at a bakery: take a number, wait" in last, last
     page.press("ArrowRight", "Enter")
     assert page.js("lessonNow") == "ticket-order-of-tickets"
-    page.press("o")
+    # One that was only begun is not.
+    page.press("ArrowRight", "o")
     assert page.js("ticked") == ["ticket-hand-over"]
+
+
+def test_a_refused_move_ends_its_lesson(page):
+    """Which is ticked off with it, and not with the last move that is accepted."""
+    page.open("#lesson=refused-busy&move=1")
+    page.press("o")
+    assert page.js("ticked") == []
+    page.press("Escape", "ArrowRight", "o")
+    assert page.js("ticked") == ["refused-busy"]
 
 
 def test_what_was_kept_is_near_the_top(page):
@@ -80,5 +105,12 @@ def test_terms_are_explained(page):
     for term, meaning in [("holder", "entered a lock and not left it"),
                           ("failed poll", "a step that finds that its thread has to wait"),
                           ("queue", "oldest first, so that the holder is its head")]:
-        said, is_seen = page.js("explained", term)
+        said, is_seen = page.js("explained", "main", term)
         assert said and meaning in said and is_seen, (term, said)
+
+
+def test_terms_of_the_start_are_explained(page):
+    """Above its dialog."""
+    page.open()
+    said, is_seen = page.js("explained", "#lessons", "holder")
+    assert said and "entered a lock and not left it" in said and is_seen, said

@@ -125,6 +125,21 @@ def test_the_wheel(page):
     assert sides == [[0, -1], [1, 0], [0, 1], [-1, 0]], places
 
 
+TICKETS = "0 acquire\n0 add\n1 acquire\n1 add\n"
+
+
+def test_whose_ticket_it_is(page):
+    """On the wheel each thread is at its ticket; of wide words the tickets are in a row, in the
+    order of the queue, and the next one is the last."""
+    page.open()
+    page.show(f"lock ticket threads 2 bits 2\n{TICKETS}", 4)
+    assert page.js("threadsAtPlaces") == [["0"], ["1"], [], []]
+    page.show(f"lock ticket threads 2\n{TICKETS}", 4)
+    assert page.js("texts", "#memory-picture .cell + text") == ["0", "1", "2"]
+    assert page.js("texts", "#memory-picture .cell.next + text") == ["2"]
+    assert page.js("texts", "#memory-picture .cell + text + .token text") == ["0", "1"]
+
+
 def test_a_write_is_a_change(page):
     """Also of the value that the word had: a new record's link is cleared."""
     page.open("#lesson=mcs-late-link&move=2")
@@ -132,14 +147,17 @@ def test_a_write_is_a_change(page):
     assert page.js("count", "#memory-picture .word.read") == 0
 
 
-@cases("text", {
-    "tickets": "lock ticket threads 2 bits 2\n0 acquire\n0 add\n",
-    "readers": "lock rw-fifo threads 2 bits 2\n0 rlock\n0 section\n"})
-def test_the_hands(page, text):
-    """The outer hand has the count that went on, to the right; the inner one is still at 0."""
+@cases("text, inner, outer", {
+    "tickets": ("lock ticket threads 2 bits 2\n0 acquire\n0 add\n", "now_serving", "next_ticket"),
+    "readers": ("lock rw-fifo threads 2 bits 2\n0 rlock\n0 section\n", "readReleases",
+                "readAcquires")})
+def test_the_hands(page, text, inner, outer):
+    """The outer hand has the count that went on, to the right; the inner one is still at 0. Beside
+    the sign of each is its word."""
     page.open()
     page.show(text, 2)
     assert page.js("hands") == {"inner": [0, -1], "outer": [1, 0]}
+    assert page.js("wordsOfHands") == {"inner": inner, "outer": outer}
 
 
 def test_shapes_of_outcomes(page):
@@ -150,3 +168,10 @@ def test_shapes_of_outcomes(page):
             for move in marks} == marks
     signs = {"entered": "path", "left": "rect", "waits: failed poll": "circle"}
     assert {label: page.js("signShape", label) for label in signs} == signs
+
+
+def test_a_failed_poll_is_dashed(page):
+    """And the poll that found the link is not."""
+    page.open("#lesson=mcs-late-link&move=16")
+    assert [page.js("isDashed", f"#lanes [data-move='{move}'] .step") for move in (10, 14)] == [
+        True, False]

@@ -105,6 +105,13 @@ const ticks = (moves) => moves.map((move) => {
 const places = () => all('#memory-picture .place circle').map(rect)
   .map(({ left, right, top, bottom }) => [(left + right) / 2, (top + bottom) / 2]);
 
+// The threads that are beside each number of a wheel, in the order of the numbers.
+const threadsAtPlaces = () => places().map(([x, y]) => all('#memory-picture .token')
+  .filter((one) => {
+    const { left, right, top, bottom } = rect(one.querySelector('circle'));
+    return Math.hypot((left + right) / 2 - x, (top + bottom) / 2 - y) < 60;
+  }).map((one) => one.querySelector('text').textContent));
+
 // Where the hands of a wheel point to: to the right and down is 1.
 const hands = () => Object.fromEntries(['inner', 'outer'].map((name) => {
   const path = all(`#memory-picture .hand.${name}`).map((one) => one.getAttribute('d'))
@@ -113,6 +120,11 @@ const hands = () => Object.fromEntries(['inner', 'outer'].map((name) => {
   return [name, [x - fromX, y - fromY].map((way) => (Math.abs(way) < 3 ? 0 : Math.sign(way)))];
 }));
 
+// What is written beside the sign of each hand.
+const wordsOfHands = () => Object.fromEntries(all('#memory-picture .hand + text')
+  .map((one) => [one.previousElementSibling.classList[1], one.textContent]));
+
+const isDashed = (selector) => styleOf(selector).strokeDasharray !== 'none';
 const shapeOf = (selector) => document.querySelector(selector).tagName;
 const signShape = (label) => all('#legend > span').find((one) => plain(one.textContent) === label)
   .querySelector('.step').tagName;

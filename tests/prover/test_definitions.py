@@ -1,4 +1,4 @@
-"""The list of definitions in docs/ARCHITECTURE.md names the files of crates/*/specs.
+"""The list of definitions in docs/PROOF.md names the files of crates/*/specs.
 
 A file of specs/ says in its first line whether it is "Definitions", which a reader has to believe,
 or "Invariants", which nobody has to. Each file of definitions has to be named under "What a reader
@@ -34,7 +34,7 @@ def parts_of(document):
 @pytest.mark.parametrize("crate", sorted(path.parent.name for path in TOP.glob("crates/*/specs")))
 def test_definitions_are_named(crate):
     kinds = kinds_of(crate)
-    text = parts_of((TOP / "docs" / "ARCHITECTURE.md").read_text()).get(crate, "")
+    text = parts_of((TOP / "docs" / "PROOF.md").read_text()).get(crate, "")
     assert "neither" not in kinds.values(), kinds
     assert set(re.findall(r"`(\w+)`", text)) == {
         name for name, kind in kinds.items() if kind == "Definitions"}

@@ -235,7 +235,7 @@ static void a_move_has_its_place(void)
         check("a second poll's place", !strcmp(lr_where(at, log, &log->end[-2]), "0.h:7"));
     }
     check("the kind of a move",
-          !strcmp(lr_text_of(at, &log->moves[1]), "read locked of 1 found 1"));
+          !strcmp(lr_text_of(at, log, &log->moves[1]), "read locked of 1 found 1"));
     lr_self = &lr_outside;
     lr_close(run);
 }

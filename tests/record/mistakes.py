@@ -40,7 +40,8 @@ IN_C = [Mistake("c", *of) for of in (
     ("rw_simple", "ignores-readers", signs.writes_beside_another, MOST, None, True),
     ("rw_fifo", "passes-announced-writer", signs.passes_a_writer, MOST, None, True),
 )]
-# A reader that wakes nobody shows only where no other writer comes, whose unlock wakes all.
+# A reader that wakes nobody shows only where no other writer comes, whose unlock wakes all, and
+# where nobody is woken for nothing instead.
 IN_RUST = [Mistake("rust", *of) for of in (
     ("ticket", "waits-while-less", signs.enters_at_another_ticket, EACH, None, False),
     ("ticket", "serves-the-next-ticket", signs.serves_another_ticket(8), EACH, 1, True),
@@ -54,7 +55,7 @@ IN_RUST = [Mistake("rust", *of) for of in (
     ("mcs", "keeps-its-next", signs.clears_nothing, EACH, 0, True),
     ("rw_simple", "writes-beside-readers", signs.writes_beside_another, EACH, 1, True),
     ("rw_simple", "waits-once", signs.writes_beside_another, EACH, 1, True),
-    ("rw_simple", "tells-nobody", None, range(15, 16), 1, False),
+    ("rw_simple", "tells-nobody", None, range(7, 8), 1, False),
     ("rw_fifo", "passes-a-writer", signs.passes_a_writer, EACH, 1, True),
     ("rw_fifo", "reader-does-not-wait", signs.reads_beside_a_writer, EACH, 1, True),
     ("rw_fifo", "wakes-one", None, EACH, 1, False),

@@ -1,9 +1,9 @@
-"""The tables of docs/PLANTED.md: in how many runs each planted mistake is noticed, by mode."""
+"""The tables of mistakes/README.md: in how many runs each planted mistake is noticed, by mode."""
 import re
 
-from tree import TOP
+from mistakes import PATCHES
 
-TABLES = TOP / "docs" / "PLANTED.md"
+TABLES = PATCHES / "README.md"
 BEGIN, END = "<!-- tables -->", "<!-- end of the tables -->"
 RUNS = 60
 

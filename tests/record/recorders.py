@@ -9,7 +9,7 @@ import subprocess
 from pathlib import Path
 
 from mistakes import IN_RUST
-from tree import EXAMPLES, TOP, environment, ran
+from tree import EXAMPLES, TOP, environment, output, ran
 
 SOURCES = EXAMPLES / "recording"
 WARNINGS = ["-Wall", "-Wextra", "-Wpedantic", "-Werror"]
@@ -114,8 +114,7 @@ class InRust(Recorder):
         """A copy of the crate, and one with an example for each mistake."""
         def copy():
             for name in ("crate", "planted"):
-                shutil.copytree(TOP / "record" / "rust", self.folder / name,
-                                ignore=shutil.ignore_patterns("target"))
+                assert output(TOP / "packaging" / "crate.sh", self.folder / name) == ""
             for mistake in IN_RUST:
                 [planted] = plant(mistake.patch, self.folder / "copies" / mistake.name)
                 # a mistake may leave something that is not used
@@ -128,7 +127,7 @@ class InRust(Recorder):
     def cargo(self, *words, tool="cargo", crate=None, level="3"):
         """What Debian's cargo says: nothing if all is well. It is as old as any that the crate is
         for, it is offline, and a warning is an error."""
-        flags = f"-D warnings -L native={self.library.parent}"
+        flags = "-D warnings"
         crate = crate or self.crate
         done = ran(f"/usr/bin/{tool}", *words, "--offline", "--locked", cwd=crate, timeout=600,
                    env=environment(PATH="/usr/bin:/bin", RUSTC="/usr/bin/rustc", RUSTFLAGS=flags,

@@ -95,18 +95,63 @@ def test_search_in_c(recorder, tmp_path, example, name, counts, said):
     assert (tmp_path / "run.trace").exists() == bool(mistake)
 
 
+@pytest.fixture
+def planted(library, tmp_path):
+    """Builds an example in C with a mistake, or with none, that explores its runs."""
+    def build(example, name, *flags):
+        shutil.copytree(SOURCES, tmp_path / SOURCES.relative_to(TOP))
+        (tmp_path / "record").symlink_to(TOP / "record")
+        if name:
+            plant(PATCHES / "c" / example / f"{name}.patch", tmp_path)
+        assert compile_c("gcc", tmp_path / SOURCES.relative_to(TOP) / f"{example}.c",
+                         tmp_path / "it", "-DLR_MODE=EXPLORE", *flags, library=library) == ""
+        return tmp_path / "it"
+    return build
+
+
 @pytest.mark.parametrize("flags, is_refused", [([], True), (["-DLR_SPURIOUS=0"], False)], ids=str)
-def test_wake_for_nothing(library, tmp_path, flags, is_refused):
+def test_wake_for_nothing(planted, tmp_path, flags, is_refused):
     """A writer that waits for its one reader, and does not look again, is wrong if it wakes up
     though nobody has signalled; and in no other run."""
-    shutil.copytree(SOURCES, tmp_path / SOURCES.relative_to(TOP))
-    (tmp_path / "record").symlink_to(TOP / "record")
-    plant(PATCHES / "c" / "rw_fifo" / "writer-waits-once-for-readers.patch", tmp_path)
-    assert compile_c("gcc", tmp_path / SOURCES.relative_to(TOP) / "rw_fifo.c", tmp_path / "it",
-                     "-DLR_MODE=EXPLORE", *flags, library=library) == ""
-    done = ran(tmp_path / "it", 2, 2, 2, tmp_path)
+    program = planted("rw_fifo", "writer-waits-once-for-readers", *flags)
+    done = ran(program, 2, 2, 2, tmp_path)
     assert done.returncode == int(is_refused)
     assert ("the last one is refused" if is_refused else ", all of them\n") in done.stdout
     if is_refused:
-        again = ran(tmp_path / "it", 2, 2, "again", tmp_path / "run.trace")
+        again = ran(program, 2, 2, "again", tmp_path / "run.trace")
         assert (again.stdout, again.returncode) == (done.stdout.splitlines(True)[1], 1)
+
+
+@pytest.mark.parametrize("start", [0, 15])
+@pytest.mark.parametrize("name, line, said", [
+    (None, None, None),
+    ("less-than", 12, "'0 release': Busy"),  # 15 is not less than 0: thread 1 does not wait
+    ("ticket-masked", 7, "'0 read now_serving found 0': NoCall"),  # 15 is not 7: it looks again
+    ("serves-wider", 13, "'1 read now_serving found 1': NoCall"),  # 16 is not 0
+])
+def test_counters_that_begin_before_their_wrap(planted, tmp_path, name, line, said, start):
+    """A round of two threads takes counters of 4 bits past 15 if they begin there. The trace counts
+    from 0, and has as many runs of the right lock."""
+    done = ran(planted("ticket", name, f"-DLR_START={start}"), 2, 1, 2, tmp_path)
+    if name is None or start == 0:
+        assert done.stdout == "102 runs with up to 2 preemptions, all of them\n"
+    else:
+        at = re.search(r"refused at line (\d+) of the trace, ticket.c:\d+: (.*?): ", done.stdout)
+        assert at and int(at[1]) == line
+        assert said in done.stdout
+        assert "# counters began at 15, here at 0\n" in (tmp_path / "run.trace").read_text()
+
+
+@pytest.mark.parametrize("name, said", [
+    # Two readers have come and gone, and the writer finds as many counts that differ.
+    ("leaves-twice", "2 section 5 moved"), ("reader-not-counted", "2 section 5 moved"),
+    ("read-unlock-does-nothing", "2 section 5 moved"),
+    # A reader and a writer have, and the next reader finds the flag.
+    ("flag-not-cleared", "1 section 5 waits"),
+])
+def test_wrong_count(planted, tmp_path, name, said):
+    """Counts and flag are not compared: what comes of the next section shows them."""
+    done = ran(planted("rw_fifo", name), 3, 1, 0, tmp_path)
+    assert re.search(rf"\nrefused at line 12 of the trace, rw_fifo.c:\d+: '{said}': OtherOutcome",
+                     done.stdout)
+    assert "the run hangs" in done.stdout

@@ -167,6 +167,22 @@ def test_trace_of_a_schedule(tmp_path, lesson):
     assert words_of((tmp_path / "it.trace").read_text()) == words_of(text)
 
 
+@pytest.mark.parametrize("flags", [[], ["-DLR_START=15"]], ids=str)
+def test_places_of_moves(tmp_path, flags):
+    """A short trace says of each line of a move at which line of the source it was noted."""
+    assert compile_c("gcc", SOURCES / "ticket.c", tmp_path / "it", "-DLR_MODE=SEED", *flags) == ""
+    assert ran(tmp_path / "it", 2, 3, 1, tmp_path).stderr == ""
+    source, lines = ((tmp_path.joinpath(path)).read_text().splitlines()
+                     for path in (SOURCES / "ticket.c", "run.trace"))
+    places = re.findall(r"^# line (\d+) is ticket\.c:(\d+)$", "\n".join(lines), re.MULTILINE)
+    assert [int(line) for line, _ in places] == [
+        number for number, line in enumerate(lines, 1) if line[0].isdigit()]
+    for line, place in places:
+        word = lines[int(line) - 1].split()[1]
+        note = f"LR_CALL({word})" if word in ("acquire", "release") else f"LR_{word.upper()}("
+        assert note in source[int(place) - 1]
+
+
 @pytest.mark.parametrize("mode, has_race", [("VALUES", True), ("SEED", False)])
 def test_data_race(tmp_path, mode, has_race):
     """ThreadSanitizer sees a data race of free threads, and none of one thread at a time."""

@@ -1,7 +1,8 @@
 """Planted mistakes in the recorded locks in C: in how many runs each is noticed, in each mode.
 
-Modes that give the same each time are compared with the tables of docs/PLANTED.md: of a right lock
-nothing may be refused. --write-planted tries the modes of real threads too, and writes the tables.
+Modes that give the same each time are compared with the tables of mistakes/README.md: of a right
+lock nothing may be refused. --write-planted tries the modes of real threads too, and writes the
+tables.
 """
 import os
 import re
@@ -60,6 +61,14 @@ def test_tables_have_every_patch():
 def test_most_mistakes_are_noticed_in_all_runs_of_a_mode():
     rows = planted_table.read()
     assert sum(planted_table.is_in_all(row, MODES) for row in rows.values()) >= ENOUGH
+
+
+def test_document_counts_what_the_tables_have():
+    rows = planted_table.read().values()
+    counted = {mode: str(sum(planted_table.is_in_all(row, [mode]) for row in rows))
+               for mode in MODES}
+    text = (TOP / "docs" / "PLANTED.md").read_text().split("\n## ")[0]
+    assert dict(re.findall(r"^\| `(\w+)` \| (\d+) \|", text, re.MULTILINE)) == counted
 
 
 def build(lock, name, mode, library, folder):

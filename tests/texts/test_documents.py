@@ -9,7 +9,8 @@ from documents import Room, faults_of
 from tree import TOP, VERSION, cases
 
 DOCUMENTS = sorted({path for pattern in ("*.md", "docs/*.md", "[a-z]*/README.md", "page/MODULE.md",
-                                         "examples/recording/README.md")
+                                         "examples/recording/README.md",
+                                         "tests/record/mistakes/README.md")
                     for path in TOP.glob(pattern)})
 REPLAYED = "$ lockreplay replay < examples/refused-not-holder.schedule\n"
 RIGHT = {

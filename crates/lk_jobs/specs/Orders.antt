@@ -1,5 +1,5 @@
--- Definitions. What comes of the logs of a run: what is wrong with them as texts, or how the search
--- for their order ends; and how the job ends by it.
+-- Definitions. The logs of a run have a fault as texts, or the search for their order ends. By this
+-- the job ends.
 use Rattle.std.specs.Prelude.{◌≡◌, ◌≢◌, ◌⊎◌, ◌<◌, ⊤, ℕ, List, [], true, Option, None, Some, IfSome}
 use Rattle.std.specs.Prelude.{Ok, Err}
 use Rattle.lk_order.specs.Logs.{IsFaultOf, Reading, ThreadLog, line_read, log_read}

@@ -22,7 +22,7 @@ move_line m = decimal m.thread ++ codes " " ++ move_word m.action ++ codes "\n"
 abbrev pub schedule_of : LockKind → ℕ → ℕ → List Taken → List ℕ
 schedule_of kind threads bits ms = header_line kind threads bits ++ flat_map move_line ms
 
--- what a schedule of a tour begins with
+-- the beginning of a schedule of a tour
 abbrev pub remark : ℕ → ℕ → ℕ → List ℕ
 remark number count rounds =
     codes "# Run " ++ (decimal number ++ (codes " of " ++ (decimal count

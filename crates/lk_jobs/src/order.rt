@@ -12,11 +12,11 @@ mod logs;
 mod report;
 mod search;
 
-use crate::progress::Progress;
 use files::{write_files, write_trace};
 use lk_order::{Log, Order};
 use lk_text::course::Course;
 use lk_text::formats::Format;
+use lk_text::progress::Progress;
 use lk_text::report::Ending;
 use lk_text::{Failure, STANDARD, Text, Value};
 use logs::take_logs;
@@ -26,8 +26,8 @@ use std::alloc::Global;
 use std::io::{Eprint, Write};
 use std::rt::Files;
 
-/// What is to be put into one order, the folder for what is found, and what is said of it. For a
-/// folder `-` the trace alone is written, to the output, and all that is said goes to `errors`.
+/// The logs to put into one order, the folder for it, and the form of the report. For a folder `-`
+/// the trace alone is written, to the output, and all that is said goes to `errors`.
 #[derive(Debug, Drop)]
 pub struct OrderJob {
     pub format: Format,
@@ -88,7 +88,7 @@ fn put_ending(report: &mut OrderReport, search: &Search, names: &[&str], open: &
     }
 }
 
-// How many moves logs have.
+// The number of moves that logs have.
 fn moves_of(logs: &[Log]) -> usize {
     logs.iter()
         .fold(0, |sum, log| sum.saturating_add(log.moves().len()))

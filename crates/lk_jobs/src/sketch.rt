@@ -8,7 +8,7 @@ ghost use Rattle.lk_text.specs.Texts.{Grows};
 
 use lk_lines::{Status, is_skipped, number_of};
 use lk_locks::{Refusal, Shape, belongs};
-use lk_search::{Admitted, SketchFault, admit};
+use lk_search::{Admitted, Rounds, SketchFault, admit};
 use lk_text::follow::unread;
 use lk_text::formats::{PLAIN, put_text};
 use lk_text::{Text, Value, open, put_wrong, take_lines, wrong_in_header};
@@ -36,6 +36,17 @@ const MOST_LINES: usize = 255;
 const REMARK: &str = "#!";
 
 const ROUNDS: &str = "#! rounds ";
+
+/// How rounds without a bound are written.
+pub const ANY: &str = "any";
+
+/// The rounds that a text names: a number of them, or any.
+pub fn rounds_of(text: &[u8]) -> Option<Rounds> {
+    if text == ANY.as_bytes() {
+        return Some(Rounds::Any);
+    }
+    number_of(text, 1, 255).map(Rounds::UpTo)
+}
 
 /// Why a line is none of a sketch.
 #[derive(Clone, Copy, PartialEq, Eq, Debug, Error)]
@@ -68,10 +79,10 @@ pub struct Sketch {
     /// The lock, if the header was read.
     pub header: Option<Shape>,
     /// How many rounds each thread has, if the sketch says it.
-    pub rounds: Option<u8>,
+    pub rounds: Option<Rounds>,
     /// The lines that are to occur, in their order.
     pub lines: Vec<String>,
-    /// What each line admits.
+    /// The moves that each line admits.
     pub admitted: Vec<Admitted>,
     ghost few: { vec_len lines ≤ 255 },
 }
@@ -87,7 +98,7 @@ impl Sketch {
         }
     }
 
-    /// How many lines are to occur.
+    /// The number of lines that are to occur.
     pub fn count(&self) -> u16
         ensures { result ≡ vec_len self.now.lines }
     {
@@ -100,7 +111,7 @@ impl Sketch {
             return None;
         }
         let rest = line.strip_prefix(ROUNDS.as_bytes());
-        match rest.and_then(|rest| number_of(rest, 1, 255)) {
+        match rest.and_then(rounds_of) {
             Some(rounds) => {
                 self.rounds = Some(rounds);
                 None

@@ -1,19 +1,15 @@
 -- The first line of a text, if it is a thread's number, a move's word and a line feed.
-use Rattle.std.proofs.Common.{◌≡◌, ◌≢◌, ℕ, ◌+◌, ◌-◌, ◌*◌, ◌<◌, ◌≤◌, List, [], ◌∷◌, ◌++◌, Some}
-use Rattle.std.proofs.Common.{length, length-append, true, false, refl, sym, ap, ◌∙◌, arith, Bool}
-use Rattle.std.proofs.Common.{append_assoc, eq-eqb, subst, nat_le, not, ◌==◌, ◌&&◌, ◌||◌, suc}
-use Rattle.std.proofs.Common.{slice_index_or, take, drop, take-append-drop, Option, None, IfSome}
-use Rattle.std.proofs.Common.{MatchOption}
+use Rattle.std.proofs.Common.{length, length-append, append_assoc, slice_index_or, take-append-drop}
+use Rattle.std.proofs.Common.{◌≡◌, false, arith, eq-eqb, subst, nat_le, Option, IfSome, MatchOption}
+use Rattle.std.proofs.Common.{◌≢◌, List, ◌++◌, Some, true, refl, Bool, ◌==◌, ◌&&◌, ◌||◌, take, drop}
+use Rattle.std.proofs.Common.{ℕ, ◌+◌, ◌-◌, ◌*◌, ◌<◌, ◌≤◌, [], ◌∷◌, sym, ap, ◌∙◌, not, suc, None}
 use Rattle.std.proofs.lemmas.List.{take_rest}
 use Rattle.lk_lines.specs.Digits.{is_plain_number, value_from}
 use Rattle.std.proofs.lemmas.List.Splits.{slice_split-cons_no, slice_split-cons_yes}
-use Rattle.std.specs.List.{onto_first, slice_split}
-use Rattle.std.specs.Str.{all_ascii_digits}
-use Rattle.std.specs.Char.{is_ascii_digit}
+use Rattle.std.specs.{List.onto_first, List.slice_split, Str.all_ascii_digits, Char.is_ascii_digit}
 use Rattle.std.proofs.lemmas.Bool.{and_parts, le-leb, leb-true, ne_eqb}
-use Rattle.lk_locks.specs.declared.kinds.Move.{Move}
+use Rattle.lk_locks.specs.{declared.kinds.Move.Move, declared.kinds.Op.TheVariants.Acquire}
 use Rattle.lk_locks.specs.declared.kinds.Move.TheVariants.{Call, Step}
-use Rattle.lk_locks.specs.declared.kinds.Op.TheVariants.{Acquire}
 use Rattle.lk_locks.specs.declared.kinds.StepKind.TheVariants.{Read}
 use Rattle.lk_lines.specs.FirstMove.{IsFirstMove, IsFirstThread}
 use Rattle.lk_lines.specs.Lines.{IsNextMove, Numbered, is_line_feed, is_skipped, lines_of}

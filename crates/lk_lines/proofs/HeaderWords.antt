@@ -1,17 +1,13 @@
 -- The parts expected in a line, word by word. It is a header exactly if nothing else is expected.
 use Rattle.std.proofs.Common.{◌↔◌, ℕ, List, [], ◌∷◌, Option, Some, None, cond, ◌&&◌, is_some}
 use Rattle.std.proofs.Common.{IsNone, Bool, true, false, Ok, Err, nat_lt, ◌^◌, codes, arith, refl}
-use Rattle.std.specs.Str.{bytes_eq}
-use Rattle.lk_locks.specs.declared.kinds.LockKind.{LockKind}
-use Rattle.lk_lines.specs.Faults.{WordsTooNarrow}
-use Rattle.std.specs.Option.{option_map, option_zip}
-use Rattle.lk_locks.specs.State.{Shape}
+use Rattle.std.specs.{Str.bytes_eq, Option.option_map, Option.option_zip}
+use Rattle.lk_locks.specs.{declared.kinds.LockKind.LockKind, State.Shape}
+use Rattle.lk_lines.specs.{Faults.WordsTooNarrow, Lines.words_of, Vocabulary.lock_named}
+use Rattle.lk_lines.specs.{Vocabulary.number_of, declared.unreadable.Expected.Expected}
 use Rattle.lk_lines.specs.Header.{header_of, header_of_shape, shape_of_words}
 use Rattle.lk_lines.specs.Header.{size_of_words, with_threads}
-use Rattle.lk_lines.specs.Lines.{words_of}
 use Rattle.lk_lines.specs.Unreadable.{IsHeader, unreadable_from}
-use Rattle.lk_lines.specs.Vocabulary.{lock_named, number_of}
-use Rattle.lk_lines.specs.declared.unreadable.Expected.{Expected}
 use Rattle.lk_lines.specs.declared.unreadable.Expected.TheVariants.{Lock, Count}
 
 fits_or_not : (fits : Bool) (h : Shape) (number : ℕ)

@@ -1,17 +1,13 @@
 -- The words of a line.
 use Rattle.std.proofs.Common.{◌≡◌, ℕ, List, [], ◌∷◌, Option, Some, None, refl, sym, ap, ◌∙◌}
 use Rattle.std.proofs.Common.{arith, inl, inr, length, ◌<◌}
-use Rattle.std.specs.Prelude.{find}
+use Rattle.std.specs.{Prelude.find, Str.bytes_eq, Option.option_zip}
 use Rattle.std.specs.List.{slice_split, join_with_byte}
-use Rattle.std.specs.Str.{bytes_eq}
-use Rattle.std.proofs.lemmas.List.Splits.{join_with_byte-slice_split}
-use Rattle.std.proofs.lemmas.Bool.{cases_Bool, cond-false}
-use Rattle.std.proofs.lemmas.Slice.Eq.{bytes_eq-Decides}
-use Rattle.lk_locks.specs.declared.kinds.Move.{Move}
+use Rattle.std.proofs.{lemmas.List.Splits.join_with_byte-slice_split, lemmas.Bool.cases_Bool}
+use Rattle.std.proofs.{lemmas.Bool.cond-false, lemmas.Slice.Eq.bytes_eq-Decides}
+use Rattle.lk_locks.specs.{declared.kinds.Move.Move, declared.kinds.Op.TheVariants.Acquire}
 use Rattle.lk_locks.specs.declared.kinds.Move.TheVariants.{Call, Step}
-use Rattle.lk_locks.specs.declared.kinds.Op.TheVariants.{Acquire}
 use Rattle.lk_locks.specs.declared.kinds.StepKind.TheVariants.{Read}
-use Rattle.std.specs.Option.{option_zip}
 use Rattle.lk_lines.proofs.Cuts.{has_piece}
 use Rattle.lk_lines.specs.Header.{size_of_words}
 use Rattle.lk_lines.specs.Lines.{is_space, move_of, move_of_words}

@@ -1,8 +1,7 @@
 -- Lines that are skipped, before others.
 use Rattle.std.proofs.Common.{◌≡◌, ℕ, ◌+◌, List, [], ◌∷◌, ◌++◌, length, true, ◌==◌, refl}
 use Rattle.std.proofs.Common.{sym, ap, subst, ◌∙◌, arith, append_assoc, length-append}
-use Rattle.std.proofs.lemmas.List.Folds.{list_all-append}
-use Rattle.std.proofs.lemmas.Bool.{eqb-true}
+use Rattle.std.proofs.{lemmas.List.Folds.list_all-append, lemmas.Bool.eqb-true}
 use Rattle.lk_lines.specs.Lines.{Numbered, SkipsTo, is_skipped, lines_of}
 
 pub no_line : (text : List ℕ) → (length text == 0) ≡ true → lines_of text ≡ []

@@ -1,7 +1,6 @@
 -- Definitions: the numbers that decimal digits write.
-use Rattle.std.specs.Prelude.{ℕ, ◌+◌, ◌-◌, ◌*◌, List, [], ◌∷◌, Option, Some, None, Bool}
-use Rattle.std.specs.Prelude.{if◌then◌else◌, ◌==◌, ◌&&◌, ◌||◌, not, length, nat_lt, nat_le}
-use Rattle.std.specs.Prelude.{slice_index}
+use Rattle.std.specs.Prelude.{◌+◌, List, Option, if◌then◌else◌, length, nat_lt, nat_le, slice_index}
+use Rattle.std.specs.Prelude.{ℕ, ◌-◌, ◌*◌, [], ◌∷◌, Some, None, Bool, ◌==◌, ◌&&◌, ◌||◌, not}
 use Rattle.std.specs.Str.{all_ascii_digits}
 
 -- decimal digits, with no leading zero but in `0` itself

@@ -4,9 +4,8 @@ use Rattle.lk_lines.specs.Faults.{Fault}
 use Rattle.lk_lines.specs.Faults as text
 use Rattle.lk_lines.specs.declared.faults.ReadFault.{ReadFault}
 use Rattle.lk_lines.specs.declared.faults.ReadFault.TheVariants.{TooLong, NoHeader, BadHeader}
-use Rattle.lk_lines.specs.declared.faults.ReadFault.TheVariants.{BadThreads, BadLine}
-use Rattle.lk_lines.specs.declared.faults.ReadFault.TheVariants.{TooManyMoves, WordsTooNarrow}
-use Rattle.lk_lines.specs.declared.faults.ReadFault.TheVariants.{OutOfMemory}
+use Rattle.lk_lines.specs.declared.faults.ReadFault.TheVariants.{BadThreads, BadLine, TooManyMoves}
+use Rattle.lk_lines.specs.declared.faults.ReadFault.TheVariants.{WordsTooNarrow, OutOfMemory}
 
 -- Memory is wanted for the moves alone: each fault of the length and of the header is answered
 -- without it.

@@ -6,9 +6,8 @@ use Rattle.lk_lines.specs.Faults.{Fault, WordsTooNarrow}
 use Rattle.lk_locks.specs.State.{Shape}
 use Rattle.lk_lines.specs.Vocabulary.{lock_named, move_named, number_of}
 use Rattle.lk_lines.specs.declared.unreadable.Expected.{Expected}
-use Rattle.lk_lines.specs.declared.unreadable.Expected.TheVariants.{Lock, Name, Threads, Count}
-use Rattle.lk_lines.specs.declared.unreadable.Expected.TheVariants.{Bits, Width, Thread, Action}
-use Rattle.lk_lines.specs.declared.unreadable.Expected.TheVariants.{End}
+use Rattle.lk_lines.specs.declared.unreadable.Expected.TheVariants.{Threads, Count, Thread, Action}
+use Rattle.lk_lines.specs.declared.unreadable.Expected.TheVariants.{Lock, Name, Bits, Width, End}
 
 -- whether a word may be here, and what is expected after it
 abbrev pub next_of : Expected → List ℕ → Bool × Expected

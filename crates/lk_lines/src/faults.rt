@@ -1,8 +1,8 @@
-//! Why a text is no schedule.
+//! The reasons for which a text is no schedule.
 
 use thiserror::Error;
 
-/// Why a text has no schedule, with the number of the line.
+/// The reason for which a text has no schedule, with the number of the line.
 #[derive(Clone, Copy, PartialEq, Eq, Debug, Error)]
 pub enum ReadFault {
     /// More than 1,048,576 bytes.

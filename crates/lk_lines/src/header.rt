@@ -5,8 +5,7 @@ ghost use Rattle.std.specs.Prelude.{◌≡◌, ◌≤◌, MatchOption, IfSome, I
 ghost use Rattle.std.specs.Option.{option_zip};
 ghost use Rattle.lk_lines.specs.Lines.{words_of};
 ghost use Rattle.lk_lines.specs.Header.{size_of_words, shape_of_words, header_of};
-ghost use Rattle.lk_lines.specs.Reads.{Gives};
-ghost use Rattle.lk_lines.specs.Reads.{IsOfText};
+ghost use Rattle.lk_lines.specs.Reads.{Gives, IsOfText};
 
 use crate::ReadFault;
 use crate::lines::cut_word;

@@ -1,8 +1,7 @@
 -- Lists of readers stay in ascending order if one joins or leaves, and the place of that one.
 use Rattle.std.proofs.Common.{ap, arith, eqb, false, inl, inr, insert, leb, length, List, ltb}
-use Rattle.std.proofs.Common.{nat_lt}
-use Rattle.std.proofs.Common.{refl, remove, slice_index_or, true, zero, suc, [], ◌<◌, ◌≤◌, ◌∷◌, ◌≡◌}
-use Rattle.std.proofs.Common.{ℕ}
+use Rattle.std.proofs.Common.{nat_lt, refl, remove, slice_index_or, true, zero, suc, [], ◌<◌, ◌≤◌}
+use Rattle.std.proofs.Common.{◌∷◌, ◌≡◌, ℕ}
 use Rattle.std.specs.List.{AllByRecursion}
 use Rattle.std.specs.List.Sorted.{IsNonDecreasingBy, IsPartitionPoint}
 use Rattle.std.proofs.lemmas.Bool.{eqb-true, le-ltb, leb-false, leb-true, lt-ltb, ltb-false}
@@ -90,26 +89,26 @@ never_falls (t ∷ ts) (above, ascending) (suc i) (suc j) d le within =
     never_falls ts ascending i j d (omega (arith, le)) (omega (arith, within))
 
 -- the place after those up to a thread is where it joins
-pub placed : (ts : List ℕ) (t i : ℕ) → i ≤ length ts
+pub place_joins : (ts : List ℕ) (t i : ℕ) → i ≤ length ts
     → IsPartitionPoint (λ u. leb u t ≡ true) (λ u. leb u t ≡ false) ts i
     → insert ts i t ≡ with_reader ts t
-placed [] t zero within point = refl
-placed [] t (suc i) within point = absurd (omega (arith, within))
-placed (u ∷ ts) t zero within point =
+place_joins [] t zero within point = refl
+place_joins [] t (suc i) within point = absurd (omega (arith, within))
+place_joins (u ∷ ts) t zero within point =
     rw (lt-ltb t u (leb-false u t (point.1 0 0 (omega arith) (omega arith)))) refl
-placed (u ∷ ts) t (suc i) within point =
+place_joins (u ∷ ts) t (suc i) within point =
     rw (le-ltb t u (leb-true u t (point.0 0 0 (omega arith) (omega arith))))
-    (ap (λ us. u ∷ us) (placed ts t i (omega (arith, within)) (
+    (ap (λ us. u ∷ us) (place_joins ts t i (omega (arith, within)) (
       λ k d low high. point.0 (suc k) d (omega arith) (omega (arith, high)),
       λ k d low high. point.1 (suc k) d (omega (arith, low)) (omega (arith, high)),
     )))
 
 -- the place after those below a thread is its own
-pub found : (ts : List ℕ) (t i : ℕ) → IsAscending ts → has ts t ≡ true → i ≤ length ts
+pub place_is_own : (ts : List ℕ) (t i : ℕ) → IsAscending ts → has ts t ≡ true → i ≤ length ts
     → IsPartitionPoint (λ u. ltb u t ≡ true) (λ u. ltb u t ≡ false) ts i
     → (i < length ts) × (remove ts i ≡ without_reader ts t)
-found [] t i ascending member within point = absurd (cc)
-found (u ∷ ts) t zero (above, ascending) member within point = elim (cases_Bool (eqb t u)) [
+place_is_own [] t i ascending member within point = absurd (cc)
+place_is_own (u ∷ ts) t zero (above, ascending) member within point = elim (cases_Bool (eqb t u)) [
   | inl same ↦ (omega arith, rw same refl)
   | inr differ ↦
       absurd (omega (
@@ -118,12 +117,12 @@ found (u ∷ ts) t zero (above, ascending) member within point = elim (cases_Boo
         below_member ts u t above (cc),
       ))
 ]
-found (u ∷ ts) t (suc i) (above, ascending) member within point =
+place_is_own (u ∷ ts) t (suc i) (above, ascending) member within point =
     let low : u < t = ltb-true u t (point.0 0 0 (omega arith) (omega arith)) in
     elim (cases_Bool (eqb t u)) [
       | inl same ↦ absurd (omega (arith, low, eqb-true t u same))
       | inr differ ↦
-          let rest = found ts t i ascending (cc) (omega (arith, within)) (
+          let rest = place_is_own ts t i ascending (cc) (omega (arith, within)) (
             λ k d low high. point.0 (suc k) d (omega arith) (omega (arith, high)),
             λ k d low high. point.1 (suc k) d (omega (arith, low)) (omega (arith, high)),
           ) in (omega (arith, rest.0), rw differ (ap (λ us. u ∷ us) rest.1))

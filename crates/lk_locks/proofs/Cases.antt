@@ -1,37 +1,16 @@
 -- The obligations of each step of a lock.
-use Rattle.std.proofs.Common.{List, [], length, set, slice_index, true}
-use Rattle.std.proofs.Common.{unwrap_or, ℕ, ◌++◌, ◌∷◌, ◌≡◌, ◌<◌, ◌≤◌, ◌^◌, None, sym}
+use Rattle.std.proofs.Common.{List, [], length, set, slice_index, true, unwrap_or, ℕ, ◌++◌, ◌∷◌}
+use Rattle.std.proofs.Common.{◌≡◌, ◌<◌, ◌≤◌, ◌^◌, None, sym}
 use Rattle.std.proofs.lemmas.List.{set-get_or}
 use Rattle.std.specs.List.{AllByRecursion}
-use Rattle.lk_locks.specs.Change.{Change}
-use Rattle.lk_locks.specs.Steps.{move_entries}
+use Rattle.lk_locks.specs.{Change.Change, declared.kinds.Entry.TheVariants.Called}
+use Rattle.lk_locks.specs.Steps.{move_entries, belongs, has_op, move_change, refusal_in}
 use Rattle.lk_locks.specs.Legal.{AreEnabled, after_entries, whole_call}
 use Rattle.lk_locks.specs.Locks.{after_call, family_of, step_entries, step_of, word_count}
 use Rattle.lk_locks.specs.Sequential.{Sequential, nobody, thread_of}
 use Rattle.lk_locks.specs.State.{State, phase_at, start}
-use Rattle.lk_locks.specs.Steps.{belongs, has_op, move_change, refusal_in}
 use Rattle.lk_locks.specs.invariants.Locks.{AgreeAs, AreLinks, IsPhaseOf, owed_of}
-use Rattle.lk_locks.specs.Types.{Entry, LockKind, Move, Call, Op, Outcome, Phase, Idle}
-use Rattle.lk_locks.specs.declared.kinds.Entry.TheVariants.{Called}
-
--- a step of a thread in this phase adds the next entries of its pending call
-abbrev pub GoesOn : LockKind → ℕ → Phase → Change → Type 0
-GoesOn kind t p change =
-    owed_of kind t p ≡ step_entries kind t p change.outcome ++ owed_of kind t change.phase
-
--- a call begins when the one before it is finished
-abbrev pub Begins : LockKind → ℕ → Phase → Op → Type 0
-Begins kind t p op =
-    (owed_of kind t p ≡ [])
-    × (whole_call kind t op ≡ Called t op ∷ owed_of kind t (unwrap_or (after_call kind p op) p))
-
--- no move changes the number of words
-abbrev pub KeepsLength : List ℕ → Change → Type 0
-KeepsLength ws change = length change.words ≡ length ws
-
--- the new phase is one of the lock's
-abbrev pub Fits : LockKind → ℕ → Change → Type 0
-Fits kind n change = IsPhaseOf kind n change.phase
+use Rattle.lk_locks.specs.Types.{Entry, LockKind, Move, Call, Op, Phase, Idle}
 
 -- entries of one thread alone
 abbrev pub AreOf : ℕ → List Entry → Type 0
@@ -75,27 +54,28 @@ waits given = (tt, rw (sym given.phase_is) (rw set-get_or given.agrees))
 -- The obligations of a lock. `EachLock` has their proofs for each.
 pub record LockProof (kind : LockKind) : Type 0 where
   -- each step adds the next entries of the pending call
-  pub goes_on : (bits t : ℕ) (ws : List ℕ) (p : Phase) → GoesOn kind t p (step_of kind bits ws t p)
+  pub goes_on : (bits t : ℕ) (ws : List ℕ) (p : Phase)
+      → owed_of kind t p
+      ≡ step_entries kind t p (step_of kind bits ws t p).outcome
+      ++ owed_of kind t (step_of kind bits ws t p).phase
   -- a call begins when the one before it is finished
   pub begins : (n t : ℕ) (p : Phase) (op : Op) → IsPhaseOf kind n p
       → has_op (family_of kind) op ≡ true → refusal_in kind p (Call op) ≡ None
-      → Begins kind t p op
+      → (owed_of kind t p ≡ [])
+      × (whole_call kind t op ≡ Called t op ∷ owed_of kind t (unwrap_or (after_call kind p op) p))
   -- the entries that a call still owes are of its thread
   pub owed_is_own : (t : ℕ) (p : Phase) → AreOf t (owed_of kind t p)
   -- an idle thread owes nothing
   pub idle_rest : (t : ℕ) → owed_of kind t Idle ≡ []
-  -- no step adds more than three entries
-  pub few_entries : (t : ℕ) (p : Phase) (outcome : Outcome)
-      → length (step_entries kind t p outcome) ≤ 3
   -- no step changes the number of words
   pub keeps_length : (bits t : ℕ) (ws : List ℕ) (p : Phase)
-      → KeepsLength ws (step_of kind bits ws t p)
+      → length (step_of kind bits ws t p).words ≡ length ws
   -- each phase is one of the lock's, and each link names a thread
   pub idle_fits : (n : ℕ) → IsPhaseOf kind n Idle
   pub call_fits : (n : ℕ) (p : Phase) (op : Op) → IsPhaseOf kind n p
       → IsPhaseOf kind n (unwrap_or (after_call kind p op) p)
   pub step_fits : (n bits t : ℕ) (ws : List ℕ) (p : Phase) → t < n → IsPhaseOf kind n p
-      → AreLinks kind n ws → Fits kind n (step_of kind bits ws t p)
+      → AreLinks kind n ws → IsPhaseOf kind n (step_of kind bits ws t p).phase
   pub clear_links : (n : ℕ) (ws : List ℕ) → ((i : ℕ) → slice_index ws i ≡ 0) → AreLinks kind n ws
   pub links_fit : (n bits t : ℕ) (ws : List ℕ) (p : Phase) → t < n → AreLinks kind n ws
       → AreLinks kind n (step_of kind bits ws t p).words

@@ -1,17 +1,15 @@
--- Each accepted move keeps what is known of a lock and its history.
+-- Each accepted move keeps what is known of a lock and its history, also of a history that is only
+-- known to be there.
 use Rattle.std.proofs.Common.{◌≡◌, ℕ, ◌<◌, List, ◌++◌, length, true, None, refl, ap, sym, ◌∙◌}
 use Rattle.std.proofs.lemmas.List.{length-set}
-use Rattle.lk_locks.specs.State.{State, phase_at}
-use Rattle.lk_locks.specs.Change.{Change}
+use Rattle.lk_locks.specs.{State.State, State.phase_at, Change.Change, Holding.holder_after}
 use Rattle.lk_locks.specs.Steps.{move_change, change_of, next_state, refusal_in, refusal_of}
-use Rattle.lk_locks.specs.Steps.{belongs}
-use Rattle.lk_locks.specs.Steps.{move_entries, entries_of}
+use Rattle.lk_locks.specs.Steps.{belongs, move_entries, entries_of}
 use Rattle.lk_locks.specs.Sequential.{Sequential, thread_of}
-use Rattle.lk_locks.specs.Legal.{after_entries, Legal}
+use Rattle.lk_locks.specs.Legal.{after_entries, Legal, AreEnabled}
 use Rattle.lk_locks.specs.invariants.Locks.{AgreeAs, IsPhaseOf, owed_of}
-use Rattle.lk_locks.specs.Holding.{holder_after}
 use Rattle.lk_locks.specs.Play.{Tracked, tracker_with}
-use Rattle.lk_locks.specs.invariants.Kept.{IsInTurn, Kept, IsRecorded}
+use Rattle.lk_locks.specs.invariants.Kept.{IsInTurn, Kept, IsRecorded, IsTracked}
 use Rattle.lk_locks.proofs.Cases.{AreOf, IsAgreed}
 use Rattle.lk_locks.proofs.Threads.{each_phase}
 use Rattle.lk_locks.proofs.EachLock.{proof_of}
@@ -19,7 +17,7 @@ use Rattle.lk_locks.proofs.Moves.{Accepted, accepted_of, well_kept}
 use Rattle.lk_locks.proofs.Histories.{holder_append, after_append, allowed_append, all_append}
 use Rattle.lk_locks.proofs.Histories.{all_prefix, all_map, turn_of_step, turn_of_call, same_kind}
 use Rattle.lk_locks.proofs.Histories.{turn_of_other}
-use Rattle.lk_locks.specs.Types.{LockKind, Phase, Move, Call, Step, Entry}
+use Rattle.lk_locks.specs.Types.{LockKind, Phase, Move, Call, Step, Entry, StepKind}
 
 -- a move adds entries of its own thread alone
 pub entries_are_own : (kind : LockKind) (bits : ℕ) (ws : List ℕ) (t : ℕ) (p : Phase) (m : Move)
@@ -46,9 +44,9 @@ turn_kept kind n bits ws es t p (Step k) f b r i =
     ((proof_of kind).goes_on bits t ws p) i
 
 -- the entries of an accepted move may come, and lock and sequential lock agree after it
-pub agreed : (s : State) (q : Sequential) (es : List Entry) (t : ℕ) (m : Move) → Kept s q es
+pub move_agrees : (s : State) (q : Sequential) (es : List Entry) (t : ℕ) (m : Move) → Kept s q es
     → Accepted s t m → IsAgreed (AgreeAs s.kind (next_state s t m)) q (entries_of s t m)
-agreed s q es t m k a =
+move_agrees s q es t m k a =
     (proof_of s.kind).keeps s.bits s.words s.phases q t (phase_at s.phases t) m (record {
       kind_is = k.kind;
       thread = a.thread;
@@ -71,7 +69,7 @@ keeps s q es t m k a =
     let next : Phase = (change_of s t m).phase in
     let n = length-set s.phases t next in
     let own = entries_are_own s.kind s.bits s.words t p m in
-    let (allowed, agree) = agreed s q es t m k a in
+    let (allowed, agree) = move_agrees s q es t m k a in
     record {
       well = well_kept s t m k.well a;
       few = rw n k.few;
@@ -112,3 +110,26 @@ recorded_on k es t m r a =
       kept = keeps k.state k.sequential es t m r.kept (accepted_of k.state t m a);
       holder = ap (λ h. holder_after h new) r.holder ∙ sym (holder_append None es new);
     }
+
+-- the entries of an accepted move may come next in the history
+pub entries_may_come : (s : State) (q : Sequential) (t : ℕ) (m : Move) → IsTracked s q
+    → refusal_of s t m ≡ None → AreEnabled q (entries_of s t m)
+entries_may_come s q t m k a = (move_agrees s q k.0 t m k.1 (accepted_of s t m a)).0
+
+-- after an accepted move there is again a history that leads to the lock
+pub tracked_on : (s r : State) (q u : Sequential) (es : List Entry) (t : ℕ) (m : Move)
+    → IsTracked s q → refusal_of s t m ≡ None → es ≡ entries_of s t m → r ≡ next_state s t m
+    → u ≡ after_entries q es → IsTracked r u
+tracked_on s r q u es t m k a d e f =
+    rw (f, e, d) ((k.0 ++ entries_of s t m, keeps s q k.0 t m k.1 (accepted_of s t m a)))
+
+-- a call adds one entry to the history, which is no act, and does not change the sequential lock
+pub tracked_called : (s r : State) (q : Sequential) (t : ℕ) (m : Move) → IsTracked s q
+    → refusal_of s t m ≡ None → ((k : StepKind) → m ≡ Step k → ⊥) → r ≡ next_state s t m
+    → IsTracked r q
+tracked_called s r q t (Call op) k a n e =
+    rw e ((
+      k.0 ++ entries_of s t (Call op),
+      keeps s q k.0 t (Call op) k.1 (accepted_of s t (Call op) a),
+    ))
+tracked_called s r q t (Step step) k a n e = absurd (n step refl)

@@ -1,13 +1,11 @@
 -- The facts that every move of every lock keeps.
 use Rattle.std.proofs.Common.{Bool, List, None, Option, Some, false, if◌then◌else◌, length}
 use Rattle.std.proofs.Common.{nat_lt, refl, true, ℕ, ◌<◌, ◌≡◌}
-use Rattle.std.proofs.lemmas.Bool.{ltb-true}
-use Rattle.std.proofs.lemmas.List.{length-set}
-use Rattle.lk_locks.specs.State.{State, phase_at}
+use Rattle.std.proofs.{lemmas.Bool.ltb-true, lemmas.List.length-set}
+use Rattle.lk_locks.specs.{State.State, State.phase_at, invariants.WellFormed.WellFormed}
 use Rattle.lk_locks.specs.Steps.{belongs, change_of, move_change, next_state, refusal_in}
 use Rattle.lk_locks.specs.Steps.{refusal_of}
 use Rattle.lk_locks.specs.invariants.Locks.{AreLinks, IsPhaseOf}
-use Rattle.lk_locks.specs.invariants.WellFormed.{WellFormed}
 use Rattle.lk_locks.proofs.EachLock.{proof_of}
 use Rattle.lk_locks.proofs.Threads.{each_phase}
 use Rattle.lk_locks.specs.Types.{LockKind, Move, Call, Step, Phase, Refusal, NoSuchThread}

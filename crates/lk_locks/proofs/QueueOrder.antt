@@ -1,8 +1,7 @@
 -- The holders of a queue lock are apart, and enter in the order of their requests.
 use Rattle.std.proofs.Common.{◌≡◌, ℕ, List, [], ◌∷◌, ◌++◌, drop, true, Option, None, Some, ap, sym}
 use Rattle.std.proofs.Common.{◌∙◌, append_assoc, inl, inr, ◌⊎◌, refl, arith}
-use Rattle.std.proofs.lemmas.Bool.{eq-eqb}
-use Rattle.std.proofs.lemmas.List.{append-nil}
+use Rattle.std.proofs.{lemmas.Bool.eq-eqb, lemmas.List.append-nil}
 use Rattle.lk_locks.specs.Sequential.{Sequential, nobody, is_head, after_act, after_entry}
 use Rattle.lk_locks.specs.Legal.{IsEnabled, AreEnabled, OfEveryLegal}
 use Rattle.lk_locks.specs.Holding.{holder_after, one_or_none}
@@ -11,8 +10,7 @@ use Rattle.lk_locks.specs.Order.{IsInOrder, request_order, entering_order}
 use Rattle.lk_locks.proofs.Places.{HasOne, any_of}
 use Rattle.lk_locks.proofs.Histories.{holder_append, after_enabled}
 use Rattle.lk_locks.specs.Types.{Acquire, Release, Entry, Acted, Returned}
-use Rattle.lk_locks.proofs.QueueLaws.{HoldsAlong, holders_take_turns, in_order}
-use Rattle.lk_locks.proofs.QueueHeads.{HeadHolds}
+use Rattle.lk_locks.proofs.QueueLaws.{HoldsAlong, holders_take_turns, in_order, HeadHolds}
 
 -- holders are apart
 
@@ -60,10 +58,10 @@ AreServed holder queue es =
     × (one_or_none holder ++ (entering_order es ++ rest) ≡ queue ++ request_order es)
 
 -- the holder is the first of the threads that wait or hold
-served_now : (holder : Option ℕ) (queue : List ℕ) → HeadHolds holder queue
+serves_now : (holder : Option ℕ) (queue : List ℕ) → HeadHolds holder queue
     → AreServed holder queue []
-served_now None queue head_holds = (queue, sym (append-nil queue))
-served_now (Some t) queue head_holds = (
+serves_now None queue head_holds = (queue, sym (append-nil queue))
+serves_now (Some t) queue head_holds = (
   drop 1 queue,
   head_split queue t (head_holds t (eq-eqb t t refl)) ∙ sym (append-nil queue),
 )
@@ -75,28 +73,28 @@ queue_after q e es enabled =
     ap (λ now. now.queue ++ request_order es) (after_enabled q e enabled)
 
 -- the threads enter in the order in which they joined the queue
-served : (es : List Entry) (q : Sequential) (holder : Option ℕ) → AreEnabled q es
+serves : (es : List Entry) (q : Sequential) (holder : Option ℕ) → AreEnabled q es
     → HoldsAlong holder q es → AreServed holder q.queue es
-served [] q holder enabled head_holds = served_now holder q.queue head_holds
-served (Acted t Acquire ∷ es) q holder (may_act, enabled) (head_holds, may_hold, along) =
-    let (rest, is) = served es (after_entry q (Acted t Acquire)) holder enabled along in
+serves [] q holder enabled head_holds = serves_now holder q.queue head_holds
+serves (Acted t Acquire ∷ es) q holder (may_act, enabled) (head_holds, may_hold, along) =
+    let (rest, is) = serves es (after_entry q (Acted t Acquire)) holder enabled along in
     let queued = is ∙ queue_after q (Acted t Acquire) es may_act in
     (rest, queued ∙ append_assoc q.queue (t ∷ []) (request_order es))
-served (Acted t Release ∷ es) q holder (may_act, enabled) (head_holds, held, along) =
-    let (rest, is) = served es (after_entry q (Acted t Release)) None enabled along in
+serves (Acted t Release ∷ es) q holder (may_act, enabled) (head_holds, held, along) =
+    let (rest, is) = serves es (after_entry q (Acted t Release)) None enabled along in
     let split = head_split q.queue t (head_holds t (rw held (eq-eqb t t refl))) in (
       rest,
       rw held
           (ap (λ threads. t ∷ threads) (is ∙ queue_after q (Acted t Release) es may_act)
           ∙ ap (λ threads. threads ++ request_order es) split),
     )
-served (Returned t Acquire ∷ es) q holder (may_act, enabled) (head_holds, free, along) =
-    let (rest, is) = served es q (Some t) enabled along in (rest, rw free is)
-served (e ∷ es) q holder (may_act, enabled) (head_holds, may_hold, along) =
-    let (rest, is) = served es (after_entry q e) holder enabled along in
+serves (Returned t Acquire ∷ es) q holder (may_act, enabled) (head_holds, free, along) =
+    let (rest, is) = serves es q (Some t) enabled along in (rest, rw free is)
+serves (e ∷ es) q holder (may_act, enabled) (head_holds, may_hold, along) =
+    let (rest, is) = serves es (after_entry q e) holder enabled along in
     (rest, is ∙ queue_after q e es may_act)
 
 -- the law: a queue lock is entered in the order of its acquires
 pub enters_in_order : OfEveryLegal (λ kind. IsInOrder)
 enters_in_order kind n es legal =
-    served es (nobody kind) None legal.allowed (in_order kind n es legal)
+    serves es (nobody kind) None legal.allowed (in_order kind n es legal)

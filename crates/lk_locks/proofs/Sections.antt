@@ -1,21 +1,19 @@
 -- The writes of a section tell all that it changes.
-use Rattle.std.proofs.Common.{List, None, Option, Some, arith, inl, inr, length, refl, set}
-use Rattle.std.proofs.Common.{slice_index, suc, sym, zero, ℕ, ◌<◌, ◌≤◌, ◌^◌, ◌==◌, ◌∙◌, ◌≡◌, ◌≢◌}
-use Rattle.std.proofs.Common.{IfSome}
+use Rattle.std.proofs.Common.{List, None, Option, Some, arith, length, refl, slice_index, ℕ, IfSome}
+use Rattle.std.proofs.Common.{inl, inr, set, suc, sym, zero, ◌<◌, ◌≤◌, ◌^◌, ◌==◌, ◌∙◌, ◌≡◌, ◌≢◌}
 use Rattle.std.specs.Option.{option_or}
 use Rattle.std.proofs.lemmas.Bool.{cases_Bool, eq-eqb, eqb-false, eqb-true}
+use Rattle.std.proofs.lemmas.Option.{IfSome_then}
 use Rattle.std.proofs.lemmas.List.{get_or-set_other, get_or-set_same, length-set}
 use Rattle.lk_words.specs.declared.operation.Effect.{Effect}
 use Rattle.lk_locks.specs.read_write.{IsChangeOf, IsOn, Tells, change_at, change_to, word_count}
 use Rattle.lk_locks.specs.invariants.read_write.{count_with, third_word, after_writes}
-use Rattle.lk_locks.specs.Types.{Family, FifoReadWrite, Outcome, Queue, ReadWrite}
+use Rattle.lk_locks.specs.Types.{Family, Outcome}
 
 -- the words of the monitor, counted by whether there is a third one
 pub count_of_third : (family : Family) (ws : List ℕ)
     → count_with (third_word family ws) ≡ word_count family
-count_of_third Queue ws = refl
-count_of_third ReadWrite ws = refl
-count_of_third FifoReadWrite ws = refl
+count_of_third family ws = grind arith
 
 -- a section writes in the first word, and in the second or the third
 abbrev IsFirst : ℕ × ℕ → Type 0
@@ -31,24 +29,7 @@ pub record Writes (ws : List ℕ) (first other : Option (ℕ × ℕ)) : Type 0 w
   pub other_is : IfSome other (IsOther ws)
 
 few_words : (family : Family) → (2 ≤ word_count family) × (word_count family ≤ 3)
-few_words Queue = (omega arith, omega arith)
-few_words ReadWrite = (omega arith, omega arith)
-few_words FifoReadWrite = (omega arith, omega arith)
-
-first_of : (bits : ℕ) (first : Option (ℕ × ℕ))
-    → IfSome first (λ w. (w.0 ≡ 0) × (w.1 < 2 ^ bits)) → IfSome first IsFirst
-first_of bits None h = tt
-first_of bits (Some w) h = h.0
-
-other_of : (bits : ℕ) (family : Family) (ws : List ℕ) (third : Option ℕ) (other : Option (ℕ × ℕ))
-    → word_count family ≤ length ws → third ≡ third_word family ws
-    → IfSome other (λ w. (0 < w.0) × (w.0 < count_with third) × (w.1 < 2 ^ bits))
-    → IfSome other (IsOther ws)
-other_of bits family ws third None room is h = tt
-other_of bits family ws third (Some w) room is h =
-    let below : w.0 < word_count family =
-    rw (← count_of_third family ws) (rw is at h.1) in
-    (h.0, omega (arith, below, (few_words family).1), omega (arith, below, room))
+few_words family = grind arith
 
 -- a section of this family makes such writes
 pub writes_of : (bits : ℕ) (family : Family) (ws : List ℕ) (third : Option ℕ)
@@ -58,8 +39,10 @@ pub writes_of : (bits : ℕ) (family : Family) (ws : List ℕ) (third : Option �
     → Writes ws first other
 writes_of bits family ws third first other room is f o = record {
   some = omega (arith, room, (few_words family).0);
-  first_is = first_of bits first f;
-  other_is = other_of bits family ws third other room is o;
+  first_is = IfSome_then first f (λ w h. h.0);
+  other_is = IfSome_then other o (λ w h.
+      let below : w.0 < word_count family = rw (← count_of_third family ws) (rw is at h.1) in
+      (h.0, omega (arith, below, (few_words family).1), omega (arith, below, room)));
 }
 
 -- a word after the writes
@@ -116,8 +99,7 @@ first_is ws (Some (zero, x)) other w =
 first_is ws (Some (suc i, x)) other w = absurd (omega (arith, w.first_is))
 
 or_none : (change : Option Effect) → option_or change None ≡ change
-or_none None = refl
-or_none (Some e) = refl
+or_none change = grind arith
 
 pub second_is : (ws : List ℕ) (first other : Option (ℕ × ℕ)) → Writes ws first other
     → option_or (change_at ws (after_writes ws first other) 1)
@@ -141,46 +123,31 @@ second_is ws first (Some (suc (suc zero), v)) w =
     (goes_to ws (after_writes ws first (Some (2, v))) 2 v (at_other ws first 2 v w.other_is.2))
 second_is ws first (Some (i, v)) w = absurd (omega (arith, w.other_is.0, w.other_is.1))
 
-changed : (ws after : List ℕ) (i v : ℕ) → i < length ws → slice_index after i ≡ v
+write_changes : (ws after : List ℕ) (i v : ℕ) → i < length ws → slice_index after i ≡ v
     → IsChangeOf ws after (change_to ws (Some (i, v)))
-changed ws after i v h e = elim (cases_Bool (slice_index ws i == v)) [
-  | inl same ↦ rw same tt
-  | inr differs ↦ rw differs (h, refl, sym e, eqb-false (slice_index ws i) v differs)
-]
+write_changes ws after i v h e = grind arith
 
-on_to : (ws : List ℕ) (i v j : ℕ) → IsOn (change_to ws (Some (i, v))) j → i ≡ j
-on_to ws i v j = elim (cases_Bool (slice_index ws i == v)) [
-  | inl same ↦ rw same (λ on. absurd on)
-  | inr differs ↦ rw differs (λ on. on)
-]
-
-unchanged : (ws : List ℕ) (i v : ℕ) → (IsOn (change_to ws (Some (i, v))) i → ⊥)
+write_keeps : (ws : List ℕ) (i v : ℕ) → (IsOn (change_to ws (Some (i, v))) i → ⊥)
     → slice_index ws i ≡ v
-unchanged ws i v = elim (cases_Bool (slice_index ws i == v)) [
-  | inl same ↦ λ n. eqb-true (slice_index ws i) v same
-  | inr differs ↦ rw differs (λ n. absurd (n refl))
-]
+write_keeps ws i v off = grind arith
 
 first_change : (ws : List ℕ) (first other : Option (ℕ × ℕ)) → Writes ws first other
     → IsChangeOf ws (after_writes ws first other) (change_to ws first)
 first_change ws None other w = tt
 first_change ws (Some (i, x)) other w =
-    changed ws (after_writes ws (Some (i, x)) other) i x (omega (arith, w.first_is, w.some))
+    write_changes ws (after_writes ws (Some (i, x)) other) i x (omega (arith, w.first_is, w.some))
     (at_first ws i x other w)
 
 second_change : (ws : List ℕ) (first other : Option (ℕ × ℕ)) → Writes ws first other
     → IsChangeOf ws (after_writes ws first other) (change_to ws other)
 second_change ws first None w = tt
 second_change ws first (Some (i, v)) w =
-    changed ws (after_writes ws first (Some (i, v))) i v w.other_is.2
+    write_changes ws (after_writes ws first (Some (i, v))) i v w.other_is.2
     (at_other ws first i v w.other_is.2)
 
 are_apart : (ws : List ℕ) (first other : Option (ℕ × ℕ)) → Writes ws first other → (j : ℕ)
     → IsOn (change_to ws first) j → IsOn (change_to ws other) j → ⊥
-are_apart ws None other w j a b = a
-are_apart ws (Some (i, x)) None w j a b = b
-are_apart ws (Some (i, x)) (Some (k, v)) w j a b =
-    omega (arith, w.first_is, w.other_is.0, on_to ws i x j a, on_to ws k v j b)
+are_apart ws first other w j a b = grind arith
 
 -- at a word that is told unchanged each write leaves what it finds
 off_or_same : (ws after : List ℕ) (write : Option (ℕ × ℕ)) (j : ℕ)
@@ -192,16 +159,16 @@ off_or_same ws after None j n is other = other tt
 off_or_same ws after (Some (i, v)) j n is other = elim (cases_Bool (j == i)) [
   | inl same ↦
       let e : j ≡ i = eqb-true j i same in
-      is v (rw e refl) ∙ sym (unchanged ws j v (rw (← e) at n))
+      is v (rw e refl) ∙ sym (write_keeps ws j v (rw (← e) at n))
   | inr differs ↦ other (eqb-false j i differs)
 ]
 
 -- the effect of a section that makes such writes tells all that the section does
-pub told : (ws : List ℕ) (first other : Option (ℕ × ℕ)) (outcome : Outcome)
+pub section_tells : (ws : List ℕ) (first other : Option (ℕ × ℕ)) (outcome : Outcome)
     → Writes ws first other
     → Tells (record { first = change_to ws first; second = change_to ws other; outcome = outcome })
     ws (after_writes ws first other)
-told ws first other outcome w = record {
+section_tells ws first other outcome w = record {
   first_is = first_change ws first other w;
   second_is = second_change ws first other w;
   apart = are_apart ws first other w;

@@ -1,24 +1,14 @@
 -- Lists of threads.
-use Rattle.std.proofs.Common.{Bool, List, [], arith, eqb, false, inl, inr, length, refl, set, sym}
-use Rattle.std.proofs.Common.{replicate, true, ℕ, ◌++◌, ◌<◌, ◌∙◌, ◌∷◌, ◌≡◌, ◌≢◌, ◌⊎◌, drop, Option}
-use Rattle.std.proofs.Common.{Some}
-use Rattle.std.proofs.lemmas.Bool.{cases_lt, eqb-false, ne_eqb}
-use Rattle.std.proofs.lemmas.Bool.{or_parts, or_right}
-use Rattle.std.proofs.lemmas.Bool.Decides.{eqb_tells}
+use Rattle.std.proofs.Common.{List, [], arith, eqb, false, inl, inr, length, set, replicate, true}
+use Rattle.std.proofs.Common.{ℕ, ◌++◌, ◌<◌, ◌∙◌, ◌∷◌, ◌≡◌, ◌≢◌, drop, Option, Some}
+use Rattle.std.proofs.lemmas.Bool.{cases_lt, ne_eqb, or_parts, or_right}
+use Rattle.std.proofs.lemmas.Bool.Decides.{eqb_tells, nat_tests}
+use Rattle.std.proofs.{Math.Bool.or-false, lemmas.List.Folds.list_any-append}
 use Rattle.std.proofs.lemmas.List.{get_or-replicate, get_or-set_other, get_or-set_same, get_or_past}
 use Rattle.std.proofs.lemmas.List.{length-replicate}
-use Rattle.std.proofs.lemmas.List.Folds.{list_any-append}
 use Rattle.std.specs.List.{AllByRecursion, IsDistinct}
-use Rattle.lk_locks.specs.Sequential.{has}
-use Rattle.lk_locks.specs.State.{phase_at}
+use Rattle.lk_locks.specs.{Sequential.has, State.phase_at, Types.Phase, Types.Idle}
 use Rattle.lk_locks.specs.invariants.Threads.{EachOnce, is_this}
-use Rattle.lk_locks.specs.Types.{Phase, Idle}
-use Rattle.std.proofs.Math.Bool.{or-false}
-
--- a test is true or false
-pub true_or_false : (b : Bool) → (b ≡ true) ⊎ (b ≡ false)
-true_or_false true = inl refl
-true_or_false false = inr refl
 
 -- a thread that the test finds in a place is there
 pub this_is : (place : Option ℕ) (t : ℕ) → is_this place t ≡ true → place ≡ Some t
@@ -44,19 +34,12 @@ more_same q t = list_any-append (eqb t) q (t ∷ []) ∙ or_right (has q t) _ (f
 -- if all in a list are below a number, and a thread is, so are all in the list with this thread
 pub members_more : (n : ℕ) (q : List ℕ) (t : ℕ) → t < n → ((u : ℕ) → has q u ≡ true → u < n)
     → (u : ℕ) → has (q ++ t ∷ []) u ≡ true → u < n
-members_more n q t fits below u member = elim (eqb_tells u t) [
-  | inl (_, same) ↦ rw same fits
-  | inr (_, other) ↦ below u (sym (more_other q t u other) ∙ member)
-]
+members_more n q t fits below u member = grind (arith, nat_tests, more_other q t u, below u)
 
 -- a thread that is not in a list may be appended, and each is in it once
 pub once_more : (q : List ℕ) (t : ℕ) → EachOnce q → has q t ≡ false → EachOnce (q ++ t ∷ [])
-once_more [] t once absent = (refl, tt)
-once_more (u ∷ q) t (u_once, once) absent =
-    let (differ, not_in) = or_parts (eqb t u) (has q t) absent in (
-      more_other q t u (λ same. eqb-false t u differ (sym same)) ∙ u_once,
-      once_more q t once not_in,
-    )
+once_more [] t once absent = grind arith
+once_more (u ∷ q) t once absent = grind (arith, nat_tests, more_other q t u, once_more q t)
 
 -- a thread that is not in a list differs from each thread in it
 apart_of_has : (q : List ℕ) (t : ℕ) → has q t ≡ false → AllByRecursion (λ y. eqb t y ≡ false) q

@@ -1,9 +1,7 @@
 -- Sums of words, which wrap.
-use Rattle.std.proofs.Common.{ap, arith, inl, inr, ℕ, ◌%◌, ◌+◌, ◌-◌, ◌<◌, ◌≤◌, ◌^◌}
-use Rattle.std.proofs.Common.{◌∙◌, ◌≡◌}
+use Rattle.std.proofs.Common.{ap, arith, inl, inr, ℕ, ◌%◌, ◌+◌, ◌-◌, ◌<◌, ◌≤◌, ◌^◌, ◌∙◌, ◌≡◌}
 use Rattle.std.proofs.Math.Nat.{mod-add-mod, mod-eq-sub-mod, mod-eq_of_lt, mod-lt}
-use Rattle.std.proofs.lemmas.Bool.{cases_lt}
-use Rattle.std.proofs.lemmas.Nat.{pow_below, pow_pos}
+use Rattle.std.proofs.{lemmas.Bool.cases_lt, lemmas.Nat.pow_below, lemmas.Nat.pow_pos}
 use Rattle.lk_locks.specs.Change.{plus_one}
 
 -- one more and then k more is k + 1 more, also if the word wraps around

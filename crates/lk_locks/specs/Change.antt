@@ -1,12 +1,11 @@
 -- Definitions. The change that a step makes, the entries that it adds, and the arithmetic of words.
 use Rattle.std.specs.Prelude.{ℕ, ◌+◌, ◌-◌, ◌%◌, ◌^◌, List, set, slice_index, Option, None, Some, []}
-use Rattle.std.specs.Prelude.{◌∷◌}
-use Rattle.lk_words.specs.Operations.{Performed, performed}
+use Rattle.std.specs.Prelude.{◌∷◌, ◌≡◌}
+use Rattle.lk_words.specs.Operations.{effect_on, words_after}
 use Rattle.lk_words.specs.declared.operation.Operation.{Operation}
 use Rattle.lk_words.specs.declared.operation.Answer.{Answer}
 use Rattle.lk_locks.specs.Types.{StepKind, Read, Write, Swap, Cas, Add, Phase, Outcome, Waits}
-use Rattle.lk_locks.specs.Types.{Family, FifoReadWrite, Op}
-use Rattle.lk_locks.specs.Types.{WriteLock, Entry, Announced, Acted}
+use Rattle.lk_locks.specs.Types.{Family, FifoReadWrite, Op, WriteLock, Entry, Announced, Acted}
 use Rattle.lk_locks.specs.Types.{Returned}
 use Rattle.lk_locks.specs.declared.entries.Added.{Added}
 use Rattle.lk_locks.specs.declared.entries.Added.TheVariants as added
@@ -22,6 +21,12 @@ pub record Change : Type 0 where
 abbrev pub to : List ℕ → Phase → Outcome → Change
 to words phase outcome = record { words = words; phase = phase; outcome = outcome }
 
+-- these words, and a thread's new phase with the outcome, make the change
+pub record Makes (words : List ℕ) (answer : Phase × Outcome) (change : Change) : Type 0 where
+  pub words_are : words ≡ change.words
+  pub phase_is : answer.0 ≡ change.phase
+  pub outcome_is : answer.1 ≡ change.outcome
+
 -- the kind of step that an operation is
 abbrev pub kind_of : Operation → StepKind
 kind_of (op.Read i) = Read
@@ -35,8 +40,8 @@ abbrev pub step_by : (Phase → Answer → Phase × Outcome) → ℕ → List �
     → Change
 step_by after bits ws p None = to ws p Waits
 step_by after bits ws p (Some operation) =
-    let made : Performed = performed bits ws operation in
-    to made.words (after p made.answer).0 (after p made.answer).1
+    let next : Phase × Outcome = after p (effect_on bits ws operation).answer in
+    to (words_after bits ws operation) next.0 next.1
 
 -- sums of words of `bits` bits wrap
 abbrev pub plus_one : ℕ → ℕ → ℕ

@@ -5,7 +5,7 @@ use Rattle.lk_locks.specs.Change.{Change, kind_of}
 use Rattle.lk_locks.specs.read_write.{Tells}
 use Rattle.lk_locks.specs.Types.{Outcome, StepEffect, OneWord, Monitor, Family, Queue, Move, Call}
 use Rattle.lk_locks.specs.Types.{Step, StepKind}
-use Rattle.lk_words.specs.Operations.{performed}
+use Rattle.lk_words.specs.Operations.{words_after}
 use Rattle.lk_words.specs.declared.operation.Operation.{Operation}
 use Rattle.lk_locks.specs.State.{State, phase_at}
 use Rattle.lk_locks.specs.Locks.{family_of, operation_of}
@@ -27,7 +27,7 @@ IsEffectOf change before (Monitor section) =
 abbrev pub IsMade : Family → ℕ → List ℕ → StepKind → Option Operation → List ℕ → Type 0
 IsMade Queue bits ws kind None after = ⊥
 IsMade Queue bits ws kind (Some operation) after =
-    (kind_of operation ≡ kind) × ((performed bits ws operation).words ≡ after)
+    (kind_of operation ≡ kind) × (words_after bits ws operation ≡ after)
 IsMade family bits ws kind operation after = Unit {0}
 
 -- A call leaves the words as they are. A step of a queue lock leaves what its operation leaves. A

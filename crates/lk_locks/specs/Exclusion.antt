@@ -4,9 +4,8 @@ use Rattle.lk_locks.specs.Locks.{family_of}
 use Rattle.lk_locks.specs.Sequential.{Sequential, nobody, is_head}
 use Rattle.lk_locks.specs.Legal.{Legal, after_entries}
 use Rattle.lk_locks.specs.Holding.{holder_after}
-use Rattle.lk_locks.specs.Types.{LockKind, RwFifo, Queue, Acquire, Release, ReadLock, ReadUnlock}
-use Rattle.lk_locks.specs.Types.{WriteLock, WriteUnlock, Downgrade, Entry, Announced, Acted}
-use Rattle.lk_locks.specs.Types.{Returned}
+use Rattle.lk_locks.specs.Types.{LockKind, ReadUnlock, WriteLock, WriteUnlock, Downgrade, Announced}
+use Rattle.lk_locks.specs.Types.{RwFifo, Queue, Acquire, Release, ReadLock, Entry, Acted, Returned}
 
 -- between each a and each later b is an entry that meets P
 abbrev pub Between : Entry → Entry → (Entry → Type 0) → List Entry → Type 0

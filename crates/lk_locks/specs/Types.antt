@@ -9,9 +9,8 @@ pub use Rattle.lk_locks.specs.declared.kinds.LockKind.TheVariants.{Mcs, RwFifo, 
 pub use Rattle.lk_locks.specs.declared.kinds.Move.{Move}
 pub use Rattle.lk_locks.specs.declared.kinds.Move.TheVariants.{Call, Step}
 pub use Rattle.lk_locks.specs.declared.kinds.Op.{Op}
-pub use Rattle.lk_locks.specs.declared.kinds.Op.TheVariants.{Acquire, Downgrade, ReadLock}
-pub use Rattle.lk_locks.specs.declared.kinds.Op.TheVariants.{ReadUnlock, Release, WriteLock}
-pub use Rattle.lk_locks.specs.declared.kinds.Op.TheVariants.{WriteUnlock}
+pub use Rattle.lk_locks.specs.declared.kinds.Op.TheVariants.{Downgrade, ReadUnlock, WriteUnlock}
+pub use Rattle.lk_locks.specs.declared.kinds.Op.TheVariants.{Acquire, ReadLock, Release, WriteLock}
 pub use Rattle.lk_locks.specs.declared.kinds.Outcome.{Outcome}
 pub use Rattle.lk_locks.specs.declared.kinds.Outcome.TheVariants.{Called, Entered, Left, Moved}
 pub use Rattle.lk_locks.specs.declared.kinds.Outcome.TheVariants.{Waits}

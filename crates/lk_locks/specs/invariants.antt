@@ -8,5 +8,4 @@ pub mod rw_simple
 pub mod rw_fifo
 pub mod Locks
 pub mod WellFormed
-pub mod SequentialKept
 pub mod Kept

@@ -13,10 +13,9 @@ use Rattle.lk_words.specs.declared.operation.Operation.TheVariants.{CompareAndSw
 use Rattle.lk_words.specs.declared.operation.Answer.{Answer}
 use Rattle.lk_words.specs.declared.operation.Answer.TheVariants.{Found, Swapped}
 use Rattle.lk_locks.specs.Change.{acts}
-use Rattle.lk_locks.specs.Types.{Phase, Idle, ClearNext, SwapTail, SetLocked, LinkTo, AwaitGrant}
-use Rattle.lk_locks.specs.Types.{McsInside, ReadNext, CasTail, AwaitLink, Grant, Op, Acquire}
-use Rattle.lk_locks.specs.Types.{Release, Outcome, Moved, Waits, Entered, Left, Entry, Acted}
-use Rattle.lk_locks.specs.Types.{Returned}
+use Rattle.lk_locks.specs.Types.{ClearNext, SwapTail, SetLocked, AwaitGrant, McsInside, AwaitLink}
+use Rattle.lk_locks.specs.Types.{ReadNext, CasTail, Acquire, Release, Outcome, Entered, Returned}
+use Rattle.lk_locks.specs.Types.{Phase, Idle, LinkTo, Grant, Op, Moved, Waits, Left, Entry, Acted}
 
 -- The index of each word: `tail` names the last thread of the queue, or is nil; thread i's `next`
 -- names its successor, and its `locked` is 1 while it has to wait.

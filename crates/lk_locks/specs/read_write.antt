@@ -8,15 +8,13 @@ use Rattle.std.specs.Prelude.{◌≡◌, ◌≢◌, ◌==◌, if◌then◌else�
 use Rattle.std.specs.Option.{option_or}
 use Rattle.lk_words.specs.declared.operation.Answer.TheVariants.{Nothing}
 use Rattle.lk_words.specs.declared.operation.Effect.{Effect}
-use Rattle.lk_locks.specs.Change.{acts, announcement}
-use Rattle.lk_locks.specs.Change.{Change}
+use Rattle.lk_locks.specs.Change.{acts, announcement, Change}
 use Rattle.lk_locks.specs.rw_fifo
 use Rattle.lk_locks.specs.rw_simple
-use Rattle.lk_locks.specs.Types.{Family, FifoReadWrite, Phase, Idle, TryRead, Reading, LeaveRead}
-use Rattle.lk_locks.specs.Types.{TryWrite, AwaitReaders, Writing, LeaveWrite, TryDowngrade, Op}
-use Rattle.lk_locks.specs.Types.{ReadLock, ReadUnlock, WriteLock, WriteUnlock, Downgrade, StepKind}
-use Rattle.lk_locks.specs.Types.{Section, SectionEffect, Outcome, Moved, Entered, Left, Entry}
-use Rattle.lk_locks.specs.Types.{Announced}
+use Rattle.lk_locks.specs.Types.{FifoReadWrite, TryWrite, AwaitReaders, TryDowngrade, SectionEffect}
+use Rattle.lk_locks.specs.Types.{TryRead, LeaveRead, LeaveWrite, ReadUnlock, WriteLock, WriteUnlock}
+use Rattle.lk_locks.specs.Types.{Family, Reading, Writing, ReadLock, Downgrade, StepKind, Announced}
+use Rattle.lk_locks.specs.Types.{Phase, Idle, Op, Section, Outcome, Moved, Entered, Left, Entry}
 
 -- the calls that a thread in this phase may make, and the phases to which they lead
 abbrev pub after_call : Phase → Op → Option Phase

@@ -8,7 +8,7 @@ ghost use Rattle.lk_locks.specs.State.{phase_at, start_of};
 ghost use Rattle.lk_locks.specs.Steps.{refusal_of, change_of};
 ghost use Rattle.lk_locks.specs.Locks.{step_due, word_count};
 ghost use Rattle.lk_locks.specs.MainTheorem.{IsAsPromised};
-ghost use Rattle.lk_locks.specs.Holding.{holding, holding_of, waiting_of, IsListed};
+ghost use Rattle.lk_locks.specs.Holding.{as_holding, holding_of, waiting_of, IsListed};
 
 use crate::{
     Entry, History, Holders, LockKind, Machine, Move, Outcome, PlayFault, Shape, StepKind, Tracker,
@@ -114,8 +114,8 @@ impl<W: Words> Keeper<W> {
     /// The present holders, by the history. A thread with a pending release of a queue lock still
     /// holds it. The cost does not depend on the length of the history.
     pub fn holders(&self) -> Holders
-        ensures holding { holding result ≡ holding_of self.now.state.kind self.now.entries }
-        ensures listed { IsListed (holding result) }
+        ensures holding { as_holding result ≡ holding_of self.now.state.kind self.now.entries }
+        ensures listed { IsListed (as_holding result) }
     {
         self.lock.holders()
     }

@@ -2,7 +2,7 @@
 //! the locks share calls these, and knows no lock.
 
 ghost use Rattle.std.specs.Prelude.{◌≡◌, ◌≤◌, ℕ, IfSome};
-ghost use Rattle.lk_locks.specs.Change.{entries_by, kind_of};
+ghost use Rattle.lk_locks.specs.Change.{Makes, entries_by, kind_of};
 ghost use Rattle.lk_locks.specs.Locks.{family_of, word_count, after_call, step_due};
 ghost use Rattle.lk_locks.specs.Locks.{operation_of, effect_of, step_of, step_entries};
 ghost use Rattle.lk_locks.specs.Effects.{IsEffectOf};
@@ -27,7 +27,7 @@ pub fn family_of(kind: LockKind) -> Family
     }
 }
 
-/// How many words a lock of this kind needs with so many threads.
+/// The number of words that a lock of this kind needs with so many threads.
 pub fn words_needed(kind: LockKind, threads: u8) -> usize
     ensures { result ≡ word_count kind threads }
 {
@@ -89,7 +89,8 @@ fn kind_of(operation: Operation) -> StepKind
     }
 }
 
-/// What a thread in this phase does next, if that is one operation on one word of so many bits.
+/// The operation that a thread in this phase makes next, on one word of so many bits. There is none
+/// if its next step is a section.
 #[inline(always)]
 pub fn operation_of(kind: LockKind, bits: u8, thread: u8, phase: Phase) -> Option<Operation>
     requires least { 2 ≤ bits }
@@ -140,12 +141,8 @@ pub(crate) fn take_step<W: Words>(
 ) -> (Phase, Outcome)
     requires ready { IsReady kind (W.width words.old) (W.list words.old) thread phase }
     requires due { operation ≡ operation_of kind (W.width words.old) thread phase }
-    ensures words { W.list words.new
-        ≡ (step_of kind (W.width words.old) (W.list words.old) thread phase).words }
-    ensures phase { result.0
-        ≡ (step_of kind (W.width words.old) (W.list words.old) thread phase).phase }
-    ensures outcome { result.1
-        ≡ (step_of kind (W.width words.old) (W.list words.old) thread phase).outcome }
+    ensures change { Makes (W.list words.new) result
+        (step_of kind (W.width words.old) (W.list words.old) thread phase) }
     ensures width { W.width words.new ≡ W.width words.old }
 {
     match kind {
@@ -162,7 +159,7 @@ pub(crate) fn take_step<W: Words>(
     }
 }
 
-/// What the next step of a thread in this phase would do, if it has one.
+/// The effect that the next step of a thread in this phase would have, if it has one.
 pub(crate) fn effect_of(
     words: &WordArray,
     kind: LockKind,

@@ -29,8 +29,8 @@ fn record(thread: u8) -> u64
     thread as u64 + 1
 }
 
-// The thread of a record that is not nil.
-fn thread_of(link: u64) -> u8
+// The thread whose record this link names; it is not nil.
+fn owner_of(link: u64) -> u8
     requires least { 0 < link }
     requires most { link ≤ 64 }
     ensures { result ≡ link - 1 }
@@ -117,13 +117,13 @@ pub fn after(phase: Phase, answer: Answer) -> (Phase, Outcome)
             (Phase::McsInside, Outcome::Entered)
         }
         (Phase::SwapTail, Answer::Found(link)) => {
-            (Phase::SetLocked(thread_of(link)), Outcome::Moved)
+            (Phase::SetLocked(owner_of(link)), Outcome::Moved)
         }
         (Phase::SetLocked(predecessor), _) => (Phase::LinkTo(predecessor), Outcome::Moved),
         (Phase::LinkTo(_), _) => (Phase::AwaitGrant, Outcome::Moved),
         (Phase::ReadNext, Answer::Found(0)) => (Phase::CasTail, Outcome::Moved),
         (Phase::ReadNext | Phase::AwaitLink, Answer::Found(link)) if link != 0 => {
-            (Phase::Grant(thread_of(link)), Outcome::Moved)
+            (Phase::Grant(owner_of(link)), Outcome::Moved)
         }
         // nobody came after this thread: the queue is empty again
         (Phase::CasTail, Answer::Swapped(true)) => (Phase::Idle, Outcome::Left),

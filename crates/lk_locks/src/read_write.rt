@@ -6,7 +6,7 @@
 //! addition.
 
 ghost use Rattle.std.specs.Prelude.{◌≡◌, ◌<◌, ◌≤◌, ◌^◌, List, ℕ, IfSome, length, slice_index};
-ghost use Rattle.lk_locks.specs.Change.{entries_by};
+ghost use Rattle.lk_locks.specs.Change.{Makes, entries_by};
 ghost use Rattle.lk_locks.specs.read_write.{word_count, after_call, step_due, step, entries};
 ghost use Rattle.lk_locks.specs.read_write.{Tells, change_to, effect};
 ghost use Rattle.lk_locks.specs.invariants.read_write.{IsSection, count_with, third_word};
@@ -120,12 +120,8 @@ fn third_of(words: &WordArray, family: Family) -> Option<u64>
 #[inline(always)]
 pub fn step<W: Words>(words: &mut W, family: Family, phase: Phase) -> (Phase, Outcome)
     requires { word_count family ≤ length (W.list words.old) }
-    ensures words { W.list words.new
-        ≡ (step family (W.width words.old) (W.list words.old) phase).words }
-    ensures phase { result.0
-        ≡ (step family (W.width words.old) (W.list words.old) phase).phase }
-    ensures outcome { result.1
-        ≡ (step family (W.width words.old) (W.list words.old) phase).outcome }
+    ensures change { Makes (W.list words.new) result
+        (step family (W.width words.old) (W.list words.old) phase) }
     ensures width { W.width words.new ≡ W.width words.old }
 {
     let bits = words.bits();

@@ -7,19 +7,19 @@ ghost use Rattle.lk_locks.specs.Refusals.{message_of, name_of, text_of};
 use crate::Refusal;
 
 // A refusal's name, its message, and both.
-macro_rules! words {
+macro_rules! texts {
     ($refusal:expr; $($pattern:pat => $name:literal $message:literal,)+) => {
         match $refusal { $($pattern => ($name, $message, concat!($name, ": ", $message)),)+ }
     };
 }
 
 impl Refusal {
-    fn words(self) -> (&'static str, &'static str, &'static str)
+    fn texts(self) -> (&'static str, &'static str, &'static str)
         ensures name { result.0.now ≡ name_of self }
         ensures message { result.1.now ≡ message_of self }
         ensures text { result.2.now ≡ text_of self }
     {
-        words!(self;
+        texts!(self;
             Refusal::NoSuchThread => "NoSuchThread" "no such thread",
             Refusal::WrongLock => "WrongLock" "the lock has no such operation or step",
             Refusal::Busy => "Busy" "the thread has a pending call",
@@ -35,20 +35,20 @@ impl Refusal {
         ensures name { result.now ≡ name_of self }
         ensures short { length result.now ≤ 14 }
     {
-        self.words().0
+        self.texts().0
     }
 
     /// Its message, as `Display` writes it.
     pub fn message(self) -> &'static str
         ensures { result.now ≡ message_of self }
     {
-        self.words().1
+        self.texts().1
     }
 
     /// Its name and its message.
     pub fn text(self) -> &'static str
         ensures { result.now ≡ text_of self }
     {
-        self.words().2
+        self.texts().2
     }
 }

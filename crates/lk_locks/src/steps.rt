@@ -2,6 +2,7 @@
 //! words.
 
 ghost use Rattle.std.specs.Prelude.{◌≡◌};
+ghost use Rattle.lk_locks.specs.Change.{Makes};
 ghost use Rattle.lk_locks.specs.Locks.{operation_of};
 ghost use Rattle.lk_locks.specs.Steps.{refusal_at, refusal_in, move_change};
 ghost use Rattle.lk_locks.specs.invariants.WellFormed.{IsReady};
@@ -10,7 +11,7 @@ use crate::locks::{after_call, step_due, take_step};
 use crate::{LockKind, Move, Outcome, Phase, Refusal, StepKind};
 use lk_words::{Operation, Words};
 
-/// Why a move of a thread in this phase is refused, if it belongs to the lock.
+/// The refusal of a move that belongs to the lock, by a thread in this phase, if there is one.
 #[inline(always)]
 pub fn refusal_in(kind: LockKind, phase: Phase, action: Move) -> Option<Refusal>
     ensures { result ≡ refusal_in kind phase action }
@@ -30,8 +31,8 @@ pub(crate) fn refusal_at(
 {
     match (due, action) {
         (None, Move::Call(op)) if after_call(kind, phase, op).is_some() => None,
-        // What an idle thread may call acquires, and a thread that is not idle holds. A second
-        // table of who may release could disagree.
+        // A call that an idle thread may make acquires, and a thread that is not idle holds. A
+        // second table of who may release could disagree.
         (None, Move::Call(op)) if after_call(kind, Phase::Idle, op).is_some() => {
             Some(Refusal::AlreadyHolds)
         }
@@ -56,12 +57,8 @@ pub fn make_move<W: Words>(
 ) -> (Phase, Outcome)
     requires ready { IsReady kind (W.width words.old) (W.list words.old) thread phase }
     requires due { operation ≡ operation_of kind (W.width words.old) thread phase }
-    ensures words { W.list words.new
-        ≡ (move_change kind (W.width words.old) (W.list words.old) thread phase action).words }
-    ensures phase { result.0
-        ≡ (move_change kind (W.width words.old) (W.list words.old) thread phase action).phase }
-    ensures outcome { result.1
-        ≡ (move_change kind (W.width words.old) (W.list words.old) thread phase action).outcome }
+    ensures change { Makes (W.list words.new) result
+        (move_change kind (W.width words.old) (W.list words.old) thread phase action) }
     ensures width { W.width words.new ≡ W.width words.old }
 {
     match action {

@@ -20,43 +20,51 @@ pub fn every_run_is_as_promised()
 {}
 
 /// An acquire returns only if nobody holds the queue lock, and only its holder releases it.
+#[tactic(auto, using(crate::proofs::QueueLaws::holders_take_turns))]
 pub fn holders_take_turns()
     ensures { OfEveryLegal (λ kind. IsHeldInTurn None) }
 {}
 
 /// Between the returns of two acquires is the act of the first one's release.
+#[tactic(auto, using(crate::proofs::QueueOrder::holders_are_apart))]
 pub fn holders_are_apart()
     ensures { OfEveryLegal (λ kind. HasOneHolder) }
 {}
 
 /// The holder of a queue lock is the head of its queue.
+#[tactic(auto, using(crate::proofs::QueueLaws::holder_is_head))]
 pub fn holder_is_head()
     ensures { OfEveryLegal IsHeldByHead }
 {}
 
 /// A queue lock is entered in the order of its tickets or swaps.
+#[tactic(auto, using(crate::proofs::QueueOrder::enters_in_order))]
 pub fn enters_in_order()
     ensures { OfEveryLegal (λ kind. IsInOrder) }
 {}
 
 /// Between the acts of two writers the first stops writing.
+#[tactic(auto, using(crate::proofs::SharedLaws::never_two_writers))]
 pub fn never_two_writers()
     ensures { OfEveryLegal (λ kind. HasOneWriter) }
 {}
 
 /// Between the acts of a writer and a reader the first stops writing or reading, and at no moment
 /// are there both.
+#[tactic(auto, using(crate::proofs::SharedLaws::never_a_writer_beside_a_reader))]
 pub fn never_a_writer_beside_a_reader()
     ensures { OfEveryLegal IsNeverBesideReader }
 {}
 
 /// No reader enters between a FIFO writer's announcement and its entering, and no other writer
 /// announces itself.
+#[tactic(auto, using(crate::proofs::SharedLaws::announced_writer_goes_first))]
 pub fn announced_writer_goes_first()
     ensures { AnnouncedWriterGoesFirst }
 {}
 
 /// Each finished call has acted once, between its call and its return.
+#[tactic(auto, using(crate::proofs::CallLaws::calls_act_once))]
 pub fn calls_act_once()
     ensures { OfEveryLegal ActsOnce }
 {}

@@ -3,13 +3,12 @@
 
 ghost use Rattle.std.specs.Prelude.{◌≡◌, [], IfOk};
 ghost use Rattle.lk_locks.specs.Change.{entries_by};
-ghost use Rattle.lk_locks.specs.Holding.{holder_after, holding, IsListed};
+ghost use Rattle.lk_locks.specs.Holding.{holder_after, as_holding, IsListed};
 ghost use Rattle.lk_locks.specs.Play.{Tracked, tracker_of, tracker_after, holding_in, waiting_in};
 ghost use Rattle.lk_locks.specs.invariants.Kept.{IsRecorded, IsTracked};
 ghost use Rattle.lk_locks.specs.State.{start_of};
 ghost use Rattle.lk_locks.specs.Sequential.{nobody};
-ghost use Rattle.lk_locks.specs.Steps.{change_of, refusal_of, refused_with};
-ghost use Rattle.lk_locks.specs.Steps.{entries_of};
+ghost use Rattle.lk_locks.specs.Steps.{change_of, refusal_of, refused_with, entries_of};
 
 use crate::entries::Added;
 use crate::holders::copy_of;
@@ -106,8 +105,8 @@ impl<W: Words> Tracker<W> {
 
     /// The present holders. A thread with a pending release of a queue lock still holds it.
     pub fn holders(&self) -> Holders
-        ensures holding { holding result ≡ holding_in self.now }
-        ensures listed { IsListed (holding result) }
+        ensures holding { as_holding result ≡ holding_in self.now }
+        ensures listed { IsListed (as_holding result) }
     {
         match family_of(self.machine.kind()) {
             Family::Queue => match self.holder {

@@ -1,4 +1,4 @@
--- How an order ends, by the step that is most certainly wrong. All is placed if there is none.
+-- The end of an order, by the step that is most certainly wrong. All is placed if there is none.
 use Rattle.std.proofs.Common.{◌≡◌, ℕ, ◌<◌, ◌≤◌, List, Some, None, length, get_or}
 use Rattle.std.proofs.Common.{◌∙◌, inl, inr, arith}
 use Rattle.std.specs.List.{slice_get}

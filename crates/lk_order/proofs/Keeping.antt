@@ -1,4 +1,4 @@
--- What is kept of an order stays so when a line is placed, and when none is.
+-- The record of an order stays true when a line is placed, and when none is.
 use Rattle.std.proofs.Common.{◌≡◌, ℕ, ◌+◌, ◌<◌, List, [], ◌∷◌, ◌++◌, Option, Some, None, Ok}
 use Rattle.std.proofs.Common.{Err, length, map, get_or, set, refl, sym, ap, ap₂, ◌∙◌, subst, arith}
 use Rattle.std.proofs.Common.{◌↔◌, IsTrue, inl, inr}
@@ -117,7 +117,7 @@ kept_more o places places' at t line place kept more next own small long agrees 
           (counted_more o line at long (omega (arith, own)) kept.counted);
     }
 
--- what is answered of the next line
+-- the answer to the next line
 pub after_placed : (o : Ordered) (t : ℕ) (line : TraceLine) (made : Made)
     → next_line o t ≡ Some line → Ok made ≡ answer_to o.lock line
     → with_line o line ≡ after_next o (next_line o t)

@@ -1,5 +1,5 @@
--- Definitions. How an order ends: with all lines placed, at the end of a log that was cut short, or
--- at the step that is most certainly wrong.
+-- Definitions. An order ends with all lines placed, at the end of a log that was cut short, or at
+-- the step that is most certainly wrong.
 use Rattle.std.specs.Prelude.{◌≡◌, ◌≢◌, ℕ, ◌<◌, ◌≤◌, Option, Some, None, IsSomeAnd}
 use Rattle.std.specs.List.{All, slice_get}
 use Rattle.std.specs.Option.{option_map_or}

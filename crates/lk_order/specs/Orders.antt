@@ -52,7 +52,7 @@ AreIdle c = All (λ phase. phase ≡ Idle) c.lock.state.phases
 abbrev pub IsQuiet : Ordered → ℕ → Type 0
 IsQuiet o k = AreIdle (after_lines (new_lock o.header) (take k o.trace))
 
--- what is promised of an order
+-- the promise about an order
 pub record IsOrder (o : Ordered) : Type 0 where
   pub run : IsRunOf o.header o.logs
   pub accepted : IsAccepted (new_lock o.header) o.trace

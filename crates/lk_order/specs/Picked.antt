@@ -1,5 +1,5 @@
--- Definitions. How an order is kept: which line of whose log each step is, after which steps nobody
--- is in a call or holds, and how many lines of each thread are placed.
+-- Definitions. The record of an order: which line of whose log each step is, after which steps
+-- nobody is in a call or holds, and how many lines of each thread are placed.
 use Rattle.std.specs.Prelude.{◌≡◌, ℕ, ◌+◌, ◌<◌, ◌↔◌, IsTrue, Some, List, length, map}
 use Rattle.std.specs.Prelude.{slice_index_or}
 use Rattle.std.specs.List.{All, slice_get}

@@ -50,7 +50,7 @@ struct Next {
     asleep: bool,
 }
 
-// What a line gives as found.
+// The value that a line gives as found.
 fn found_of(line: TraceLine) -> Option<u64> {
     match line.seen {
         Seen::OnWord { found, .. } => found,
@@ -108,7 +108,7 @@ fn has_other_value(order: &Order, next: &Next) -> bool {
     place < words.size() && words.get(place) != found
 }
 
-/// What is known of a run, and how far its steps are placed.
+/// The facts known of a run, and the next lines of its threads.
 #[derive(Drop)]
 pub struct Engine {
     next: [Option<Next>; 64],

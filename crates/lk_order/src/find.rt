@@ -23,7 +23,7 @@ pub struct Stuck {
     pub difference: Option<Difference>,
 }
 
-/// How an order ends.
+/// The end of an order.
 #[derive(Clone, Copy, PartialEq, Eq, Debug)]
 pub enum Ending {
     /// All lines of all logs are placed, and no log was cut short.
@@ -35,7 +35,7 @@ pub enum Ending {
     Stuck(Stuck),
 }
 
-/// What was found: an order, and how it ends.
+/// An order that was found, and its ending.
 #[derive(Drop)]
 pub struct Found {
     pub order: Order,

@@ -18,8 +18,8 @@
 //! while let Some(piece) = pieces.next_piece() { .. }      // moves of the order, for a schedule
 //! ```
 //!
-//! What is answered is an order whatever way it was found: each step was made by the checker of
-//! traces, with its values, and each thread's steps are the first of its log.
+//! The answer is an order whatever way it was found: each step was made by the checker of traces,
+//! with its values, and each thread's steps are the first of its log.
 #![tactic(auto)]
 
 mod engine;

@@ -1,16 +1,42 @@
--- What is written at the end is what the text says.
-use Rattle.std.proofs.Common.{◌≡◌, ℕ, List, [], ◌++◌, length, take, drop, Option}
-use Rattle.std.proofs.Common.{Result, Ok, refl, ap, ◌∙◌}
-use Rattle.lk_locks.specs.Play.{Tracked, tracker_of, holding_in, waiting_in}
+-- The bytes that are written at the end are those of the text.
+use Rattle.std.proofs.Common.{◌≡◌, List, [], ◌∷◌, ◌++◌, Option, None, Some, sym, ◌∙◌, append_assoc}
+use Rattle.std.proofs.Common.{append-nil, ℕ, length, take, drop, Result, Ok, refl, ap}
+use Rattle.std.specs.List.{flat_map}
+use Rattle.std.specs.Option.{option_map_or}
+use Rattle.lk_locks.specs.Steps.{refusal_of, next_state, entries_of}
 use Rattle.lk_locks.specs.declared.kinds.Refusal.{Refusal}
+use Rattle.lk_replay.specs.Replay.{replay_from, made_by, with_move, refused_or, start_of}
+use Rattle.lk_replay.specs.declared.schedule.Line.{Line}
+use Rattle.lk_page.specs.Told.{Moment, after_line, after_lines, beginning}
+use Rattle.lk_locks.specs.Play.{Tracked, tracker_of, holding_in, waiting_in}
 use Rattle.lk_lines.specs.Faults.{Fault}
-use Rattle.lk_replay.specs.Replay.{start_of, replay_from}
 use Rattle.lk_replay.specs.Schedule.{Plan}
 use Rattle.lk_page.specs.Layout.{bytes_of_state, state_bytes}
-use Rattle.lk_page.specs.Told.{Moment, beginning, after_lines}
 use Rattle.lk_page.specs.Written.{IsTold, answer_of}
 use Rattle.lk_page.specs.Playing.{HavePlayed}
-use Rattle.lk_page.proofs.Replayed.{entries_replayed}
+
+-- ---- the history of a moment is what the replay's moves left
+
+entries_step : (r : Option Refusal) (m : Moment) (l : Line) (ls : List Line)
+    → (after_lines (after_line m l) ls).entries
+    ≡ (after_line m l).entries
+    ++ flat_map (λ x. x.entries) (replay_from (next_state m.state l.thread l.action) ls).made
+    → (option_map_or (λ _. m) r (after_lines (after_line m l) ls)).entries
+    ≡ m.entries ++ flat_map (λ x. x.entries) (refused_or r l.number (with_move
+    (made_by m.state l) (replay_from (next_state m.state l.thread l.action) ls))).made
+entries_step None m l ls later =
+    later ∙ append_assoc m.entries (entries_of m.state l.thread l.action) _
+entries_step (Some r) m l ls later = sym (append-nil m.entries)
+
+entries_replayed : (m : Moment) (ls : List Line)
+    → (after_lines m ls).entries
+    ≡ m.entries ++ flat_map (λ x. x.entries) (replay_from m.state ls).made
+entries_replayed m [] = sym (append-nil m.entries)
+entries_replayed m (l ∷ ls) =
+    entries_step (refusal_of m.state l.thread l.action) m l ls
+    (entries_replayed (after_line m l) ls)
+
+-- ---- the bytes
 
 same_state : (p : Plan) (most moves : ℕ) (k : Tracked) (count : ℕ) (refused : Option (ℕ × Refusal))
     (old new : List ℕ)

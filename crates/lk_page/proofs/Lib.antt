@@ -1,8 +1,4 @@
-pub mod Tracks
-pub mod PlayedOn
-pub mod Asked
 pub mod Ends
-pub mod Replayed
 pub mod Records
 pub mod Threads
 pub mod OwnedBytes

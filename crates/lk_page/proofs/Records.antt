@@ -1,26 +1,41 @@
--- The record of a move that was made.
-use Rattle.std.proofs.Common.{◌≡◌, ℕ, Bool, List, length, Option, None, refl, ap}
-use Rattle.std.proofs.Common.{◌∙◌}
+-- The record of a move that was made, and the lock after it.
+use Rattle.std.proofs.Common.{◌≡◌, ℕ, List, ◌++◌, None, refl, Bool, length, Option, ap, ◌∙◌}
+use Rattle.lk_locks.specs.State.{State, phase_at}
+use Rattle.lk_locks.specs.Steps.{refusal_of, next_state, entries_of, change_of}
+use Rattle.lk_locks.specs.Sequential.{nobody}
+use Rattle.lk_locks.specs.Play.{tracker_of, tracker_with, tracker_after, Tracked, holding_in}
+use Rattle.lk_locks.specs.Play.{waiting_in}
+use Rattle.lk_locks.proofs.Histories.{after_append, holder_append}
+use Rattle.lk_locks.specs.declared.kinds.Move.{Move}
+use Rattle.lk_locks.specs.declared.kinds.Entry.{Entry}
 use Rattle.lk_locks.specs.Locks.{step_due}
 use Rattle.lk_locks.specs.declared.kinds.StepKind.{StepKind}
 use Rattle.std.proofs.lemmas.List.{get_or-set_same}
-use Rattle.lk_locks.specs.State.{phase_at}
-use Rattle.lk_locks.specs.Steps.{refusal_of, change_of, next_state}
-use Rattle.lk_locks.specs.Play.{Tracked, tracker_of, tracker_after, holding_in, waiting_in}
-use Rattle.lk_locks.specs.declared.kinds.Entry.{Entry}
 use Rattle.lk_locks.specs.declared.kinds.LockKind.{LockKind}
-use Rattle.lk_locks.specs.declared.kinds.Move.{Move}
 use Rattle.lk_locks.specs.declared.kinds.Outcome.{Outcome}
 use Rattle.lk_locks.specs.declared.kinds.Phase.{Phase}
 use Rattle.lk_locks.specs.declared.kinds.Phase.TheVariants.{Idle}
 use Rattle.lk_locks.proofs.Moves.{accepted_of}
 use Rattle.lk_replay.specs.declared.schedule.Line.{Line}
-use Rattle.lk_page.specs.Told.{AreTouched, IsOwn, IsRecord, kind_number, own_word, standing}
+use Rattle.lk_page.specs.Told.{AreTouched, IsOwn, IsRecord, kind_number, own_word, standing_of}
 use Rattle.lk_page.specs.Next.{allowed_calls, waits_after}
 use Rattle.lk_page.specs.Playing.{moment}
 use Rattle.lk_page.specs.declared.told.Standing.{Standing}
 use Rattle.lk_page.specs.declared.told.Touch.{Touch}
-use Rattle.lk_page.proofs.Tracks.{tracked_on}
+
+-- ---- a lock that goes along with its history knows what the history says
+
+more_tracked : (s : State) (t : ℕ) (m : Move) (es new : List Entry)
+    → tracker_with (tracker_of s es) (next_state s t m) new
+    ≡ tracker_of (next_state s t m) (es ++ new)
+more_tracked s t m es new = rw (after_append (nobody s.kind) es new, holder_append None es new) refl
+
+-- an accepted move leaves the lock that its entries lead to
+pub tracked_on : (s : State) (t : ℕ) (m : Move) (es : List Entry) → refusal_of s t m ≡ None
+    → tracker_after (tracker_of s es) t m ≡ tracker_of (next_state s t m) (es ++ entries_of s t m)
+tracked_on s t m es accepted = rw accepted (more_tracked s t m es (entries_of s t m))
+
+-- ---- the record
 
 pub state_after : (k next : Tracked) (t : ℕ) (m : Move) → refusal_of k.state t m ≡ None
     → next ≡ tracker_after k t m → next.state ≡ next_state k.state t m
@@ -36,7 +51,7 @@ pub is_told : (k next : Tracked) (es : List Entry) (l : Line) (o : Outcome) (kin
     → lock ≡ next.state.kind → from ≡ phase_at k.state.phases l.thread
     → p ≡ phase_at next.state.phases l.thread
     → d ≡ step_due next.state.kind (phase_at next.state.phases l.thread)
-    → stand ≡ standing (holding_in next) (waiting_in next) l.thread
+    → stand ≡ standing_of (holding_in next) (waiting_in next) l.thread
     → calls ≡ allowed_calls next.state l.thread
     → waits ≡ waits_after next.state l.thread o stand.is_queued
     → AreTouched k.state.words (change_of k.state l.thread l.action).words first second

@@ -18,7 +18,7 @@ use Rattle.lk_page.specs.Told.{Moment}
 use Rattle.lk_page.specs.declared.told.Touch.{Touch}
 use Rattle.lk_page.specs.declared.told.Record.{Record}
 
--- what a page reads of a word that was touched; 65535 if none was
+-- the place of a touched word, as a page reads it; 65535 if none was
 abbrev pub touched_word : Option Touch → ℕ
 touched_word None = 65535
 touched_word (Some t) = t.word
@@ -29,7 +29,7 @@ found_of touch = option_map_or (λ t. t.found) touch 0
 abbrev pub left_of : Option Touch → ℕ
 left_of touch = option_map_or (λ t. t.left) touch 0
 
--- what a thread is after its move
+-- the standing of a thread after its move
 abbrev pub thread_code : Record → ℕ
 thread_code r =
     bit r.standing.holds + 2 * bit r.standing.is_queued + 4 * bit r.standing.writes
@@ -63,7 +63,7 @@ holder_list (HeldBy t) = t ∷ []
 holder_list (ReadBy ts) = ts
 holder_list (WrittenBy t) = t ∷ []
 
--- what a thread does, what it may do next, and what is its own: 16 bytes
+-- a thread's phase, the step and the calls that may come next, and its record: 16 bytes
 abbrev pub own_bytes : State → ℕ → List ℕ
 own_bytes s t =
     (phase_code (phase_at s.phases t) ∷ due_code (step_due s.kind (phase_at s.phases t))

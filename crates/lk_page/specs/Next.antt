@@ -1,4 +1,5 @@
--- Definitions: what a thread may do next, as the machine would answer.
+-- Definitions: the calls that a thread may make next, and whether it waits, as the machine would
+-- answer.
 use Rattle.std.specs.Prelude.{ℕ, ◌+◌, ◌*◌, Bool, true, false, ◌&&◌, is_none, is_some}
 use Rattle.lk_locks.specs.State.{State, phase_at}
 use Rattle.lk_locks.specs.Steps.{refusal_of}

@@ -1,4 +1,4 @@
--- Definitions: what is a thread's own in an MCS lock, by the operations of the steps in which it is
+-- Definitions: the record of a thread of an MCS lock, by the operations of the steps in which it is
 -- used first.
 use Rattle.std.specs.Prelude.{ℕ, Option}
 use Rattle.std.specs.Option.{option_map_or}
@@ -11,7 +11,7 @@ use Rattle.lk_locks.specs.declared.kinds.Phase.TheVariants.{ClearNext, AwaitGran
 abbrev pub word_or_0 : Option Operation → ℕ
 word_or_0 o = option_map_or word_of o 0
 
--- what an operation leaves in a word that holds 0
+-- the value that an operation leaves in a word that holds 0
 abbrev pub left_or_0 : ℕ → Option Operation → ℕ
 left_or_0 bits o = option_map_or (left_by bits 0) o 0
 

@@ -1,14 +1,12 @@
--- Definitions: what a page learns of each move that is made, and of the lock after the last. What a
--- move does, who holds and who waits is said by the definitions of the locks and of the replay
--- alone.
+-- Definitions: the record of each move that is made, and the lock after the last. The definitions
+-- of the locks and of the replay alone say what a move does, who holds and who waits.
 use Rattle.std.specs.Prelude.{◌≡◌, ◌≢◌, ℕ, ◌<◌, List, [], ◌∷◌, ◌++◌, length, slice_index, Option}
-use Rattle.std.specs.Prelude.{None, Some, option_map, IfSome, IsSomeAnd, Bool, false, eqb}
+use Rattle.std.specs.Prelude.{None, Some, option_map, IfSome, IsSomeAnd, Bool, false, ◌==◌}
 use Rattle.std.specs.Option.{option_map_or}
 use Rattle.lk_words.specs.Operations.{word_of}
 use Rattle.lk_locks.specs.State.{State, phase_at}
 use Rattle.lk_locks.specs.Locks.{operation_of, step_due}
-use Rattle.lk_locks.specs.Steps.{refusal_of, change_of, next_state}
-use Rattle.lk_locks.specs.Steps.{entries_of}
+use Rattle.lk_locks.specs.Steps.{refusal_of, change_of, next_state, entries_of}
 use Rattle.lk_locks.specs.Sequential.{has}
 use Rattle.lk_locks.specs.Holding.{Holding, Free, HeldBy, ReadBy, WrittenBy, holding_of, waiting_of}
 use Rattle.lk_locks.specs.declared.kinds.LockKind.{LockKind}
@@ -86,17 +84,17 @@ IsOwn size None first second = first ≢ None → IsChange first
 
 abbrev pub holds : Holding → ℕ → Bool
 holds Free t = false
-holds (HeldBy u) t = eqb t u
+holds (HeldBy u) t = t == u
 holds (ReadBy us) t = has us t
-holds (WrittenBy u) t = eqb t u
+holds (WrittenBy u) t = t == u
 
 abbrev pub writes : Holding → ℕ → Bool
-writes (WrittenBy u) t = eqb t u
+writes (WrittenBy u) t = t == u
 writes h t = false
 
 -- whether a thread holds a lock that is held so, and is in this queue
-abbrev pub standing : Holding → List ℕ → ℕ → Standing
-standing h queue t = record { holds = holds h t; is_queued = has queue t; writes = writes h t }
+abbrev pub standing_of : Holding → List ℕ → ℕ → Standing
+standing_of h queue t = record { holds = holds h t; is_queued = has queue t; writes = writes h t }
 
 -- the number of a transition's kind; each transition of a lock has one
 abbrev pub kind_number : LockKind → Observed → ℕ
@@ -111,7 +109,7 @@ pub record IsRecord (m : Moment) (l : Line) (r : Record) : Type 0 where
   pub due : r.due ≡ step_due m.state.kind (change_of m.state l.thread l.action).phase
   pub stands : r.standing
       ≡ (let n : Moment = after_line m l in
-      standing (holding_of n.state.kind n.entries) (waiting_of n.state.kind n.entries) l.thread)
+      standing_of (holding_of n.state.kind n.entries) (waiting_of n.state.kind n.entries) l.thread)
   pub calls : r.calls ≡ allowed_calls (after_line m l).state l.thread
   pub waiting : r.waits
       ≡ waits_after (after_line m l).state l.thread r.outcome r.standing.is_queued

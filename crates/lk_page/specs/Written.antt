@@ -1,4 +1,4 @@
--- Definitions: what a page finds in the slices that it lent.
+-- Definitions: the bytes that a page finds in the slices that it lent.
 use Rattle.std.specs.Prelude.{◌≡◌, ℕ, ◌+◌, ◌*◌, List, [], ◌∷◌, ◌++◌, length, take, drop, Option}
 use Rattle.std.specs.Prelude.{MatchOption, None, Some, Result, Ok, Err, if◌then◌else◌, nat_le}
 use Rattle.std.specs.List.{flat_map}
@@ -36,8 +36,8 @@ answer_of (Some r) = 1
 abbrev pub replay_of_first : Plan → ℕ → Replay
 replay_of_first p most = replay_from (start_of p) (take most p.moves)
 
--- What is answered and written of a text that has this schedule. Who holds and who waits is read
--- off the entries that the replay leaves.
+-- The answer and the written bytes of a text that has this schedule. The entries that the replay
+-- leaves say who holds and who waits.
 pub record Plays (p : Plan) (most answer : ℕ)
     (records_old records_new state_old state_new : List ℕ) : Type 0 where
   pub answer_is : answer ≡ answer_of (replay_of_first p most).refused

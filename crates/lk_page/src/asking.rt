@@ -1,16 +1,14 @@
-//! What a page asks a search: a lock, and how many times each thread takes it.
+//! A page asks for a search by numbers: a lock, and how many times each thread takes it.
 
 ghost use Rattle.std.specs.Prelude.{◌≡◌, IfSome, None, length};
 ghost use Rattle.lk_page.specs.Asked.{IsAsked, asked_by, lock_of};
 
-use lk_locks::LockKind;
+use lk_locks::{LockKind, Shape};
 
 /// A new lock, and how many times each of its threads may take it.
 #[derive(Clone, Copy)]
 pub struct Asked {
-    pub kind: LockKind,
-    pub threads: u8,
-    pub bits: u8,
+    pub shape: Shape,
     pub rounds: u8,
 }
 
@@ -26,7 +24,7 @@ pub fn lock_of(number: u64) -> LockKind
     }
 }
 
-/// What these numbers ask, if a lock has such ones.
+/// The lock and the rounds that these numbers ask for, if there is such a lock.
 pub fn asked_of(lock: u64, threads: u64, bits: u64, rounds: u64) -> Option<Asked>
     ensures asked { IfSome result (λ a. a ≡ asked_by lock threads bits rounds) }
     ensures is_asked { IfSome result (λ a. IsAsked lock threads bits rounds) }
@@ -38,11 +36,12 @@ pub fn asked_of(lock: u64, threads: u64, bits: u64, rounds: u64) -> Option<Asked
     if rounds < 1 || rounds > 255 {
         return None;
     }
-    let asked = Asked {
-        kind: lock_of(lock),
-        threads: threads as u8,
-        bits: bits as u8,
+    let (threads, bits) = (threads as u8, bits as u8);
+    if u128::from(threads) >= 1u128 << bits {
+        return None;
+    }
+    Some(Asked {
+        shape: Shape::new(lock_of(lock), threads, bits),
         rounds: rounds as u8,
-    };
-    (u128::from(asked.threads) < 1u128 << asked.bits).then_some(asked)
+    })
 }

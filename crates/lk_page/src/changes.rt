@@ -1,10 +1,9 @@
-//! What a move does to the words. A step of a queue lock is one operation, and its effect says what
-//! it does to its word. Of a section, only the words that it changes are told.
+//! A move touches at most two words. A step of a queue lock is one operation, and its effect says
+//! what it does to its word. Of a section, only the words that it changes are told.
 
-ghost use Rattle.std.specs.Prelude.{◌≡◌, ◌≢◌, ◌<◌, ℕ, List, IfSome, None, length};
+ghost use Rattle.std.specs.Prelude.{◌≡◌, ◌≢◌, ◌<◌, ℕ, List, IfSome, None, length, option_map};
 ghost use Rattle.lk_locks.specs.read_write.{Tells};
 ghost use Rattle.lk_locks.specs.Steps.{change_of, refusal_of};
-ghost use Rattle.lk_page.specs.Changes.{touch_of};
 ghost use Rattle.lk_page.specs.Told.{AreTouched, IsChange, IsOwn, own_word};
 
 use crate::told::Touch;
@@ -14,7 +13,8 @@ use lk_words::{Effect, WordArray, Words};
 // The word of an effect.
 fn touch_of(effect: Option<Effect>) -> Option<Touch>
     requires { IfSome effect (λ e. e.word < 256) }
-    ensures { result ≡ touch_of effect }
+    ensures { result
+        ≡ option_map (λ e. record { word = e.word; found = e.found; left = e.left }) effect }
 {
     let effect = effect?;
     Some(Touch {

@@ -16,10 +16,9 @@ ghost use Rattle.lk_catalogue.specs.Kinds.{kind_count};
 ghost use Rattle.lk_search.specs.Runs.{initial};
 ghost use Rattle.lk_search.specs.Sketches.{OfKind};
 ghost use Rattle.lk_page.specs.Asked.{IsAsked, asked_by, lock_of, start_of};
-ghost use Rattle.lk_page.specs.Codes.{expected_code};
+ghost use Rattle.lk_page.specs.Codes.{expected_code, stop_of};
 ghost use Rattle.lk_page.specs.Sought as sought;
 ghost use Rattle.lk_page.specs.Sought.{IsAnswer, IsAnswered, states_within};
-ghost use Rattle.lk_page.specs.Stops.{stop_of};
 ghost use Rattle.lk_page.specs.Told.{after_lines, beginning};
 ghost use Rattle.lk_page.specs.Written.{IsTold};
 
@@ -44,9 +43,8 @@ use kind_texts::put_kind;
 use lk_catalogue::kinds_of;
 use lk_lines::{Expected, unreadable_header, unreadable_move};
 use lk_locks::Tracker;
-use lk_replay::ScheduleReader;
-use lk_search::Bounds;
-use playing::play_moves;
+use lk_search::{Bounds, Rounds};
+use playing::{open_schedule, play_moves};
 use sought::{sought_code, sought_number};
 use state::{STATE_BYTES, fault_bytes, state_bytes};
 
@@ -66,18 +64,17 @@ pub extern "C" fn play(text: &[u8], most: u64, records: &mut [u8], state: &mut [
     if state.len() < STATE_BYTES {
         return 3;
     }
-    let mut reader = match ScheduleReader::open(text) {
-        Ok(reader) => reader,
+    let (shape, lines, moves) = match open_schedule(text) {
+        Ok(read) => read,
         Err(fault) => {
             let (code, line) = fault_codes(fault);
             state[..STATE_BYTES].copy_from_slice(fault_bytes(code, line).as_slice());
             return 2;
         }
     };
-    let moves = reader.moves_left();
-    let mut lock = Tracker::at_start(reader.header());
-    let stopped = play_moves(&mut lock, &mut reader, most, records);
-    let bytes = state_bytes(&lock, moves as u32, stopped);
+    let mut lock = Tracker::at_start(shape);
+    let stopped = play_moves(&mut lock, lines, most, records);
+    let bytes = state_bytes(&lock, moves, stopped);
     state[..STATE_BYTES].copy_from_slice(bytes.as_slice());
     u64::from(stopped.refused.is_some())
 }
@@ -92,7 +89,7 @@ pub extern "C" fn play(text: &[u8], most: u64, records: &mut [u8], state: &mut [
 /// for what it admits. The moves, states or line are written to the first place of `number`. It
 /// returns 7 if there is no such lock or the text has more than 65,535 bytes, and 8 if `number` is
 /// empty, and nothing is written then.
-#[tactic(auto, using(crate::proofs::Seeking::answered))]
+#[tactic(auto, using(crate::proofs::Seeking::is_answered))]
 #[unsafe(no_mangle)]
 pub extern "C" fn find_moment(
     text: &[u8],
@@ -136,8 +133,8 @@ pub extern "C" fn find_moment(
 /// `rounds` more rounds, and at most `states` states are searched, or as many as fit into `cells`
 /// and `slots`.
 ///
-/// What it returns and writes is as of `find_moment`, but for the answers to a text that is no
-/// sketch. It returns 7 if the text has a fault or `rounds` is above 255.
+/// It returns and writes what `find_moment` does, but for the answers to a text that is no sketch.
+/// It returns 7 if the text has a fault or `rounds` is above 255.
 #[unsafe(no_mangle)]
 pub extern "C" fn soon(
     text: &[u8],
@@ -159,7 +156,7 @@ pub extern "C" fn soon(
     ensures answered { (p : Plan) → 0 < length number.old → rounds < 256
         → plan_of text.now ≡ Ok p
         → let start = initial (after_lines (beginning p) (take most p.moves)).state in
-        IsAnswered (IsAnswer (record { rounds = rounds; goal = OfKind kind }) start 1
+        IsAnswered (IsAnswer (record { rounds = Rounds.UpTo rounds; goal = OfKind kind }) start 1
         (states_within states (length cells.old) start) codes.new)
         result number.old number.new }
 {
@@ -169,15 +166,14 @@ pub extern "C" fn soon(
     if rounds > 255 {
         return 7;
     }
-    let Ok(mut reader) = ScheduleReader::open(text) else {
+    let Ok((shape, lines, _)) = open_schedule(text) else {
         return 7;
     };
-    let header = reader.header();
     // a shape has a thread
-    let _threads = header.threads();
-    let mut lock = Tracker::at_start(header);
-    let _stopped = play_moves(&mut lock, &mut reader, most, &mut []);
-    let bounds = Bounds::of_kind(rounds as u8, kind as usize);
+    let _threads = shape.threads();
+    let mut lock = Tracker::at_start(shape);
+    let _stopped = play_moves(&mut lock, lines, most, &mut []);
+    let bounds = Bounds::of_kind(Rounds::UpTo(rounds as u8), kind as usize);
     let sought = seek_from(
         lock.machine(),
         bounds,
@@ -191,7 +187,7 @@ pub extern "C" fn soon(
     sought_code(sought)
 }
 
-/// How many kinds of transition the lock with this number has, and 0 if there is no such lock.
+/// The number of kinds of transition of the lock with this number, and 0 if there is no such lock.
 #[unsafe(no_mangle)]
 pub extern "C" fn kinds(lock: u64) -> u64
     ensures count { lock < 4 → result ≡ kind_count (lock_of lock) }

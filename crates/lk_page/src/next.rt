@@ -1,4 +1,4 @@
-//! What a thread may do next: which calls it may make, and whether it has to wait.
+//! The machine tells which calls a thread may make next, and whether it has to wait.
 
 ghost use Rattle.std.specs.Prelude.{◌≡◌, ◌<◌, ◌≤◌, length};
 ghost use Rattle.lk_page.specs.Next.{call_bit, allowed_calls, next_waits, waits_after};

@@ -4,9 +4,8 @@ ghost use Rattle.std.specs.Prelude.{◌≡◌, ◌<◌, ◌≤◌, List, length,
 ghost use Rattle.lk_locks.specs.Steps.{refusal_of, refused_with};
 ghost use Rattle.lk_locks.specs.Play.{tracker_of, tracker_after, holding_in, waiting_in};
 ghost use Rattle.lk_locks.specs.declared.kinds.Entry.{Entry};
-ghost use Rattle.lk_page.specs.Told.{IsRecord, kind_number, standing};
-ghost use Rattle.lk_page.specs.Layout.{record_bytes, touched_word, found_of, left_of};
-ghost use Rattle.lk_page.specs.Layout.{thread_code};
+ghost use Rattle.lk_page.specs.Told.{IsRecord, kind_number, standing_of};
+ghost use Rattle.lk_page.specs.Layout.{record_bytes, touched_word, found_of, left_of, thread_code};
 
 use crate::changes::touches;
 use crate::codes::{due_code, is_unlinked};
@@ -21,11 +20,11 @@ use lk_search::phase_code;
 use lk_trace::{move_number, outcome_number};
 use lk_words::WordArray;
 
-/// How many bytes a record has.
+/// The number of bytes of a record.
 pub const RECORD_BYTES: usize = 56;
 
 fn standing_of(lock: &Tracker<WordArray>, thread: u8) -> Standing
-    ensures { result ≡ standing (holding_in lock.now) (waiting_in lock.now) thread }
+    ensures { result ≡ standing_of (holding_in lock.now) (waiting_in lock.now) thread }
 {
     let (holds, writes) = match lock.holders() {
         Holders::Nobody => (false, false),
@@ -97,7 +96,7 @@ fn values_of(touch: Option<Touch>) -> (u64, u64)
     touch.map_or((0, 0), |touch| (touch.found, touch.left))
 }
 
-// What the thread is after its move, as a sum of bits.
+// The thread's standing after its move, as a sum of bits.
 fn thread_code(told: &Record) -> u8
     ensures { result ≡ thread_code told.now }
 {

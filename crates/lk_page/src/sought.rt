@@ -1,11 +1,11 @@
-//! What came of a search.
+//! A search ends with one of these answers.
 
 ghost use Rattle.std.specs.Prelude.{◌≡◌};
 ghost use Rattle.lk_page.specs.Sought.{sought_code, sought_number};
 
 use lk_search::SketchFault;
 
-/// What came of a search for the lines of a sketch.
+/// The answer to a search for the lines of a sketch.
 #[derive(Clone, Copy)]
 pub enum Sought {
     /// A shortest run that has them has so many moves.

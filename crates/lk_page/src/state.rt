@@ -1,16 +1,15 @@
 //! A lock after the last move that was played, as a page sees it.
 
 ghost use Rattle.std.specs.Prelude.{◌≡◌, ◌+◌, ◌<◌, ◌≤◌, ◌++◌, length};
-ghost use Rattle.lk_locks.specs.Holding.{holding};
+ghost use Rattle.lk_locks.specs.Holding.{as_holding};
 ghost use Rattle.lk_locks.specs.Play.{holding_in, waiting_in};
-ghost use Rattle.lk_page.specs.Layout.{with_zeros, holding_code, holder_list};
-ghost use Rattle.lk_page.specs.Layout.{thread_bytes, threads_bytes, stop_numbers};
-ghost use Rattle.lk_page.specs.Layout.{bytes_of_state, bytes_of_fault};
+ghost use Rattle.lk_page.specs.Layout.{with_zeros, holding_code, holder_list, thread_bytes};
+ghost use Rattle.lk_page.specs.Layout.{threads_bytes, stop_numbers, bytes_of_state, bytes_of_fault};
 
 use crate::codes::{due_code, lock_code, refusal_step};
 use crate::layout::{put_bytes, put_u32s, put_u64, put_u64s, put_zeros};
 use crate::next::allowed_calls;
-use crate::owned::owned;
+use crate::owned::record_of;
 use crate::told::Stopped;
 use arrayvec::ArrayVec;
 use lk_locks::{Holders, Machine, Refusal, Tracker, copy_of};
@@ -18,7 +17,7 @@ use lk_search::phase_code;
 use lk_trace::refusal_number;
 use lk_words::{WordArray, Words};
 
-/// How many bytes a state has.
+/// The number of bytes of a state.
 pub const STATE_BYTES: usize = 2304;
 
 const THREAD_BYTES: usize = 16;
@@ -52,7 +51,7 @@ fn put_place(out: &mut ArrayVec<u8, 2304>, machine: &Machine<WordArray>, thread:
     let (code, number) = phase_code(machine.phase(thread));
     let due = due_code(machine.next_step(thread));
     let calls = allowed_calls(machine, thread);
-    let (next, locked, name) = owned(machine.kind(), machine.words().bits(), thread);
+    let (next, locked, name) = record_of(machine.kind(), machine.words().bits(), thread);
     put_bytes(out, &[code, due, calls, next, locked, name, 0, 0]);
     put_u64(out, number);
 }
@@ -81,8 +80,8 @@ fn put_list(out: &mut ArrayVec<u8, 2304>, threads: &[u8])
 
 // The number of those who hold a lock so, and their list.
 fn holder_list(holders: &Holders) -> (u8, ArrayVec<u8, 64>)
-    ensures code { result.0 ≡ holding_code (holding holders.now) }
-    ensures list { result.1.items ≡ holder_list (holding holders.now) }
+    ensures code { result.0 ≡ holding_code (as_holding holders.now) }
+    ensures list { result.1.items ≡ holder_list (as_holding holders.now) }
 {
     match holders {
         Holders::Nobody => (0, ArrayVec::new()),

@@ -1,4 +1,4 @@
-//! What a page learns of a schedule: of each move a record, and where the moves ended.
+//! A page learns of a schedule a record of each move, and where the moves ended.
 
 use lk_locks::{Move, Outcome, Phase, Refusal, StepKind};
 
@@ -27,7 +27,7 @@ pub struct Record {
     pub outcome: Outcome,
     /// The number of its kind of transition among those of its lock.
     pub kind: u8,
-    /// What its thread is after it: its phase, the step that is then due, and its standing.
+    /// The phase of its thread after it, the step that is then due, and its standing.
     pub phase: Phase,
     pub due: Option<StepKind>,
     pub standing: Standing,
@@ -41,7 +41,7 @@ pub struct Record {
     pub second: Option<Touch>,
 }
 
-/// How many moves were made, and the line of the refused one and why it was refused, if one was.
+/// The number of moves that were made, and the line and reason of the refused one, if one was.
 #[derive(Clone, Copy, PartialEq, Eq, Debug)]
 pub struct Stopped {
     pub count: u32,

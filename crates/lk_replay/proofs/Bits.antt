@@ -1,9 +1,8 @@
 -- An ascending list of threads as the bits of a number, and what counting bits tells of its text.
 use Rattle.std.proofs.Common.{◌≡◌, ℕ, suc, ◌+◌, ◌-◌, ◌*◌, ◌^◌, ◌%◌, ◌<◌, ◌≤◌, List, [], ◌∷◌, ◌++◌}
 use Rattle.std.proofs.Common.{length, decimal, count_ones, nat_lt, refl, ap, sym, ◌∙◌, take, drop}
-use Rattle.std.proofs.Common.{true, false}
-use Rattle.std.proofs.Common.{arith, if◌then◌else◌}
-use Rattle.std.proofs.Common.{inl, inr, length-append, pow_pos, pow_mono, pow-add, shl_exact}
+use Rattle.std.proofs.Common.{true, false, arith, if◌then◌else◌, inl, inr, length-append, pow_pos}
+use Rattle.std.proofs.Common.{pow_mono, pow-add, shl_exact}
 use Rattle.std.specs.Int.Count.{ones}
 use Rattle.std.specs.List.{AllByRecursion}
 use Rattle.std.proofs.Math.Nat.{add-mul, pow-suc}
@@ -15,9 +14,8 @@ use Rattle.lk_locks.proofs.Ascending.{ascending_with_reader, ascending_without_r
 use Rattle.lk_locks.specs.Sequential.{IsAscending, has, with_reader, without_reader}
 use Rattle.lk_replay.specs.Occupancy.{AreReaders, below, bits_of, numbers_in}
 use Rattle.lk_replay.specs.Report.{later_numbers}
-use Rattle.lk_replay.proofs.Digits.{two_digits}
 use Rattle.lk_replay.proofs.Listing.{AreCut, cut_to_join, cut_to_leave, later_append, later_most}
-use Rattle.lk_replay.proofs.Listing.{numbers_read, put_in, taken_out}
+use Rattle.lk_replay.proofs.Listing.{numbers_read, put_in, taken_out, two_digits}
 
 -- ---- a list cut at a number
 
@@ -33,11 +31,11 @@ not_below [] t = []
 not_below (x ∷ xs) t = if nat_lt x t then not_below xs t else x ∷ xs
 
 -- what holds of all holds of both parts
-kept : (P : ℕ → Type 0) (xs : List ℕ) (t : ℕ) → AllByRecursion P xs
+both_parts : (P : ℕ → Type 0) (xs : List ℕ) (t : ℕ) → AllByRecursion P xs
     → AllByRecursion P (below xs t) × AllByRecursion P (not_below xs t)
-kept P [] t all = (tt, tt)
-kept P (x ∷ xs) t (here, rest) =
-    let (low, high) = kept P xs t rest in
+both_parts P [] t all = (tt, tt)
+both_parts P (x ∷ xs) t (here, rest) =
+    let (low, high) = both_parts P xs t rest in
     elim (cases_Bool (nat_lt x t)) [
       | inl h ↦ rw h ((here, low), high)
       | inr h ↦ rw h (tt, (here, rest))
@@ -55,7 +53,7 @@ cut (x ∷ xs) t (above, ascending) = elim (cases_Bool (nat_lt x t)) [
         ap (λ (ys : List ℕ). x ∷ ys) whole,
         (ltb-true x t h, lower),
         higher,
-        ((kept (λ u. x < u) xs t above).0, up),
+        ((both_parts (λ u. x < u) xs t above).0, up),
       )
   | inr h ↦
       let least : t ≤ x = ltb-false x t h in
@@ -80,8 +78,8 @@ multiple (x ∷ xs) t (here, rest) =
     (2 ^ k + more.0, omega (arith, power, more.1, add-mul (2 ^ k) more.0 (2 ^ t)))
 
 -- `1 << t`
-shifted : (t : ℕ) → t < 64 → 1 * 2 ^ t % 2 ^ 64 ≡ 2 ^ t
-shifted t small = shl_exact 1 t 64 (omega arith) (omega (arith, small)) ∙ omega arith
+shift_of_one : (t : ℕ) → t < 64 → 1 * 2 ^ t % 2 ^ 64 ≡ 2 ^ t
+shift_of_one t small = shl_exact 1 t 64 (omega arith) (omega (arith, small)) ∙ omega arith
 
 -- a thread's bit fits above those of an ascending list
 room : (x : ℕ) (xs : List ℕ) (k : ℕ) → IsAscending (x ∷ xs) → AllByRecursion (λ u. u < k) (x ∷ xs)
@@ -143,7 +141,7 @@ pub is_bit : (low less more : List ℕ) (t : ℕ) → AreCut low less more t →
 is_bit low less more t cut small ascending fit = record {
   bit = omega (
     arith,
-    shifted t small,
+    shift_of_one t small,
     ap bits_of cut.with_it,
     ap bits_of cut.without,
     bits_append low (t ∷ cut.after),
@@ -189,7 +187,7 @@ text_size xs ascending fit =
       ap length (later_append low high),
       length-append {A = ℕ},
       short_numbers low lower,
-      long_numbers high higher (kept (λ u. u < 64) xs 10 fit).1,
+      long_numbers high higher (both_parts (λ u. u < 64) xs 10 fit).1,
     )
 
 -- where a thread's number is, by counts of bits
@@ -201,14 +199,14 @@ counted_place xs bits t is ascending fit small =
     let low = below xs t in
     let (parts, lower, higher, up) = cut xs t ascending in
     let same =
-    ap (λ (k : ℕ). bits % k) (shifted t small) ∙ ap (λ (n : ℕ). n % 2 ^ t) is
+    ap (λ (k : ℕ). bits % k) (shift_of_one t small) ∙ ap (λ (n : ℕ). n % 2 ^ t) is
     ∙ lower_bits xs t ascending in
     omega (
       arith,
       ap count_ones same ∙ counted_bits low up,
       ap (λ (n : ℕ). count_ones (n % 1024)) same ∙ ap count_ones (lower_bits low 10 up)
           ∙ counted_bits (below low 10) (cut low 10 up).3,
-      text_size low up (kept (λ u. u < 64) xs t fit).0,
+      text_size low up (both_parts (λ u. u < 64) xs t fit).0,
     )
 
 -- ---- the text and the bits together

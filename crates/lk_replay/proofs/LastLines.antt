@@ -22,8 +22,7 @@ use Rattle.lk_replay.specs.Ending.{ending_by, ending_of, ending_of_line, last_of
 use Rattle.lk_lines.specs.Faults.{Fault, TooLong, NoHeader, BadHeader, BadThreads, BadLine}
 use Rattle.lk_lines.specs.Faults.{TooManyMoves, WordsTooNarrow}
 use Rattle.lk_lines.specs.Lines.{is_line_feed, lines_of, without_empty_end}
-use Rattle.lk_lines.specs.Reads.{IsOfText}
-use Rattle.lk_lines.specs.Reads.{Fails}
+use Rattle.lk_lines.specs.Reads.{IsOfText, Fails}
 use Rattle.lk_replay.specs.Replay.{Made, replay_of}
 use Rattle.lk_replay.specs.Report.{at_line, fault_text, holding_text, last_line, line_start}
 use Rattle.lk_replay.specs.Report.{lines_text, plan_text, queue_text, refusal_text, replay_text}
@@ -253,15 +252,15 @@ report_ending : (text : List ℕ) → ending_of (report_text text) ≡ plan_endi
 unfolding report_text
 report_ending text = of_plan (plan_of text)
 
-faulty : (fault : ReadFault) (read : Result Plan Fault) → IsOfText fault → Fails fault read
+fault_ends : (fault : ReadFault) (read : Result Plan Fault) → IsOfText fault → Fails fault read
     → plan_ending read ≡ Faulty
-faulty OutOfMemory read text fails = absurd text
-faulty fault read text fails = ap plan_ending fails
+fault_ends OutOfMemory read text fails = absurd text
+fault_ends fault read text fails = ap plan_ending fails
 
 pub ends_faulty : (fault : ReadFault) (text : List ℕ) → IsOfText fault
     → Fails fault (plan_of text) → Faulty ≡ ending_of (report_text text)
 ends_faulty fault text of_text fails =
-    sym (report_ending text ∙ faulty fault (plan_of text) of_text fails)
+    sym (report_ending text ∙ fault_ends fault (plan_of text) of_text fails)
 
 pub ends_by_plan : (text : List ℕ) (plan : Plan) → plan_of text ≡ Ok plan
     → ending_by (replay_of plan).refused ≡ ending_of (report_text text)

@@ -1,9 +1,5 @@
 pub mod Moves
-pub mod Headers
 pub mod Sofar
-pub mod Digits
-pub mod Transfers
-pub mod Reports
 pub mod LastLines
 pub mod Texts
 pub mod Listing
@@ -11,4 +7,3 @@ pub mod Bits
 pub mod Passed
 pub mod Printed
 pub mod Promised
-pub mod Skipped

@@ -1,20 +1,18 @@
 -- The text of a list of threads that one joins or leaves.
 use Rattle.std.proofs.Common.{◌≡◌, ℕ, ◌+◌, ◌*◌, ◌/◌, ◌%◌, ◌<◌, ◌≤◌, List, [], ◌∷◌, ◌++◌, length}
-use Rattle.std.proofs.Common.{drop, decimal, eqb, nat_lt, true, false, refl, sym, ap, take}
-use Rattle.std.proofs.Common.{◌∙◌, arith, append_assoc, append-nil, length-append}
-use Rattle.std.proofs.Common.{inl, inr}
+use Rattle.std.proofs.Common.{drop, decimal, eqb, nat_lt, true, false, refl, sym, ap, take, ◌∙◌}
+use Rattle.std.proofs.Common.{arith, append_assoc, append-nil, length-append, inl, inr}
 use Rattle.std.specs.List.{AllByRecursion}
 use Rattle.std.proofs.lemmas.List.{drop_at, take_at}
 use Rattle.std.proofs.lemmas.Bool.{cases_Bool, eqb-true, le-ltb, lt-ltb, ltb-false, or_parts}
 use Rattle.std.proofs.lemmas.Bool.{ltb-true, ne_eqb}
 use Rattle.std.proofs.lemmas.Bool.Decides.{nat_tests}
-use Rattle.std.proofs.lemmas.Fmt.{decimal_digit, length-decimal-le}
+use Rattle.std.proofs.lemmas.Fmt.{decimal_digit, decimal_step, length-decimal-le}
 use Rattle.lk_locks.specs.Sequential.{IsAscending, has, is_head, with_reader, without_reader}
 use Rattle.lk_locks.proofs.Ascending.{below_member}
 use Rattle.std.proofs.lemmas.Grind.{flat_map-append}
 use Rattle.lk_replay.specs.Occupancy.{IsQueue, below, numbers_from, numbers_in}
 use Rattle.lk_replay.specs.Report.{later_numbers, queue_text}
-use Rattle.lk_replay.proofs.Digits.{two_digits}
 
 pub later_append : (xs ys : List ℕ)
     → later_numbers (xs ++ ys) ≡ later_numbers xs ++ later_numbers ys
@@ -35,6 +33,11 @@ later_most (x ∷ xs) (b, a) =
     )
 
 -- ---- the numbers of a text
+
+pub two_digits : (n : ℕ) → 10 ≤ n → n < 100 → decimal n ≡ (48 + n / 10) ∷ (48 + n % 10) ∷ []
+two_digits n a b =
+    decimal_step n a (omega arith)
+    ∙ ap (λ (ds : List ℕ). ds ++ (48 + n % 10) ∷ []) (decimal_digit (n / 10) (omega arith))
 
 -- one more digit, which is no comma
 digit_read : (n d : ℕ) (rest : List ℕ)

@@ -1,18 +1,12 @@
 -- Bytes that go to an output one after another, some of which wait.
-use Rattle.std.proofs.Common.{◌≡◌, ℕ, ◌+◌, List, [], ◌++◌, length, Option, Result, Ok, Err}
-use Rattle.std.proofs.Common.{OnErr, refl, sym, ap, ◌∙◌, subst, arith, append_assoc}
-use Rattle.std.proofs.Common.{append-nil}
+use Rattle.std.proofs.Common.{◌≡◌, ℕ, ◌+◌, List, [], ◌++◌, length, Option, Result, Ok, Err, OnErr}
+use Rattle.std.proofs.Common.{refl, sym, ap, ◌∙◌, subst, arith, append_assoc, append-nil}
 use Rattle.std.proofs.KnownBytes.{Appends-nil, Appends-trans}
 use Rattle.std.proofs.Math.Seq.{take-append-add}
 use Rattle.std.proofs.lemmas.List.{length-append, take-append-le}
 use Rattle.std.specs.Io.KnownBytes.{Appends}
 use Rattle.lk_replay.specs.declared.devices.RunFault.{RunFault}
 use Rattle.lk_replay.specs.Devices.{AppendsPrefix, Passes}
-
--- all of the bytes wait
-pub passes_kept : (waited bytes : List ℕ) (c : Option (List ℕ))
-    → Passes waited c bytes (waited ++ bytes) c
-passes_kept waited bytes c = ([], Appends-nil c, refl)
 
 -- no bytes go on
 pub passes_none : (waited : List ℕ) (c : Option (List ℕ)) → Passes waited c [] waited c
@@ -117,9 +111,9 @@ cut_waiting whole rest waits old mid new way prefix =
     (subst (AppendsPrefix mid new) (sym (append-nil waits)) prefix)
 
 -- nothing is left, and nothing waits
-pub arrived : (whole rest : List ℕ) (old new : Option (List ℕ)) → IsUnderWay whole rest [] old new
+pub all_went : (whole rest : List ℕ) (old new : Option (List ℕ)) → IsUnderWay whole rest [] old new
     → rest ≡ [] → Appends old new whole
-arrived whole rest old new way none =
+all_went whole rest old new way none =
     let (sent, appended, all) = way.passed in
     subst (Appends old new)
     (sym (append-nil sent) ∙ all ∙ sym (append-nil way.done)

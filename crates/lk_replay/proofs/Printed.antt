@@ -5,7 +5,7 @@ use Rattle.lk_locks.specs.State.{State}
 use Rattle.lk_locks.specs.Locks.{word_count}
 use Rattle.lk_locks.specs.Sequential.{nobody}
 use Rattle.lk_locks.specs.invariants.Kept.{IsTracked}
-use Rattle.lk_locks.proofs.Starting.{kept_start}
+use Rattle.lk_locks.proofs.Machines.{kept_start}
 use Rattle.std.proofs.lemmas.List.{get_or-replicate, length-replicate}
 use Rattle.lk_locks.specs.declared.kinds.Entry.{Entry}
 use Rattle.lk_locks.specs.declared.kinds.LockKind.{LockKind}

@@ -1,35 +1,33 @@
 -- A replay is a run of the schedule's lock, and so its history is as promised.
 use Rattle.std.proofs.Common.{◌≡◌, ℕ, ◌+◌, ◌<◌, ◌≤◌, ◌^◌, List, [], ◌∷◌, length, map, nat_le}
-use Rattle.std.proofs.Common.{nat_lt, ◌&&◌, replicate, Option, None, Some, IfSome, Result, Ok}
-use Rattle.std.proofs.Common.{refl, sym, ap, subst, arith, inl, inr}
+use Rattle.std.proofs.Common.{nat_lt, ◌&&◌, replicate, Option, None, Some, IfSome, Result, Ok, refl}
+use Rattle.std.proofs.Common.{sym, ap, subst, arith, inl, inr, ◌++◌, codes, ◌∙◌, append-nil}
+use Rattle.std.proofs.Common.{length-append}
 use Rattle.std.specs.Prelude.{IfOk}
 use Rattle.std.specs.List.{flat_map}
-use Rattle.std.specs.Io.KnownBytes.{Appends}
-use Rattle.std.proofs.lemmas.Bool.{and_parts, cases_Bool, leb-true, ltb-true}
+use Rattle.std.specs.Io.KnownBytes.{Appends, Consumes, IsAtEnd}
+use Rattle.std.proofs.lemmas.Bool.{and_parts, cases_Bool, leb-true, ltb-true, cond-true, lt-ltb}
+use Rattle.std.proofs.lemmas.Bool.{cases_lt}
 use Rattle.std.proofs.lemmas.List.{get_or-replicate, length-replicate}
 use Rattle.std.proofs.lemmas.Result.{IfOk-at_ok}
 use Rattle.lk_locks.proofs.Runs.{every_run_is_as_promised}
 use Rattle.lk_locks.specs.MainTheorem.{IsAsPromised}
-use Rattle.lk_locks.specs.State.{State}
-use Rattle.lk_locks.specs.Steps.{entries_after}
+use Rattle.lk_locks.specs.State.{State, Shape}
+use Rattle.lk_locks.specs.Steps.{entries_after, refusal_of, next_state}
 use Rattle.lk_locks.specs.Locks.{word_count}
-use Rattle.lk_locks.specs.Steps.{refusal_of, next_state}
 use Rattle.lk_locks.specs.declared.kinds.Entry.{Entry}
 use Rattle.lk_locks.specs.declared.kinds.Move.{Move}
 use Rattle.lk_locks.specs.declared.kinds.Refusal.{Refusal}
 use Rattle.lk_lines.specs.Faults.{Fault}
 use Rattle.lk_locks.specs.declared.kinds.LockKind.{LockKind}
-use Rattle.lk_locks.specs.State.{Shape}
-use Rattle.lk_lines.specs.Header.{header_of, header_of_shape, shape_of_words}
-use Rattle.lk_lines.specs.Header.{with_threads}
+use Rattle.lk_lines.specs.Header.{header_of, header_of_shape, shape_of_words, with_threads}
 use Rattle.lk_lines.specs.Lines.{is_skipped, lines_of, words_of}
 use Rattle.lk_replay.specs.Replay.{Made, Replay, Replayed, made_by, refused_or, replay_from}
 use Rattle.lk_replay.specs.Replay.{replay_of, replayed_of, start_of, with_move}
 use Rattle.lk_replay.specs.Report.{plan_text, report_text}
 use Rattle.lk_lines.specs.Digits.{is_plain_number, value_from}
 use Rattle.lk_lines.specs.Vocabulary.{number_of}
-use Rattle.lk_replay.specs.Whole.{AppendsReport, IsReportOfText}
-use Rattle.lk_replay.specs.Whole.{IsHistoryOf, IsReportOf}
+use Rattle.lk_replay.specs.Whole.{AppendsReport, IsReportOfText, IsHistoryOf, IsReportOf}
 use Rattle.lk_replay.specs.Schedule.{Plan, plan_from, plan_of, with_header}
 use Rattle.lk_replay.specs.declared.schedule.Line.{Line}
 
@@ -148,9 +146,32 @@ pub report_of_text : (text report : List ℕ) → report ≡ report_text text �
 report_of_text text report is =
     λ p plan. subst (IsReportOf p) (sym is) (every_report_is_as_promised text p plan)
 
-pub appended_report : (input old new : Option (List ℕ))
+pub appends_report : (input old new : Option (List ℕ))
     → IfSome input (λ text. Appends old new (report_text text))
     → IfSome input (AppendsReport old new)
-appended_report None old new appended = tt
-appended_report (Some text) old new appended =
-    (report_text text, appended, report_of_text text (report_text text) refl)
+appends_report None old new appended = tt
+appends_report (Some text) old new appended = (appended, every_report_is_as_promised text)
+
+-- ---- the report of the bytes that were read is that of the whole input
+
+too_long : (bytes : List ℕ) → 1048576 < length bytes → report_text bytes ≡ codes "fault TooLong\n"
+unfolding report_text plan_of
+too_long bytes h = ap plan_text (cond-true _ _ _ (lt-ltb _ _ h))
+
+same : (xs text rest : List ℕ) → xs ≡ text ++ rest → length text ≤ 1048577
+    → (length text < 1048577 → rest ≡ []) → report_text text ≡ report_text xs
+same xs text rest whole small end = elim (cases_lt (length text) 1048577) [
+  | inl short ↦ ap report_text (sym (whole ∙ ap (λ l. text ++ l) (end short) ∙ append-nil text))
+  | inr full ↦
+      too_long text (omega arith)
+      ∙ sym (too_long xs (omega (arith, ap length whole, length-append text rest)))
+]
+
+pub report_of_input : (a b : Option (List ℕ)) (text given : List ℕ) (P : List ℕ → Type 0)
+    → given ≡ text → Consumes a b text → length text ≤ 1048577
+    → (length text < 1048577 → IsAtEnd b) → P (report_text given)
+    → IfSome a (λ xs. P (report_text xs))
+report_of_input None b text given P is taken small end h = tt
+report_of_input (Some xs) None text given P is taken small end h = absurd taken
+report_of_input (Some xs) (Some ys) text given P is taken small end h =
+    subst P (ap report_text is ∙ same xs text ys taken small end) h

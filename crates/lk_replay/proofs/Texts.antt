@@ -59,10 +59,10 @@ rest_put place now bytes text at len wide is most fit fits within some whole =
     ∙ ap (drop 1) whole)
 
 -- bytes taken out
-pub removed : (xs now : List ℕ) (at count len : ℕ) → at + count ≤ len → len ≤ length xs
+pub text_taken_out : (xs now : List ℕ) (at count len : ℕ) → at + count ≤ len → len ≤ length xs
     → now ≡ paste xs at (drop (at + count) xs) (len - (at + count))
     → take (len - count) now ≡ take at (take len xs) ++ drop (at + count) (take len xs)
-removed xs now at count len within most is =
+text_taken_out xs now at count len within most is =
     let n = len - (at + count) in
     let place : len - count ≡ at + n = omega arith in
     let whole : at + count + n ≡ len = omega arith in
@@ -74,12 +74,12 @@ removed xs now at count len within most is =
     ∙ ap (λ (k : ℕ). drop (at + count) (take k xs)) whole))
 
 -- bytes put in
-pub inserted : (xs moved now text : List ℕ) (at wide len : ℕ) → at ≤ len → len + wide ≤ length xs
+pub text_put_in : (xs moved now text : List ℕ) (at wide len : ℕ) → at ≤ len → len + wide ≤ length xs
     → length text ≡ wide → now ≡ text
     → moved ≡ paste xs (at + wide) (drop at xs) (len - at)
     → take (len + wide) (put_mid at (at + wide - at) moved now)
     ≡ (take at (take len xs) ++ text) ++ drop at (take len xs)
-inserted xs moved now text at wide len within most size is after =
+text_put_in xs moved now text at wide len within most size is after =
     let n = len - at in
     let k = at + wide in
     let before = take k xs in

@@ -1,4 +1,4 @@
--- Definitions: what a reader or a writer holds after a transfer that may have stopped, over std's
+-- Definitions: the bytes of a reader or a writer after a transfer that may have stopped, over std's
 -- words for a device whose bytes are known.
 use Rattle.std.specs.Prelude.{◌≡◌, ℕ, ◌≤◌, List, ◌++◌, length, take, Option, Result, Err}
 use Rattle.std.specs.Io.KnownBytes.{Appends}

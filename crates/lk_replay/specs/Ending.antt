@@ -1,4 +1,4 @@
--- Definitions: how a report ends, by its last line.
+-- Definitions: the ending of a report, by its last line.
 use Rattle.std.specs.Prelude.{ℕ, List, [], ◌∷◌, if◌then◌else◌, codes, nat_eq, Option, None, Some}
 use Rattle.std.specs.Prelude.{Result, Ok, Err}
 use Rattle.std.specs.List.{starts_with}
@@ -19,11 +19,11 @@ ending_of_line line =
     if starts_with nat_eq line (codes "end ") then Accepted else
     if starts_with nat_eq line (codes "refused ") then Refused else Faulty
 
--- how the text of a report ends
+-- the ending of the text of a report
 unfoldable pub ending_of : List ℕ → Ending
 ending_of report = ending_of_line (last_of (lines_of report))
 
--- how a replay ends
+-- the ending of a replay
 abbrev pub ending_by : Option (ℕ × Refusal) → Ending
 ending_by None = Accepted
 ending_by (Some refused) = Refused

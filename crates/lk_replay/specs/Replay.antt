@@ -4,8 +4,7 @@ use Rattle.std.specs.Prelude.{ℕ, List, [], ◌∷◌, map, Option, None, Some,
 use Rattle.std.specs.List.{flat_map}
 use Rattle.lk_locks.specs.State.{State, start}
 use Rattle.lk_locks.specs.Locks.{word_count}
-use Rattle.lk_locks.specs.Steps.{refusal_of, change_of, next_state}
-use Rattle.lk_locks.specs.Steps.{entries_of}
+use Rattle.lk_locks.specs.Steps.{refusal_of, change_of, next_state, entries_of}
 use Rattle.lk_locks.specs.declared.kinds.LockKind.{LockKind}
 use Rattle.lk_locks.specs.declared.kinds.Entry.{Entry}
 use Rattle.lk_locks.specs.declared.kinds.Refusal.{Refusal}

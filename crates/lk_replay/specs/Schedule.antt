@@ -56,19 +56,3 @@ plan_from number (line ∷ lines) =
 -- the plan or the fault of a text, which may have 1,048,576 bytes
 unfoldable pub plan_of : List ℕ → Result Plan Fault
 plan_of text = if nat_lt 1048576 (length text) then Err TooLong else plan_from 1 (lines_of text)
-
--- ---- reading without memory
-
--- how many moves were read
-abbrev pub move_count : Result (List Line) Fault → Result ℕ Fault
-move_count (Ok moves) = Ok (length moves)
-move_count (Err fault) = Err fault
-
--- the moves that were read, if there is no fault
-abbrev pub moves_in : Result (List Line) Fault → List Line
-moves_in (Ok moves) = moves
-moves_in (Err fault) = []
-
-abbrev pub first_of : List Line → Option Line
-first_of [] = None
-first_of (line ∷ lines) = Some line

@@ -6,7 +6,7 @@ use Rattle.lk_locks.specs.MainTheorem.{IsAsPromised}
 use Rattle.lk_locks.specs.Steps.{entries_after}
 use Rattle.lk_locks.specs.declared.kinds.Entry.{Entry}
 use Rattle.lk_replay.specs.Replay.{replay_of, replayed_of, start_of}
-use Rattle.lk_replay.specs.Report.{lines_text}
+use Rattle.lk_replay.specs.Report.{lines_text, report_text}
 use Rattle.lk_replay.specs.Schedule.{Plan, plan_of}
 use Rattle.lk_replay.specs.declared.played.Accepted.{Accepted}
 
@@ -27,6 +27,7 @@ pub record IsReportOf (p : Plan) (report : List ℕ) : Type 0 where
 abbrev pub IsReportOfText : List ℕ → List ℕ → Type 0
 IsReportOfText text report = (p : Plan) → plan_of text ≡ Ok p → IsReportOf p report
 
--- known bytes grew by such a report of this text
+-- known bytes grew by the report of this text, which describes such a history
 abbrev pub AppendsReport : Option (List ℕ) → Option (List ℕ) → List ℕ → Type 0
-AppendsReport old new text = (report : List ℕ) × Appends old new report × IsReportOfText text report
+AppendsReport old new text =
+    Appends old new (report_text text) × IsReportOfText text (report_text text)

@@ -18,7 +18,7 @@ pub enum Ending {
 
 // The last line of a text, and an empty one if there is none. A report is long and its last line
 // is short, so the search for it begins at the end.
-fn last_line(text: &[u8]) -> &[u8]
+fn last_line_of(text: &[u8]) -> &[u8]
     ensures { result.now ≡ last_of (lines_of text.now) }
 {
     let body = text.strip_suffix(b"\n").unwrap_or(text);
@@ -33,7 +33,7 @@ fn last_line(text: &[u8]) -> &[u8]
 pub fn ending_of(report: &[u8]) -> Ending
     ensures { result ≡ ending_of report.now }
 {
-    let line = last_line(report);
+    let line = last_line_of(report);
     if line.starts_with(b"end ") {
         Ending::Accepted
     } else if line.starts_with(b"refused ") {

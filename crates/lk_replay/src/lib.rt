@@ -16,6 +16,6 @@ pub use lk_lines::ReadFault;
 pub use output_buffer::OutputBuffer;
 pub use played::{Accepted, Played, replay};
 pub use report::report_of;
-pub use schedule::{Line, Schedule, ScheduleReader, read_schedule};
+pub use schedule::{Line, Schedule, read_header, read_move, read_schedule};
 pub use stream::{run, status_of};
 pub use theorems::every_report_is_as_promised;

@@ -1,18 +1,13 @@
 //! The schedule that a text has: its lock and its moves, each with its line.
 
 ghost use Rattle.std.specs.Prelude.{◌≡◌, ◌≢◌, ◌+◌, ◌<◌, ◌≤◌, ◌^◌, [], length, IfErr, IfNone, IfOk};
-ghost use Rattle.std.specs.Prelude.{IfSome, MatchOption, Ok, ℕ};
-ghost use Rattle.lk_lines.specs.Lines.{IsNextMove, SkipsTo};
-ghost use Rattle.lk_lines.specs.Reads.{Fails, Gives};
-ghost use Rattle.lk_lines.specs.Reads.{IsOfText};
+ghost use Rattle.std.specs.Prelude.{IfSome, MatchOption, Ok};
+ghost use Rattle.lk_lines.specs.Reads.{Fails, Gives, IsOfText};
 ghost use Rattle.lk_replay.specs.Schedule.{moves_from, plan_of, plan_with, with_header};
 ghost use Rattle.lk_replay.specs.Schedule.{Plan, with_line};
 
-mod reader;
-
 use lk_lines::{Lines, ReadFault, header_of, move_of};
 use lk_locks::{LockKind, Move, Shape};
-pub use reader::ScheduleReader;
 use std::alloc::Global;
 use std::marker::Model;
 
@@ -95,9 +90,14 @@ impl Schedule {
     }
 }
 
-// The header of a text, and the lines after it.
+/// Reads the header of a schedule text, and returns the lines after it. With `read_move` it reads a
+/// schedule without taking memory.
+///
+/// # Errors
+///
+/// The text's fault, if it is of the length or of the header.
 #[tactic(auto, unfolding(crate::specs::Schedule::plan_of))]
-fn read_header(text: &[u8]) -> Result<(Shape, Lines<'_>), ReadFault>
+pub fn read_header(text: &[u8]) -> Result<(Shape, Lines<'_>), ReadFault>
     ensures read { IfOk result (λ read. plan_of text.now
         ≡ with_header (Ok read.0) (moves_from read.1.number 0 read.1.lines)) }
     ensures fault { IfErr result (λ fault. Fails fault (plan_of text.now)) }
@@ -114,37 +114,12 @@ fn read_header(text: &[u8]) -> Result<(Shape, Lines<'_>), ReadFault>
     Ok((header, lines))
 }
 
-// The next line that is not skipped, which has to be a move.
-fn next_line(lines: &mut Lines<'_>) -> Result<Option<Line>, ReadFault>
-    ensures read { IfOk result (λ next. MatchOption next
-        ((lines.new.lines ≡ []) × SkipsTo lines.old.number lines.old.lines lines.new.number [])
-        (λ line. IsNextMove lines.old line.number line.thread line.action lines.new)) }
-    ensures fault { IfErr result (λ fault. (taken : ℕ)
-        → Fails fault (moves_from lines.old.number taken lines.old.lines)) }
-    ensures no_memory { IfErr result IsOfText }
-{
-    if let Some((number, thread, action)) = lines.next_move() {
-        return Ok(Some(Line {
-            number,
-            thread,
-            action,
-        }));
-    }
-    let Some((number, line)) = lines.next_line() else {
-        return Ok(None);
-    };
-    let Some((thread, action)) = move_of(line) else {
-        return Err(ReadFault::BadLine(number));
-    };
-    Ok(Some(Line {
-        number,
-        thread,
-        action,
-    }))
-}
-
-// The next move of these lines, if `taken` came before it.
-fn next_move(lines: &mut Lines<'_>, taken: usize) -> Result<Option<Line>, ReadFault>
+/// Reads the next move of these lines, before which there were `taken`.
+///
+/// # Errors
+///
+/// The next line that is not skipped is no move, or it is one too many.
+pub fn read_move(lines: &mut Lines<'_>, taken: usize) -> Result<Option<Line>, ReadFault>
     ensures read { IfOk result (λ next. MatchOption next
         (moves_from lines.old.number taken lines.old.lines ≡ Ok [])
         (λ line. moves_from lines.old.number taken lines.old.lines
@@ -157,13 +132,26 @@ fn next_move(lines: &mut Lines<'_>, taken: usize) -> Result<Option<Line>, ReadFa
         (λ fault. Fails fault (moves_from lines.old.number taken lines.old.lines)) }
     ensures no_memory { IfErr result IsOfText }
 {
-    let Some(line) = next_line(lines)? else {
-        return Ok(None);
+    let (number, thread, action) = match lines.next_move() {
+        Some(read) => read,
+        None => {
+            let Some((number, line)) = lines.next_line() else {
+                return Ok(None);
+            };
+            let Some((thread, action)) = move_of(line) else {
+                return Err(ReadFault::BadLine(number));
+            };
+            (number, thread, action)
+        }
     };
     if taken == MOST_MOVES {
-        return Err(ReadFault::TooManyMoves(line.number));
+        return Err(ReadFault::TooManyMoves(number));
     }
-    Ok(Some(line))
+    Ok(Some(Line {
+        number,
+        thread,
+        action,
+    }))
 }
 
 // The moves of these lines, for which there is room for `most` at first.
@@ -176,7 +164,7 @@ fn read_moves(alloc: Global, lines: Lines<'_>, most: usize) -> Result<Vec<Line>,
 {
     let mut moves = Vec::with_capacity(alloc, most).or(Err(ReadFault::OutOfMemory))?;
     let mut lines = lines;
-    while let Some(line) = next_move(&mut lines, moves.len())? {
+    while let Some(line) = read_move(&mut lines, moves.len())? {
         moves.push(line).or(Err(ReadFault::OutOfMemory))?;
     }
     Ok(moves)

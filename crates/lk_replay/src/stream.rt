@@ -88,9 +88,6 @@ pub fn run<R: Read, W: Write>(
     output: &mut W,
 ) -> Result<Ending, RunFault>
     ensures written { OnOk result (IfSome (R.remaining input.old)
-        (λ text. Appends (W.contents output.old) (W.contents output.new) (report_text text))) }
-    ensures promised { OnOk result
-        (IfSome (R.remaining input.old)
         (AppendsReport (W.contents output.old) (W.contents output.new))) }
     ensures ending { IfOk result
         (λ ending. IfSome (R.remaining input.old) (λ text. ending ≡ ending_of (report_text text))) }

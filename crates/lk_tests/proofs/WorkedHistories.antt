@@ -5,7 +5,7 @@ use Rattle.std.specs.List.{flat_map, AllByRecursion, Any}
 use Rattle.lk_locks.specs.Legal.{Legal, subhistory, whole_call}
 use Rattle.lk_locks.specs.Calls.{HasDone}
 use Rattle.lk_locks.proofs.Places.{HasOne, any_of, one_of}
-use Rattle.lk_tests.specs.WorkedHistories.{handed_on, writers_in_turn, announced_entered}
+use Rattle.lk_tests.specs.WorkedHistories.{handover, writers_in_turn, announced_entered}
 use Rattle.lk_tests.specs.WorkedHistories.{act_without_call}
 use Rattle.lk_locks.specs.declared.kinds.LockKind.TheVariants.{Ticket, Mcs, RwSimple, RwFifo}
 use Rattle.lk_locks.specs.declared.kinds.Op.{Op}
@@ -14,14 +14,14 @@ use Rattle.lk_locks.specs.declared.kinds.Op.TheVariants.{WriteLock, Downgrade}
 use Rattle.lk_locks.specs.declared.kinds.Entry.{Entry}
 use Rattle.lk_locks.specs.declared.kinds.Entry.TheVariants.{Called, Acted}
 
--- what holds of thread 0 and of thread 1 holds of both threads
+-- a fact about thread 0 and about thread 1 holds of both threads
 two_threads : (P : ℕ → Type 0) → P 0 → P 1 → (t : ℕ) → t < 2 → P t
 two_threads P p q zero h = p
 two_threads P p q (suc zero) h = q
 two_threads P p q (suc (suc t)) h = absurd (omega arith)
 
 -- a ticket lock that is handed on from one thread to the other has a legal history
-pub ticket_legal : Legal Ticket 2 handed_on
+pub ticket_legal : Legal Ticket 2 handover
 ticket_legal = record {
   allowed = (tt, (refl, (refl, (tt, (refl, (tt, (refl, (tt, (refl, tt)))))))));
   well_formed = two_threads _ (Acquire ∷ Release ∷ [], [], refl) (Acquire ∷ [], [], refl);
@@ -29,7 +29,7 @@ ticket_legal = record {
 }
 
 -- so has an MCS lock
-pub mcs_legal : Legal Mcs 2 handed_on
+pub mcs_legal : Legal Mcs 2 handover
 mcs_legal = record {
   allowed = (tt, (refl, (refl, (tt, (refl, (tt, (refl, (tt, (refl, tt)))))))));
   well_formed = two_threads _ (Acquire ∷ Release ∷ [], [], refl) (Acquire ∷ [], [], refl);
@@ -82,11 +82,11 @@ no_call (op ∷ ops) rest e = cc
 pub not_legal : Legal Mcs 2 act_without_call → ⊥
 not_legal l = let w = l.well_formed 0 (omega arith) in no_call w.0 w.1 w.2
 
--- what an entry does not meet, a list of it alone does not have
+-- a list of one entry has no fact that the entry does not meet
 pub not_of_one : (P : Entry → Type 0) (x : Entry) → (P x → ⊥) → Any P (x ∷ []) → ⊥
 not_of_one P x f a = elim (one_of P (x ∷ []) a) [ inl d ↦ f d | inr n ↦ n ]
 
--- what two entries do not meet, a list of the two does not have
+-- a list of two entries has no fact that neither meets
 pub not_of_two : (P : Entry → Type 0) (x y : Entry) → (P x → ⊥) → (P y → ⊥)
     → Any P (x ∷ y ∷ []) → ⊥
 not_of_two P x y f g a = elim (one_of P (x ∷ y ∷ []) a) [
@@ -94,7 +94,7 @@ not_of_two P x y f g a = elim (one_of P (x ∷ y ∷ []) a) [
   | inr r ↦ not_of_one P y g (any_of P (y ∷ []) r)
 ]
 
--- what no entry of a list meets, the list does not have
+-- a list has no fact that none of its entries meets
 none_meets : (P : Entry → Type 0) (es : List Entry) → AllByRecursion (λ e. P e → ⊥) es
     → HasOne P es → ⊥
 none_meets P [] none h = h
@@ -115,7 +115,7 @@ called_in : (t : ℕ) (op : Op) (start middle : List Entry)
 called_in t op [] middle = inl refl
 called_in t op (x ∷ start) middle = inr (called_in t op start middle)
 
--- what a thread did since its only call is what it did after it
+-- a thread has done since its only call what it did after it
 since : (t : ℕ) (op : Op) (deeds rest start middle : List Entry) → (IsCalled t op rest → ⊥)
     → Called t op ∷ rest ≡ start ++ Called t op ∷ middle → subhistory t middle ≡ deeds
     → subhistory t rest ≡ deeds

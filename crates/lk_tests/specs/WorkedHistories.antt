@@ -26,8 +26,8 @@ abbrev pub left_free : List Entry
 left_free = one_inside ++ Called 0 Release ∷ Acted 0 Release ∷ Returned 0 Release ∷ []
 
 -- thread 1 has entered
-abbrev pub handed_on : List Entry
-handed_on = left_free ++ Returned 1 Acquire ∷ []
+abbrev pub handover : List Entry
+handover = left_free ++ Returned 1 Acquire ∷ []
 
 -- a thread enters beside another one, or once more
 abbrev pub enters : ℕ → List Entry
@@ -120,7 +120,7 @@ reader_passes = announcement ++ reads 2
 abbrev pub writer_passes : List Entry
 writer_passes = announcement ++ Called 2 WriteLock ∷ Announced 2 ∷ []
 
--- what the theorem says of a history
+-- the theorem about a history
 
 -- it says this of every history that is as promised
 abbrev pub OfEachPromised : (LockKind → ℕ → List Entry → Type 0) → Type 0

@@ -1,4 +1,4 @@
-//! What a line of a worked row says.
+//! The meaning of a line of a worked row.
 
 use lk_lines::{cut_word, move_named, number_of, outcome_named, whole_number};
 use lk_locks::{Entry, Move, Op, Outcome, Refusal, StepKind};
@@ -26,8 +26,8 @@ fn outcome_of(word: &[u8]) -> Option<Outcome> {
     outcome_named(word)
 }
 
-/// What the line says.
-pub fn said(line: &[u8]) -> Option<Said<'_>> {
+/// The meaning of the line.
+pub fn meaning_of(line: &[u8]) -> Option<Said<'_>> {
     let (thread, line) = first_word(line);
     let (action, line) = first_word(line);
     let (outcome, rest) = first_word(line);
@@ -57,8 +57,8 @@ fn operation_on(kind: StepKind, thread: u8, word: usize, left: u64) -> Option<Op
     }
 }
 
-// What a line says of a step of this kind, and the rest of it.
-fn done(kind: StepKind, thread: u8, line: &[u8]) -> Option<(Done, &[u8])> {
+// The operation of a step of this kind, as a line tells it, and the rest of it.
+fn operation_in(kind: StepKind, thread: u8, line: &[u8]) -> Option<(Done, &[u8])> {
     let (word, line) = first_number(line)?;
     let (found, line) = first_number(line)?;
     let (left, rest) = first_number(line)?;
@@ -66,11 +66,11 @@ fn done(kind: StepKind, thread: u8, line: &[u8]) -> Option<(Done, &[u8])> {
     Some(((operation, found, left), rest))
 }
 
-/// What the rest of a line says of the move, if that is one operation, and the entries after that.
-pub fn done_by(action: Move, thread: u8, line: &[u8]) -> Option<(Option<Done>, &[u8])> {
+/// The operation of the move, as the rest of a line tells it, if any, and the entries after it.
+pub fn operation_of(action: Move, thread: u8, line: &[u8]) -> Option<(Option<Done>, &[u8])> {
     match action {
         Move::Step(kind) if kind != StepKind::Section => {
-            let (due, rest) = done(kind, thread, line)?;
+            let (due, rest) = operation_in(kind, thread, line)?;
             Some((Some(due), rest))
         }
         _ => Some((None, line)),

@@ -4,7 +4,7 @@
 ghost use Rattle.std.specs.Prelude.{◌<◌, ◌≤◌, ◌^◌};
 
 use crate::holding::{holds, holds_at};
-use crate::lines::{Done, Said, are_recorded, done_by, first_word, is_named, said};
+use crate::lines::{Done, Said, are_recorded, first_word, is_named, meaning_of, operation_of};
 use crate::refusals::REFUSED;
 use crate::refusing::{MOST_REQUESTS, is_refusing, refuse, was_refused};
 use crate::rows::{ROWS, Row};
@@ -31,8 +31,8 @@ struct Both {
     ops: [Op; 64],
 }
 
-// Who holds, in a form that compares: a mode, and the threads as bits.
-fn told(holders: &Holders) -> (char, u64) {
+// The holders, in a form that compares: a mode, and the threads as bits.
+fn holder_bits(holders: &Holders) -> (char, u64) {
     match holders {
         Holders::Nobody => ('-', 0),
         Holders::Holder(t) => ('h', 1 << (t & 63)),
@@ -47,9 +47,9 @@ fn told(holders: &Holders) -> (char, u64) {
     }
 }
 
-// Who entered is inside, and who left is not.
+// A thread that entered is inside, and one that left is not.
 fn agrees(holders: &Holders, thread: u8, outcome: Outcome) -> bool {
-    let is_inside = told(holders).1 & (1 << (thread & 63)) != 0;
+    let is_inside = holder_bits(holders).1 & (1 << (thread & 63)) != 0;
     match outcome {
         Outcome::Entered => is_inside,
         Outcome::Left => !is_inside,
@@ -82,7 +82,7 @@ pub fn new_keeper(alloc: Global, kind: LockKind, threads: u8, bits: u8) -> Keepe
 
 // Makes the move, and gives the operation that it was, as the machine said it before, and whether
 // that was one and came to this. A call is none.
-fn made(
+fn make_move(
     machine: &mut Machine<CountingWords<WordArray>>,
     thread: u8,
     action: Move,
@@ -110,23 +110,27 @@ fn made(
     )
 }
 
-// What a keeper shows, in a form that compares.
-fn shown(keeper: &Keeper<WordArray>) -> (usize, (char, u64), u64) {
+// The state that a keeper shows, in a form that compares.
+fn state_of(keeper: &Keeper<WordArray>) -> (usize, (char, u64), u64) {
     let mut queue = 0u64;
     for t in keeper.queue().as_slice() {
         queue = queue.wrapping_mul(65).wrapping_add(u64::from(*t) + 1);
     }
-    (keeper.entries().len(), told(&keeper.holders()), queue)
+    (
+        keeper.entries().len(),
+        holder_bits(&keeper.holders()),
+        queue,
+    )
 }
 
 // Plays the move, once more if memory was refused. Then nothing had changed.
 fn play_at_last(keeper: &mut Keeper<WordArray>, thread: u8, action: Move) -> Option<Outcome> {
-    let before = shown(keeper);
+    let before = state_of(keeper);
     let answer = keeper.play(thread, action);
     if answer != Err(PlayFault::OutOfMemory) {
         return answer.ok();
     }
-    if shown(keeper) != before {
+    if state_of(keeper) != before {
         return None;
     }
     keeper.play(thread, action).ok()
@@ -148,10 +152,10 @@ impl Both {
         if let Move::Call(op) = action {
             self.ops[place] = op;
         }
-        let Some((due, rest)) = done_by(action, thread, line) else {
+        let Some((due, rest)) = operation_of(action, thread, line) else {
             return false;
         };
-        let (said, is_made) = made(&mut self.machine, thread, action, outcome);
+        let (said, is_made) = make_move(&mut self.machine, thread, action, outcome);
         let count = self.keeper.entries().len();
         let is_played = play_at_last(&mut self.keeper, thread, action) == Some(outcome);
         is_made
@@ -163,11 +167,11 @@ impl Both {
 
     // Tries the move on both, and says whether both refuse it as the line says.
     fn refuses(&mut self, (thread, action, _, name): Said) -> bool {
-        let (count, before) = (self.machine.words().count(), shown(&self.keeper));
+        let (count, before) = (self.machine.words().count(), state_of(&self.keeper));
         let checked = self.machine.check(thread, action).err();
         let applied = self.machine.apply(thread, action).err();
         let played = self.keeper.play(thread, action).err();
-        let is_kept = self.machine.words().count() == count && shown(&self.keeper) == before;
+        let is_kept = self.machine.words().count() == count && state_of(&self.keeper) == before;
         match applied {
             Some(refusal) => {
                 is_kept
@@ -194,7 +198,7 @@ fn does_lines(rt: &impl Abort, both: &mut Both, row: &Row, refused: bool) {
         let Some((number, line)) = lines.next_line() else {
             return;
         };
-        let is_right = match said(line) {
+        let is_right = match meaning_of(line) {
             Some(said) => both.does(said, refused),
             None => false,
         };
@@ -252,7 +256,7 @@ fn text_of(alloc: Global, row: &Row) -> Result<Vec<u8>, AllocError> {
 
 // Whether this is the move of a line of the row, which is a line after it in the schedule.
 fn is_accepted(accepted: &Accepted, number: u32, line: &[u8]) -> bool {
-    match said(line) {
+    match meaning_of(line) {
         Some((thread, action, outcome, _)) => {
             (accepted.line, accepted.thread) == (number.saturating_add(1), thread)
                 && accepted.action == action
@@ -267,7 +271,7 @@ fn is_accepted(accepted: &Accepted, number: u32, line: &[u8]) -> bool {
 fn ends(next: Option<(u32, &[u8])>, refused: Option<(u32, Refusal)>) -> bool {
     match (next, refused) {
         (None, None) => true,
-        (Some((number, line)), Some((at, refusal))) => match said(line) {
+        (Some((number, line)), Some((at, refusal))) => match meaning_of(line) {
             Some((_, _, None, name)) => at == number.saturating_add(1) && is_named(refusal, name),
             _ => false,
         },

@@ -1,5 +1,5 @@
 //! Each request for memory refused in turn, in each call by itself, and calls that ask for none.
-//! tests/refusals.py refuses each of the built program, on every worked row.
+//! tests/lockreplay/test_memory.py refuses each of the built program, on every worked row.
 
 mod of_locks;
 mod of_replays;

@@ -2,7 +2,7 @@
 //! tests/refuse, which the test command preloads in a second run; its head says how a test speaks
 //! to it. With ample memory the same tests meet none.
 //!
-//! tests/refusals.py refuses the requests of the built program, which says nothing to it.
+//! tests/lockreplay/test_memory.py refuses those of the built program, which says nothing to it.
 
 use std::alloc::Global;
 use std::process::Abort;

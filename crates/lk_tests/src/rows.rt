@@ -10,7 +10,7 @@
 pub struct Row {
     pub header: &'static str,
     pub lines: &'static str,
-    /// How many operations on words that is. The sections of read-write locks are not counted.
+    /// The number of operations on words. The sections of read-write locks are not counted.
     pub operations: u64,
     /// The words afterwards. All others are 0.
     pub words: &'static [u64],

@@ -2,7 +2,7 @@
 //! and what is found of a sketch, are rows of the built program.
 
 use lk_locks::{LockKind, Shape};
-use lk_search::{Bounds, Lent, SearchFault, Space};
+use lk_search::{Bounds, Lent, Rounds, SearchFault, Space};
 use std::process::Abort;
 
 /// It has 41 states, and a row of it has 10 cells.
@@ -15,7 +15,12 @@ fn states_in_lent_memory(rt: HostRuntime) {
     let (mut cells, mut slots) = ([0; 410], [0; 82]);
     for (lent, due) in [(410, Some(41)), (409, None)] {
         let store = Lent::new(&mut cells[..lent], &mut slots);
-        let found = Space::explore(store, ticket_lock(), Bounds::new(1, &[]), 1000);
+        let found = Space::explore(
+            store,
+            ticket_lock(),
+            Bounds::new(Rounds::UpTo(1), &[]),
+            1000,
+        );
         let states = match found {
             Ok(space) => Some(space.states()),
             Err(SearchFault::OutOfMemory) => None,

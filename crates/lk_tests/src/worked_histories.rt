@@ -1,22 +1,20 @@
-//! What the laws say of histories that are written out. A law that came to say nothing would hold
-//! of all of them, or of none.
+//! The laws are evaluated on histories that are written out. A law that came to say nothing would
+//! hold of all of them, or of none.
 //!
 //! Each function's contract evaluates the definitions of one file on worked histories, and its body
 //! is empty.
 
 ghost use Rattle.std.specs.Prelude.{◌≡◌, ℕ, ◌++◌, List, [], ◌∷◌, None, Some, Any};
-ghost use Rattle.lk_tests.specs.WorkedHistories.{one_inside, left_free, handed_on, two_inside};
+ghost use Rattle.lk_tests.specs.WorkedHistories.{one_inside, left_free, handover, two_inside};
 ghost use Rattle.lk_tests.specs.WorkedHistories.{unlocked_by_another, left_once, OfEachPromised};
-ghost use Rattle.lk_tests.specs.WorkedHistories.{WritesAlone};
-ghost use Rattle.lk_tests.specs.WorkedHistories.{overtaking, released_by_another};
-ghost use Rattle.lk_tests.specs.WorkedHistories.{entry_without_act};
-ghost use Rattle.lk_tests.specs.WorkedHistories.{asked_twice, act_without_call, reads, writes};
-ghost use Rattle.lk_tests.specs.WorkedHistories.{two_readers};
-ghost use Rattle.lk_tests.specs.WorkedHistories.{writers_in_turn, two_writers};
-ghost use Rattle.lk_tests.specs.WorkedHistories.{reader_beside_writer, writer_beside_reader};
-ghost use Rattle.lk_tests.specs.WorkedHistories.{writer_beside_downgraded, announcement};
-ghost use Rattle.lk_tests.specs.WorkedHistories.{announced_entered, reader_passes, writer_passes};
-ghost use Rattle.lk_tests.specs.WorkedHistories.{ticket_moves, mcs_moves, simple_moves, fifo_moves};
+ghost use Rattle.lk_tests.specs.WorkedHistories.{WritesAlone, overtaking, released_by_another};
+ghost use Rattle.lk_tests.specs.WorkedHistories.{entry_without_act, asked_twice, act_without_call};
+ghost use Rattle.lk_tests.specs.WorkedHistories.{reads, writes, two_readers, writers_in_turn};
+ghost use Rattle.lk_tests.specs.WorkedHistories.{two_writers, reader_beside_writer};
+ghost use Rattle.lk_tests.specs.WorkedHistories.{writer_beside_reader, writer_beside_downgraded};
+ghost use Rattle.lk_tests.specs.WorkedHistories.{announcement, announced_entered, reader_passes};
+ghost use Rattle.lk_tests.specs.WorkedHistories.{writer_passes, ticket_moves, mcs_moves};
+ghost use Rattle.lk_tests.specs.WorkedHistories.{simple_moves, fifo_moves};
 ghost use Rattle.lk_locks.specs.Legal.{Legal, subhistory};
 ghost use Rattle.lk_locks.specs.Holding.{holder_after, holding_of, waiting_of, IsListed, Free};
 ghost use Rattle.lk_locks.specs.Holding.{HeldBy, ReadBy, WrittenBy};
@@ -37,8 +35,8 @@ ghost use Rattle.lk_locks.specs.declared.kinds.Entry.TheVariants.{Called, Acted,
 /// Hand-overs are legal. No thread enters before its turn, releases what another holds, or acts in
 /// no call; and no thread is above the lock's.
 pub fn legal_histories()
-    ensures ticket { Legal Ticket 2 handed_on }
-    ensures mcs { Legal Mcs 2 handed_on }
+    ensures ticket { Legal Ticket 2 handover }
+    ensures mcs { Legal Mcs 2 handover }
     ensures simple { Legal RwSimple 2 writers_in_turn }
     ensures fifo { Legal RwFifo 2 announced_entered }
     ensures overtaken { Legal Mcs 2 overtaking → ⊥ }
@@ -48,19 +46,19 @@ pub fn legal_histories()
     ensures writers { Legal RwSimple 2 (two_writers 0 1) → ⊥ }
     ensures passed { Legal RwFifo 3 reader_passes → ⊥ }
     ensures announced { Legal RwFifo 3 writer_passes → ⊥ }
-    ensures strangers { Legal Ticket 1 handed_on → ⊥ }
-    ensures own { subhistory 1 handed_on
+    ensures strangers { Legal Ticket 1 handover → ⊥ }
+    ensures own { subhistory 1 handover
         ≡ Called 1 Acquire ∷ Acted 1 Acquire ∷ Returned 1 Acquire ∷ [] }
 {}
 
-/// Who holds, and who is in the queue. An act that is not allowed changes neither.
+/// Holders and queue of histories. An act that is not allowed changes neither.
 pub fn holders_of_histories()
     ensures nobody { holding_of Ticket [] ≡ Free }
     ensures first { holding_of Ticket one_inside ≡ HeldBy 0 }
     ensures free { holding_of Mcs left_free ≡ Free }
-    ensures second { holding_of Mcs handed_on ≡ HeldBy 1 }
+    ensures second { holding_of Mcs handover ≡ HeldBy 1 }
     ensures asked { waiting_of Ticket one_inside ≡ 0 ∷ 1 ∷ [] }
-    ensures left { waiting_of Mcs handed_on ≡ 1 ∷ [] }
+    ensures left { waiting_of Mcs handover ≡ 1 ∷ [] }
     ensures writer { holding_of RwSimple (writes 0) ≡ WrittenBy 0 }
     ensures readers { holding_of RwSimple two_readers ≡ ReadBy (0 ∷ 1 ∷ []) }
     ensures simple { waiting_of RwSimple two_readers ≡ [] }
@@ -86,12 +84,12 @@ pub fn holders_of_queue_locks()
     ensures mcs { IsQueueLock Mcs }
     ensures simple { IsQueueLock RwSimple → ⊥ }
     ensures fifo { IsQueueLock RwFifo → ⊥ }
-    ensures apart { HasOneHolder handed_on }
+    ensures apart { HasOneHolder handover }
     ensures beside { (t u : ℕ) → HasOneHolder (two_inside t u) → ⊥ }
-    ensures in_turn { IsHeldInTurn None handed_on }
+    ensures in_turn { IsHeldInTurn None handover }
     ensures not_in_turn { IsHeldInTurn None (two_inside 0 1) → ⊥ }
     ensures another { IsHeldInTurn None released_by_another → ⊥ }
-    ensures head { IsHeldByHead Mcs handed_on }
+    ensures head { IsHeldByHead Mcs handover }
     ensures overtakes { IsHeldByHead Mcs overtaking → ⊥ }
 {}
 
@@ -113,12 +111,12 @@ pub fn writers_of_read_write_locks()
     ensures writer_passes { IsAnnouncedFirst writer_passes → ⊥ }
 {}
 
-/// Who asked first enters first.
+/// The thread that asked first enters first.
 pub fn order_of_entering()
     ensures asked { request_order one_inside ≡ 0 ∷ 1 ∷ [] }
     ensures first { entering_order one_inside ≡ 0 ∷ [] }
-    ensures both { entering_order handed_on ≡ 0 ∷ 1 ∷ [] }
-    ensures in_order { IsInOrder handed_on }
+    ensures both { entering_order handover ≡ 0 ∷ 1 ∷ [] }
+    ensures in_order { IsInOrder handover }
     ensures out_of_order { IsInOrder overtaking → ⊥ }
     ensures not_asked { IsInOrder entry_without_act → ⊥ }
 {}
@@ -126,12 +124,12 @@ pub fn order_of_entering()
 /// A call acts once before it returns. Before its act comes a call, and what follows is the
 /// return.
 pub fn acts_of_calls()
-    ensures once { ActsOnce Mcs handed_on }
+    ensures once { ActsOnce Mcs handover }
     ensures never { ActsOnce Mcs entry_without_act → ⊥ }
     ensures twice { ActsOnce Mcs asked_twice → ⊥ }
     ensures simple { ActsOnce RwSimple writers_in_turn }
     ensures unannounced { ActsOnce RwFifo (writes 0) → ⊥ }
-    ensures called { ActsInCalls Mcs handed_on }
+    ensures called { ActsInCalls Mcs handover }
     ensures not_called { ActsInCalls Mcs act_without_call → ⊥ }
     ensures acts_next { ActsInCalls Mcs asked_twice → ⊥ }
 {}
@@ -158,13 +156,13 @@ pub fn parts_of_the_theorem()
 /// promised.
 pub fn runs_of_moves()
     ensures ticket { entries_after (start Ticket 2 (0 ∷ 0 ∷ []) 2) ticket_moves
-        ≡ handed_on }
+        ≡ handover }
     ensures mcs { entries_after (start Mcs 2 (0 ∷ 0 ∷ 0 ∷ 0 ∷ 0 ∷ []) 2) mcs_moves
-        ≡ handed_on }
+        ≡ handover }
     ensures simple { entries_after (start RwSimple 2 (0 ∷ 0 ∷ []) 2) simple_moves
         ≡ two_readers }
     ensures fifo { entries_after (start RwFifo 2 (0 ∷ 0 ∷ 0 ∷ []) 2) fifo_moves
         ≡ announced_entered }
-    ensures queue_lock { IsAsPromised Mcs 2 handed_on }
+    ensures queue_lock { IsAsPromised Mcs 2 handover }
     ensures read_write_lock { IsAsPromised RwFifo 2 announced_entered }
 {}

@@ -1,4 +1,4 @@
-//! What no clause says: worked rows, and that threads really run side by side.
+//! Tests of what no clause says: worked rows, and that threads really run side by side.
 
 pub mod batches;
 mod drawn;

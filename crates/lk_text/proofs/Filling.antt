@@ -7,7 +7,7 @@ use Rattle.lk_text.specs.Filled.{sentence_with, filled_from, place_text}
 abbrev pub Lacks : ℕ → List ℕ → Type 0
 Lacks c xs = (i : ℕ) → i < length xs → get_or xs i 0 ≢ c
 
--- what comes before a place stays
+-- the text before a place stays
 front_stays : (texts : List (List ℕ × List ℕ)) (xs rest : List ℕ) → Lacks 123 xs
     → filled_from texts None (xs ++ rest) ≡ xs ++ filled_from texts None rest
 unfolding filled_from

@@ -1,4 +1,4 @@
--- What fills the place of a name is the text of the value of that name.
+-- The place of a name is filled with the text of the value of that name.
 use Rattle.std.proofs.Common.{◌≡◌, ℕ, List, [], ◌∷◌, ◌++◌, ◌∙◌, Some, None, Option, refl, sym, ap}
 use Rattle.std.proofs.Common.{codes, Bool, true, false, inl, inr, Bor}
 use Rattle.std.specs.Prelude.{find, option_map, if◌then◌else◌}

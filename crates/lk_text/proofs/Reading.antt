@@ -1,4 +1,4 @@
--- What is kept of a line means what the line means, and the verdict is read line by line.
+-- The kept part of a line means what the line means, and the verdict is read line by line.
 use Rattle.std.proofs.Common.{◌≡◌, ℕ, ◌+◌, ◌<◌, List, [], ◌∷◌, length, take, Bool, true, false}
 use Rattle.std.proofs.Common.{◌==◌, ◌||◌, None, Some, Result, Err, IfSome, refl}
 use Rattle.std.proofs.Common.{sym, ap, ap₂, ◌∙◌, arith, length-take-le, get_or-take, inl, inr}
@@ -69,7 +69,7 @@ same_skip line = elim (cases_lt 97 (length line)) [
   | inr short ↦ ap is_skipped (take_all 97 line short)
 ]
 
--- what is kept of a line comes to what the line comes to
+-- the kept part of a line comes to what the line comes to
 kept_event : (reading : Option Checked) (line kept : List ℕ) → kept ≡ take 97 line
     → event_of reading kept ≡ event_of reading line
 kept_event None line kept is =

@@ -1,4 +1,4 @@
--- Definitions. What an accepted trace is, line by line. It rests on what it is that a line agrees
+-- Definitions. An accepted trace, line by line. It rests on the definition of a line that agrees
 -- with the lock.
 use Rattle.std.specs.Prelude.{◌≡◌, ◌⊎◌, ℕ, List, [], ◌∷◌, true, false, Some, Ok}
 use Rattle.lk_lines.specs.Lines.{is_skipped}

@@ -1,4 +1,4 @@
--- Definitions. What was expected and what was found, of a line that differs from its lock.
+-- Definitions. The values expected and found, of a line that differs from its lock.
 use Rattle.std.specs.Prelude.{◌≡◌, ◌+◌, ◌-◌, ◌^◌, ℕ, min, Option, None, Some}
 use Rattle.lk_trace.specs.declared.difference.Difference.{Difference}
 use Rattle.lk_trace.specs.declared.difference.Difference.TheVariants.{FoundOther, LeftOther}

@@ -25,7 +25,7 @@ abbrev pub bytes_of : Option (List ℕ) → List ℕ
 bytes_of None = []
 bytes_of (Some bytes) = bytes
 
--- what a value is in a text
+-- a value as a text
 abbrev pub value_text : Value → List ℕ
 value_text (Number n) = decimal n
 value_text (Text said) = said.now
@@ -51,7 +51,7 @@ or_name (Some p) name = p.1
 abbrev pub place_text : List (List ℕ × List ℕ) → List ℕ → List ℕ
 place_text texts name = or_name (find (λ p. bytes_eq p.0 name) texts) name
 
--- what is left of a sentence, in a place of which this much of the name was read, or in none
+-- the rest of a sentence, in a place of which this much of the name was read, or in none
 unfoldable pub filled_from : List (List ℕ × List ℕ) → Option (List ℕ) → List ℕ → List ℕ
 filled_from texts None [] = []
 filled_from texts (Some name) [] = 123 ∷ name

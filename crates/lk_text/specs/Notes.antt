@@ -1,4 +1,4 @@
--- Definitions. What is said beside a message.
+-- Definitions. The notes beside a message.
 use Rattle.std.specs.Prelude.{◌≡◌, ◌++◌, ◌∷◌, [], ℕ, List, Option, IfSome, string_bytes}
 use Rattle.lk_text.specs.declared.report.Note.{Note}
 

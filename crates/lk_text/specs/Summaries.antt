@@ -1,5 +1,4 @@
--- Definitions. What a run had of contention, counted move by move. A count stays at its greatest
--- value.
+-- Definitions. The contention of a run, counted move by move. A count stays at its greatest value.
 use Rattle.std.specs.Prelude.{ℕ, ◌+◌, ◌-◌, ◌^◌, ◌||◌, List, [], ◌∷◌, ◌++◌, codes, length, max, min}
 use Rattle.std.specs.Prelude.{set, replicate, slice_index, nat_lt, Bool, true, false, count_by}
 use Rattle.std.specs.Prelude.{◌==◌, if◌then◌else◌}
@@ -100,7 +99,7 @@ moved_in moved = count_by (λ m. m) moved
 abbrev pub count_of : ℕ → List ℕ → List ℕ → List ℕ
 count_of n one several = in_groups 6 n ++ codes " " ++ (if n == 1 then one else several)
 
--- what fills the sentence of the counts
+-- the values in the sentence of the counts
 abbrev pub counts_of : Summary → List (List ℕ × List ℕ)
 counts_of s =
     (codes "threads", count_of (moved_in s.moved) (codes "thread") (codes "threads"))

@@ -5,7 +5,7 @@ use Rattle.std.specs.Prelude.{◌≡◌, ◌++◌, ℕ, List, Option, String, If
 abbrev pub Adds : List ℕ → Option (List ℕ) → Option (List ℕ) → Type 0
 Adds said old new = IfSome new (λ text. IsSomeAnd old (λ before. text ≡ before ++ said))
 
--- what there was stays, unless a request for memory was refused
+-- the text before stays, unless a request for memory was refused
 abbrev pub Grows : Option (List ℕ) → Option (List ℕ) → Type 0
 Grows old new =
     IfSome new (λ text. IsSomeAnd old (λ before. (more : List ℕ) × (text ≡ before ++ more)))

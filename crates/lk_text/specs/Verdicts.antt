@@ -1,5 +1,5 @@
--- Definitions. How a whole text ends: its lines are read one after another, up to the first that
--- ends it. And the status of the program by it.
+-- Definitions. The verdict on a whole text: its lines are read one after another, up to the first
+-- that ends it. And the status of the program by it.
 use Rattle.std.specs.Prelude.{◌≡◌, ◌≢◌, ◌↔◌, ◌+◌, ◌≤◌, ℕ, List, [], ◌∷◌}
 use Rattle.std.specs.Prelude.{length, fold, max}
 use Rattle.std.specs.Prelude.{Option, None, Some, IfSome, Result, IfOk, Bool, true, false}

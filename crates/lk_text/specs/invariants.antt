@@ -1,5 +1,5 @@
--- Invariants: what was taken of an input so far, and what its lines came to. No contract that the
--- crate exports rests on it.
+-- Invariants: the part of an input that was taken so far, and its lines. No contract that the crate
+-- exports rests on it.
 use Rattle.std.specs.Prelude.{◌≡◌, ℕ, ◌<◌, List, [], ◌++◌, length, take, Bool, true, false}
 use Rattle.std.specs.Prelude.{◌||◌, Option, IfSome, IsSomeAnd}
 use Rattle.std.specs.List.{All}
@@ -48,7 +48,7 @@ Follows number (Differs line difference) on report =
 Follows number (Fault fault) on report = (on ≡ false) × (verdict_in report ≡ verdict Faulty number)
 Follows number event on report = on ≡ true
 
--- what is left of a text ends as the text does
+-- the rest of a text ends as the text does
 pub record EndsAs (text rest : List ℕ) (number : ℕ) (reading : Option Checked) (fates : List Fate)
     (counts : Summary) : Type 0 where
   pub verdict_is :

@@ -1,6 +1,6 @@
-//! What helps to see why a run ended. Of a refused move it is the moves of its thread before it,
-//! the last write to its word, and a poll after which the thread should have waited, or should not.
-//! Of a run that hangs it is what each thread waits for, by the words of its lock.
+//! Notes that help to see why a run ended. Of a refused move they tell the moves of its thread
+//! before it, the last write to its word, and a poll after which the thread should have waited, or
+//! should not. Of a run that hangs they tell what each thread waits for, by the words of its lock.
 
 ghost use Rattle.std.specs.Prelude.{◌<◌, length};
 
@@ -29,7 +29,7 @@ fn word_text(word: Option<WordName>) -> InlineText<40> {
     word.map_or(InlineText::new(), |word| InlineText::of(word))
 }
 
-// What a thread waits for, as a text.
+// The wait of a thread, as a text.
 fn due_text(awaited: Option<Awaited>) -> InlineText<40> {
     match awaited {
         Some(Awaited::Ticket(due) | Awaited::Value(due) | Awaited::Other(due)) => {
@@ -40,7 +40,7 @@ fn due_text(awaited: Option<Awaited>) -> InlineText<40> {
     }
 }
 
-// What a thread did after its last poll, if it should have done otherwise.
+// The deed of a thread after its last poll, if it should have done otherwise.
 fn did_after(outcome: Outcome, action: Move, refusal: Refusal) -> Option<&'static str> {
     match (outcome, refusal, action) {
         (
@@ -56,7 +56,7 @@ fn did_after(outcome: Outcome, action: Move, refusal: Refusal) -> Option<&'stati
     }
 }
 
-// What is said of a poll: of one on a word, or of a section.
+// A sentence about a poll: of one on a word, or of a section.
 fn poll_sentence(is_on_word: bool, awaited: Option<Awaited>) -> &'static str {
     match awaited {
         Some(Awaited::Ticket(_)) => {
@@ -172,7 +172,7 @@ pub fn put_blame(
     }
 }
 
-/// What is said of a run that hangs.
+/// The message about a run that hangs.
 pub const HANGS: &str = "hangs: each thread that has not ended waits";
 
 /// Whether a thread's next step, if it is in a call, would be no failed poll.
@@ -184,7 +184,7 @@ pub fn may_go_on(lock: &Lock, thread: u8) -> bool {
             .is_some_and(|effect| effect.outcome() != Outcome::Waits)
 }
 
-// What a thread that hangs waits for.
+// The wait of a thread that hangs, as a sentence.
 fn wait_sentence(awaited: Option<Awaited>) -> &'static str {
     match awaited {
         Some(Awaited::Ticket(_)) => {

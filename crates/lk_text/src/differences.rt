@@ -63,7 +63,7 @@ fn sentence_of(difference: Difference) -> &'static str {
     }
 }
 
-// What was expected and what was found, of a difference that says it.
+// The values expected and found, of a difference that says them.
 fn datums_of(line: TraceLine, difference: Difference) -> Option<(Datum, Datum)>
     ensures { IfSome (numbers_of difference) (AreNumbers result) }
 {

@@ -1,4 +1,4 @@
-//! What ends a job early.
+//! Failures that end a job early.
 
 ghost use Rattle.std.specs.Prelude.{◌≡◌};
 

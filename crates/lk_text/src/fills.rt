@@ -8,7 +8,7 @@ use crate::texts::Text;
 use std::alloc::AllocError;
 use std::fmt::{InlineText, Write};
 
-/// What fills a place.
+/// A value for a place.
 #[derive(Clone, Copy)]
 pub enum Value<'a> {
     Number(u64),
@@ -66,7 +66,7 @@ fn put_value(text: &mut String, value: Value<'_>) -> Result<(), AllocError>
     }
 }
 
-// What fills the place of this name.
+// The value for the place of this name.
 fn value_named<'a>(places: &[Place<'a>], name: &str) -> Option<Value<'a>>
     ensures { result ≡ value_named places.now name.now }
 {

@@ -1,5 +1,5 @@
-//! What the programs say of texts: the lines of an input, sentences and the values that fill them,
-//! and the report of a trace.
+//! The texts of the programs: the lines of an input, sentences and the values that fill them, and
+//! the report of a trace.
 //!
 //! `open` opens a file or standard input, and `take_lines` gives each line of an input to a
 //! function. A `Text` takes sentences and text of an input, `json` objects of JSON, and `put_plan`
@@ -9,6 +9,7 @@
 //! `follow` follows the trace in an input to its end, or up to the first line that is wrong, and
 //! makes its `report`: the verdict, the counts of a `Summary`, in what the line differs
 //! (`differences`), what helps to see why (`blame`), and what to do (`helps`). `formats` writes it.
+//! `progress` shows on a terminal how far that is.
 #![tactic(auto)]
 
 pub mod blame;
@@ -24,6 +25,7 @@ mod inputs;
 pub mod json;
 mod lines;
 pub mod phrases;
+pub mod progress;
 pub mod report;
 mod summary;
 mod tap;

@@ -1,5 +1,5 @@
-//! What is said in many places: what a thread is called, a line of a trace, and who holds a lock
-//! and who is in its queue.
+//! Phrases for many places: the name of a thread, a line of a trace, and who holds a lock and who
+//! is in its queue.
 
 ghost use Rattle.std.specs.Prelude.{◌++◌, codes, decimal};
 ghost use Rattle.lk_lines.specs.Vocabulary.{move_word};

@@ -1,4 +1,4 @@
-//! What is said of an input: how it ended, in words for a reader and in parts for programs.
+//! The report on an input: how it ended, in words for a reader and in parts for programs.
 
 ghost use Rattle.std.specs.Prelude.{◌≡◌, ◌++◌, ◌∷◌, [], true, None, Some};
 ghost use Rattle.lk_text.specs.Filled.{sentence_with, texts_of};
@@ -62,7 +62,7 @@ pub fn worst(endings: &[Ending]) -> u8
         .fold(0, |worst, ending| ending.status().max(worst))
 }
 
-/// What ended an input, as programs name it.
+/// The end of an input, as programs name it.
 #[derive(Clone, Copy)]
 pub enum Code {
     /// Nothing did.
@@ -71,7 +71,7 @@ pub enum Code {
     Faulty(TextFault),
     Unread,
     Hangs,
-    /// What has this name is wrong.
+    /// The thing of this name is wrong.
     Named(InlineText<16>),
 }
 
@@ -113,8 +113,8 @@ impl Datum {
     }
 }
 
-/// What ended an input, in parts: a code, and of a refusal the thread, its step, the word, what was
-/// expected and what was found.
+/// The end of an input, in parts: a code, and of a refusal the thread, its step, the word, and the
+/// values expected and found.
 #[derive(Clone, Copy)]
 pub struct Details {
     pub code: Code,
@@ -230,7 +230,7 @@ impl Notes {
         self.is_whole
     }
 
-    /// What is said.
+    /// The notes, in order.
     pub fn as_slice(&self) -> &[Note]
         ensures { result.now ≡ self.now.notes.items }
     {
@@ -238,21 +238,21 @@ impl Notes {
     }
 }
 
-/// What came of one input.
+/// The report on one input.
 #[derive(Drop)]
 pub struct Report {
     pub ending: Ending,
     /// The line that ended it, from 1; 0 if none did.
     pub line: u64,
-    /// What is said of that line, or of the input.
+    /// The message about that line, or about the input.
     pub message: Text,
     /// The same for programs.
     pub details: Details,
-    /// What else helps to see why, with the lines that it is about.
+    /// Notes that help to see why, with the lines that they are about.
     pub notes: Notes,
-    /// What to do about it; empty if nothing is known.
+    /// Advice; empty if none is known.
     pub help: Text,
-    /// Who held and who was in the queue then.
+    /// The holders and the queue at that line.
     pub standing: Text,
     pub summary: Summary,
 }

@@ -1,4 +1,4 @@
-//! What a run had of contention: waits, failed compare-and-swaps, polls of a late link, the longest
+//! The contention of a run: waits, failed compare-and-swaps, polls of a late link, the longest
 //! queue, wraps of the counter.
 
 ghost use Rattle.std.specs.Prelude.{◌≡◌, ◌∷◌, [], codes, decimal, map};
@@ -39,7 +39,7 @@ pub fn has_counter(kind: LockKind) -> bool
     matches!(kind, LockKind::Ticket | LockKind::RwFifo)
 }
 
-// How many of the threads moved.
+// The number of the threads that moved.
 fn moved_in(moved: &[bool]) -> usize
     ensures { result ≡ moved_in moved.now }
 {
@@ -128,7 +128,7 @@ impl Summary {
         }
     }
 
-    /// How many threads moved.
+    /// The number of threads that moved.
     pub fn threads(&self) -> usize
         ensures { result ≡ moved_in self.now.moved }
     {

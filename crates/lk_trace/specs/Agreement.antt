@@ -1,5 +1,5 @@
--- Definitions. What it is that a line of a trace agrees with the lock, part by part. This project's
--- own; the difference that is answered is the first part that does not.
+-- Definitions. A line of a trace agrees with the lock, part by part. The difference that is
+-- answered is the first part that does not.
 use Rattle.std.specs.Prelude.{◌≡◌, ℕ, ◌<◌, ◌==◌, Option, Some, None, Bool, not, IfSome}
 use Rattle.lk_locks.specs.State.{State}
 use Rattle.lk_locks.specs.Steps.{refusal_of, change_of}

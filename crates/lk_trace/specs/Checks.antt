@@ -62,7 +62,7 @@ value_of s word = slice_index s.words (place_of s.kind word)
 abbrev pub value_after : State → ℕ → Move → WordName → ℕ
 value_after s t m word = slice_index (change_of s t m).words (place_of s.kind word)
 
--- what a move of thread t does to its word, if it is one operation on one word
+-- the effect of a move of thread t on its word, if it is one operation on one word
 abbrev pub effect_of : State → ℕ → Move → Option Effect
 effect_of s t (Call op) = None
 effect_of s t (Step kind) =
@@ -72,7 +72,7 @@ abbrev pub section_in : StepEffect → Option SectionEffect
 section_in (Monitor section) = Some section
 section_in (OneWord effect outcome) = None
 
--- what a move of thread t does to the words of its monitor, if it is a section
+-- the effect of a move of thread t on the words of its monitor, if it is a section
 abbrev pub section_of : State → ℕ → Move → Option SectionEffect
 section_of s t (Call op) = None
 section_of s t (Step kind) =
@@ -105,7 +105,7 @@ section_other last outcome count given =
     option_or (part_other (nat_lt last) (differs.CountNotAbove last) count)
     (part_other (sameb the_type outcome) (differs.OtherOutcome outcome) given)
 
--- what an accepted move differs in
+-- the difference of an accepted move
 abbrev pub seen_other : Checked → ℕ → Move → Seen → Option Difference
 seen_other c t m Nothing = None
 seen_other c t m (OnWord word found left wrote) =
@@ -142,7 +142,7 @@ unless_other (Some difference) next now = now
 abbrev pub after_line : Checked → TraceLine → Checked
 after_line c l = unless_other (difference_of c l) (lock_with c l) c
 
--- what is answered of a move that is made
+-- the answer to a move that is made
 abbrev pub made_of : State → ℕ → Move → Made
 made_of s t m = record {
   from = phase_at s.phases t;

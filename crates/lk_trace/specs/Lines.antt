@@ -29,7 +29,7 @@ use Rattle.lk_trace.specs.declared.line.TraceLine.{TraceLine}
 abbrev pub Words : Type 0
 Words = List (List ℕ)
 
--- what is left of a line, and what could be there
+-- the rest of a line, and what could be there
 abbrev pub Remaining : Type 0
 Remaining = Words × Due
 
@@ -95,7 +95,7 @@ result_of kind (word ∷ rest, due) =
     ok_or (result_alone kind word) (word ∷ rest, due) >>= λ said. at_end (Some said) rest
 result_of kind ([], due) = Ok None
 
--- what a step found and left in its word, and whether it wrote
+-- the values that a step found and left in its word, and whether it wrote
 abbrev pub values_in : StepKind → Remaining → Result (Option ℕ × Option ℕ × Option Bool) Remaining
 values_in kind at = do
   found ← after_tag (codes "found") whole_number (FoundValue kind) (Left kind) at
@@ -106,7 +106,7 @@ values_in kind at = do
 abbrev pub values_on : StepKind → WordName → Remaining → Result Seen Remaining
 values_on kind word at = values_in kind at >>= λ values. Ok (OnWord word values.0 values.1 values.2)
 
--- what a step saw of its word, if something is said
+-- the values that a step saw of its word, if some are said
 abbrev pub with_place : StepKind → Read (Option WordName) → Result Seen Remaining
 with_place kind (Ok (Some word, at)) = values_on kind word at
 with_place kind (Ok (None, at)) = Ok Nothing
@@ -134,13 +134,13 @@ abbrev pub outcome_alone : Words → Option Outcome
 outcome_alone (word ∷ []) = outcome_named word
 outcome_alone words = None
 
--- what came of a step, or what it saw of its word
+-- the outcome of a step, or the values that it saw of its word
 abbrev pub step_of : ℕ → StepKind → Words → Result Seen Remaining
 step_of thread kind words =
     option_map_or (λ outcome. Ok (WithOutcome None (Some outcome))) (outcome_alone words)
     (values_of thread kind (words, Place kind))
 
--- what follows a move, on this word if the line does not name it
+-- the part after a move, on this word if the line does not name it
 abbrev pub seen_of : ℕ → Option WordName → Move → Words → Result Seen Remaining
 seen_of thread None (Call op) words = at_end Nothing words
 seen_of thread None (Step Section) words = section_of words

@@ -1,6 +1,6 @@
 -- Definitions. The words of the locks by name.
 use Rattle.std.specs.Prelude.{ℕ, ◌-◌, ◌/◌, ◌%◌, ◌==◌, nat_lt, Option, None, Some, Bool, true}
-use Rattle.std.specs.Prelude.{false, eqb, if◌then◌else◌}
+use Rattle.std.specs.Prelude.{false, if◌then◌else◌}
 use Rattle.lk_locks.specs.declared.kinds.LockKind.{LockKind}
 use Rattle.lk_locks.specs.declared.kinds.LockKind.TheVariants.{Ticket, Mcs, RwSimple, RwFifo}
 use Rattle.lk_trace.specs.declared.names.WordName.{WordName}
@@ -44,8 +44,8 @@ abbrev pub same_word : WordName → WordName → Bool
 same_word NextTicket NextTicket = true
 same_word NowServing NowServing = true
 same_word Tail Tail = true
-same_word (Next i) (Next j) = eqb i j
-same_word (Locked i) (Locked j) = eqb i j
+same_word (Next i) (Next j) = i == j
+same_word (Locked i) (Locked j) = i == j
 same_word Readers Readers = true
 same_word Flag Flag = true
 same_word ReadAcquires ReadAcquires = true

@@ -19,7 +19,7 @@ doer_named (word ∷ rest) =
     if bytes_eq word (codes "*") then Some Any else option_map One (number_of 0 255 word)
 doer_named [] = None
 
--- what follows the thread, as a move of this one, on this word if the line does not name it
+-- the part after the thread, as a move of this one, on this word if the line does not name it
 abbrev pub move_after : ℕ → Option WordName → Words → Result TraceLine Remaining
 move_after thread on (first ∷ words) = move_with thread on (words, OpenMove)
 move_after thread on [] = Err ([], AnyThread)

@@ -52,7 +52,7 @@ abbrev pub move_event : Checked → Option TraceLine → Event
 move_event c (Some line) = answer_event line (answer_to c line)
 move_event c None = event.Fault faults.BadLine
 
--- what a line that is not skipped comes to, of a trace of which some lines were read
+-- the result of a line that is not skipped, of a trace of which some lines were read
 abbrev pub unskipped_event : Option Checked → List ℕ → Event
 unskipped_event None line = header_event (read_header_of line)
 unskipped_event (Some c) line = move_event c (short_line_of line)

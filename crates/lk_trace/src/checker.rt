@@ -12,15 +12,15 @@ use lk_locks::{LockKind, Outcome, Phase, SectionEffect, Shape, Tracker};
 use lk_words::{Effect, WordArray};
 use std::marker::Model;
 
-/// What came of a move that was made.
+/// A move that was made.
 #[derive(Clone, Copy, PartialEq, Eq, Debug)]
 pub struct Made {
     /// The phase of its thread before it.
     pub from: Phase,
     pub outcome: Outcome,
-    /// What it did to its word, if it was one operation on one word.
+    /// Its effect on its word, if it was one operation on one word.
     pub effect: Option<Effect>,
-    /// What it did to the words of its monitor, if it was a section.
+    /// Its effect on the words of its monitor, if it was a section.
     pub section: Option<SectionEffect>,
 }
 
@@ -66,7 +66,7 @@ impl Checker {
         &self.lock
     }
 
-    /// What a thread does, if there is such a thread.
+    /// The phase of a thread, if there is such a thread.
     pub fn phase(&self, t: u8) -> Option<Phase>
         ensures { SomeIff result (t < length self.now.lock.state.phases)
             (phase_at self.now.lock.state.phases t) }

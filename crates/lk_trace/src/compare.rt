@@ -9,7 +9,7 @@ use crate::{Difference, Made, Seen, TraceLine, WordName, name_at};
 use lk_locks::{LockKind, Machine, Move, Outcome, StepEffect};
 use lk_words::{Effect, WordArray};
 
-// What a move that does this differs in from what is given of its word.
+// The difference of a move with this effect from the values given for its word.
 fn effect_other(
     kind: LockKind,
     effect: Option<Effect>,
@@ -43,7 +43,7 @@ fn effect_other(
     }
 }
 
-// What a section with this outcome, after one of this count, differs in from what is given of it.
+// The difference of a section with this outcome, after one of this count, from the given ones.
 fn section_other(
     last: u64,
     outcome: Outcome,
@@ -59,7 +59,7 @@ fn section_other(
     }
 }
 
-// What comes of a move that the machine accepts.
+// A move that the machine accepts, as it would be made.
 fn made_of(machine: &Machine<WordArray>, t: u8, m: Move) -> Made
     requires { refusal_of machine.now t m ≡ None }
     ensures value { result ≡ made_of machine.now t m }
@@ -83,8 +83,8 @@ fn made_of(machine: &Machine<WordArray>, t: u8, m: Move) -> Made
     }
 }
 
-/// What comes of the move of a line, if the greatest count of a section so far was `sections`. The
-/// move is not made.
+/// The move of a line, as it would be made, if the greatest count of a section so far was
+/// `sections`. It is not made.
 ///
 /// # Errors
 ///

@@ -1,15 +1,15 @@
-//! What may come next in a line of a trace or of a sketch, for a message: its text, and the words
-//! that could be there. Thread and move are a schedule's.
+//! The parts that may come next in a line of a trace or of a sketch, for a message: their texts,
+//! and the words that could be there. Thread and move are a schedule's.
 
 use lk_lines::{Expected, LOCK_NAMES, MOVE_WORDS, OUTCOME_WORDS};
 use lk_locks::StepKind;
 use std::fmt;
 
-/// What may come next. If a part can be left out, the part after it or the end may come here too.
-/// After a step it says which: `done` and `failed` may follow a compare-and-swap alone.
+/// The part that may come next. If it can be left out, the part after it or the end may come here
+/// too. After a step it says which: `done` and `failed` may follow a compare-and-swap alone.
 #[derive(Clone, Copy, PartialEq, Eq, Debug)]
 pub enum Due {
-    /// What a schedule has here as well.
+    /// A part that a schedule has here as well.
     OfSchedule(Expected),
     /// The count of a section, or its outcome.
     Count,
@@ -60,7 +60,7 @@ const OPEN: [&str; 12] = [
     "failed",
 ];
 
-// What may follow a word of the lock, in this order. The last two are a compare-and-swap's.
+// The parts after a word of the lock, in this order. The last two are a compare-and-swap's.
 const PARTS: [&str; 5] = ["of", "found", "left", "done", "failed"];
 
 // The parts from this one on.

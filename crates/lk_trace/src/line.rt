@@ -1,5 +1,5 @@
 //! A line of a trace or of a log, read: a move, and what its thread saw. Or where the line stops
-//! being one, and what could be there: docs/TRACE.md has the grammar.
+//! being one, and what could be there: docs/FORMATS.md has the grammar.
 
 ghost use Rattle.std.specs.Prelude.{◌≡◌, [], ◌∷◌, IfOk, IfSome, MatchOption};
 ghost use Rattle.lk_lines.specs.Digits.{whole_number};
@@ -19,7 +19,7 @@ use lk_locks::{Move, Outcome, StepKind};
 /// The most bytes of a header and of a move.
 pub const MOST_OF_A_LINE: usize = 96;
 
-/// What a line says of its step besides its kind. A part that is left out is not checked.
+/// The part of a line after the kind of its step. A part that is left out is not checked.
 #[derive(Clone, Copy, PartialEq, Eq, Debug)]
 pub enum Seen {
     Nothing,
@@ -31,7 +31,7 @@ pub enum Seen {
         left: Option<u64>,
         wrote: Option<bool>,
     },
-    /// What came of the step; and of a section, which one of its monitor it was.
+    /// The outcome of the step; and of a section, which one of its monitor it was.
     WithOutcome {
         count: Option<u64>,
         outcome: Option<Outcome>,
@@ -46,7 +46,7 @@ pub struct TraceLine {
     pub seen: Seen,
 }
 
-/// What is left of a line, and what could be there.
+/// The rest of a line, and what could be there.
 pub(crate) type Rest<'a> = (Option<&'a [u8]>, Due);
 
 /// All that was left of a line, or where the line stops.
@@ -171,7 +171,7 @@ fn result_of(rest: Rest<'_>, kind: StepKind) -> Whole<'_, Option<bool>>
     }
 }
 
-// What a step saw of this word.
+// The values that a step saw of this word.
 #[inline(always)]
 fn values_on(rest: Rest<'_>, word: WordName, kind: StepKind) -> Whole<'_, Seen>
     ensures { whole_of result ≡ values_on kind word (remaining rest.entry) }
@@ -187,7 +187,7 @@ fn values_on(rest: Rest<'_>, word: WordName, kind: StepKind) -> Whole<'_, Seen>
     })
 }
 
-// What a step saw of its word, if something is said.
+// The values that a step saw of its word, if some are said.
 fn values_of(rest: Rest<'_>, thread: u8, kind: StepKind) -> Whole<'_, Seen>
     ensures { whole_of result ≡ values_of thread kind (remaining rest.entry) }
 {
@@ -242,7 +242,7 @@ fn outcome_alone(text: Option<&[u8]>) -> Option<Outcome>
     }
 }
 
-// What came of a step, or what it saw of its word, if something is said.
+// The outcome of a step, or the values that it saw of its word, if something is said.
 fn step_of(text: Option<&[u8]>, thread: u8, kind: StepKind) -> Whole<'_, Seen>
     ensures { whole_of result ≡ step_of thread kind (words_left text.entry) }
 {
@@ -255,7 +255,7 @@ fn step_of(text: Option<&[u8]>, thread: u8, kind: StepKind) -> Whole<'_, Seen>
     }
 }
 
-// What follows a move, on this word if the line does not name it.
+// The part after a move, on this word if the line does not name it.
 fn seen_of(text: Option<&[u8]>, thread: u8, on: Option<WordName>, action: Move) -> Whole<'_, Seen>
     ensures { whole_of result ≡ seen_of thread on action (words_left text.entry) }
 {

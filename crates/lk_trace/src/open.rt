@@ -28,7 +28,7 @@ pub fn doer_of(line: &[u8]) -> Option<Doer>
     Some(Doer::One(thread))
 }
 
-// What follows the thread, as a move of this one, on this word if the line does not name it.
+// The part after the thread, as a move of this one, on this word if the line does not name it.
 fn filled(line: &[u8], thread: u8, on: Option<WordName>) -> Option<TraceLine>
     ensures { result ≡ as_move_of thread on line.now }
 {

@@ -47,7 +47,7 @@ impl TextFault {
     }
 }
 
-/// What a line of a trace came to.
+/// The result of a line of a trace.
 #[derive(Clone, Copy)]
 pub enum Event {
     /// It is empty or a comment.
@@ -74,7 +74,7 @@ impl Model for TraceReader {
     ghost view = { λ a. a.checker };
 }
 
-// What a fault of a header is, without its line.
+// The fault of a header, without its line.
 fn fault_of(fault: ReadFault) -> TextFault
     ensures { result ≡ fault_named fault }
 {

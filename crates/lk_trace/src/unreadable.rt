@@ -12,7 +12,7 @@ ghost use Rattle.lk_trace.specs.declared.names.WordName.{WordName};
 use crate::line::{Rest, first_word, line_in, move_with};
 use crate::{Due, WordName, doer_of};
 
-// How many bytes are left, with the space before them.
+// The number of bytes left, with the space before them.
 #[tactic(auto, using(crate::proofs::Widths::width_words))]
 fn width_of(text: Option<&[u8]>) -> usize
     ensures { result ≡ width (words_left text.entry) }
@@ -41,7 +41,7 @@ pub fn unreadable_line(line: &[u8]) -> Option<(usize, Due)>
     Some(place_of(line, stop))
 }
 
-// What is due in a sketch where in a trace this is.
+// The part due in a sketch where this is due in a trace.
 fn opened(due: Due) -> Due
     ensures { result ≡ open_due due }
 {

@@ -1,4 +1,4 @@
--- What one line does to what is reported of the text.
+-- One line changes what is reported of the text.
 use Rattle.std.proofs.Common.{◌≡◌, ◌≢◌, ℕ, List, [], ◌∷◌, length, Option, ◌==◌, true}
 use Rattle.std.proofs.Common.{refl, arith}
 use Rattle.std.proofs.lemmas.Bool.{eqb-true, ne_eqb}

@@ -1,6 +1,6 @@
--- Definitions. What a text's lines come to, up to the first with a fault: the numbers of the
--- answer, and a record for each move that is made. What a line comes to is said by the traces'
--- definitions alone.
+-- Definitions. The report on a text's lines, up to the first with a fault: the numbers of the
+-- answer, and a record for each move that is made. The traces' definitions alone say what a line
+-- comes to.
 use Rattle.std.specs.Prelude.{ℕ, ◌+◌, ◌-◌, ◌^◌, ◌==◌, min, nat_lt, List, [], ◌∷◌, Option, Some}
 use Rattle.std.specs.Prelude.{None, slice_set, if◌then◌else◌}
 use Rattle.std.specs.Option.{option_map_or}
@@ -54,7 +54,7 @@ abbrev pub steps_by : Event → LtAnswer → List LtStep → List LtStep
 steps_by (Made l made) a steps = slice_set steps a.moves (record_of a.line l made)
 steps_by event a steps = steps
 
--- what was read so far, and what is reported of it
+-- the part read so far, and the report on it
 pub record Told : Type 0 where
   pub reading : Option Checked
   pub answer : LtAnswer

@@ -44,21 +44,10 @@ effect_on bits ws op = record {
   answer = answer_of (slice_index ws (word_of op)) op;
 }
 
--- the words after an operation, and its answer
-pub record Performed : Type 0 where
-  pub words : List ℕ
-  pub answer : Answer
-
--- the words after the operation left this value in its word; a read leaves all words as they are
-abbrev pub left_in : List ℕ → Operation → ℕ → List ℕ
-left_in ws (Read i) value = ws
-left_in ws op value = slice_set ws (word_of op) value
-
-abbrev pub performed : ℕ → List ℕ → Operation → Performed
-performed bits ws op = record {
-  words = left_in ws op (effect_on bits ws op).left;
-  answer = (effect_on bits ws op).answer;
-}
+-- the words after an operation; a read leaves all words as they are
+abbrev pub words_after : ℕ → List ℕ → Operation → List ℕ
+words_after bits ws (Read i) = ws
+words_after bits ws op = slice_set ws (word_of op) (effect_on bits ws op).left
 
 -- the operation's word is one of `size` words, and its operands fit words of `bits` bits
 abbrev pub Fits : ℕ → ℕ → Operation → Type 0

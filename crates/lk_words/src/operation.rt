@@ -5,8 +5,8 @@
 //! made, and a caller that watches a step reads its effect on the word and does not derive it.
 
 ghost use Rattle.std.specs.Prelude.{◌≡◌, ◌≤◌, ◌<◌, ◌+◌, ◌%◌, ◌^◌, length};
-ghost use Rattle.lk_words.specs.Operations.{answer_of, left_by, performed};
-ghost use Rattle.lk_words.specs.Operations.{word_of, Fits};
+ghost use Rattle.lk_words.specs.Operations.{answer_of, effect_on, left_by, word_of, Fits};
+ghost use Rattle.lk_words.specs.Operations.{words_after};
 
 use crate::Words;
 use crate::array::greatest_of;
@@ -106,8 +106,8 @@ impl Operation {
 pub fn perform<W: Words>(words: &mut W, operation: Operation) -> Answer
     requires { Fits (W.width words.old) (length (W.list words.old)) operation }
     ensures words { W.list words.new
-        ≡ (performed (W.width words.old) (W.list words.old) operation).words }
-    ensures answer { result ≡ (performed (W.width words.old) (W.list words.old) operation).answer }
+        ≡ words_after (W.width words.old) (W.list words.old) operation }
+    ensures answer { result ≡ (effect_on (W.width words.old) (W.list words.old) operation).answer }
     ensures width { W.width words.new ≡ W.width words.old }
 {
     match operation {

@@ -11,9 +11,8 @@ use Rattle.lk_workers.specs.declared.draws.DrawView.{DrawView}
 use Rattle.lk_workers.specs.Counting.{indicator, occurrences, once_below, IsEachBelow}
 use Rattle.lk_workers.specs.invariants.DrawRule.{Drawn, DrawFinds, DrawSees, InspectFinds}
 use Rattle.lk_workers.specs.invariants.DrawRule.{draw_view}
-use Rattle.lk_workers.proofs.Sums.{sum_over-cut, sum_over-two}
-use Rattle.lk_workers.proofs.Sums.{sum_over-set, sum_over-append, at_most_sum, sum_over-both}
-use Rattle.lk_workers.proofs.Sums.{alone_at}
+use Rattle.lk_workers.proofs.Sums.{sum_over-cut, sum_over-two, sum_over-set, sum_over-append}
+use Rattle.lk_workers.proofs.Sums.{at_most_sum, sum_over-both, alone_at}
 use Rattle.lk_workers.proofs.Below.{below_suc, below_of, all_below, each_below}
 
 -- each number of a seat's list is below the word

@@ -2,7 +2,6 @@ pub mod Sums
 pub mod Below
 pub mod DrawSteps
 pub mod DrawLists
-pub mod TwoWords
 pub mod SeatMoves
 pub mod SeatJoins
 pub mod LockStates

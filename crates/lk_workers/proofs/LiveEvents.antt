@@ -19,7 +19,7 @@ use Rattle.lk_locks.specs.laws.{after_take, after_look, after_read_serving, afte
 use Rattle.lk_workers.specs.declared.live.LivePhase.{LivePhase}
 use Rattle.lk_workers.specs.declared.live.LivePhase.TheVariants.{Idle, Waiting, Inside, Leaving}
 use Rattle.lk_workers.specs.declared.live.rule.SeatState.{SeatState}
-use Rattle.lk_workers.specs.Seats.{Table, serving_of, thread_in, thread_of}
+use Rattle.lk_workers.specs.Seats.{Table, serving_of, thread_phase_in, thread_phase}
 use Rattle.lk_workers.specs.SeatSteps.{LiveStep, take_step, look_step, read_step, pass_step}
 use Rattle.lk_workers.specs.SeatSteps.{seat_after, table_after}
 use Rattle.lk_workers.specs.invariants.Running.{FitsPhase}
@@ -35,8 +35,8 @@ there (x ∷ xs) (suc i) a e = omega (arith, there xs i a e)
 happens : (live : LiveStep) (id : ℕ) (s : Table) (r : SeatState) (p : LivePhase) (call : Option Op)
     (due : Phase) (led : Phase × Outcome)
     → get_elem? s.views id ≡ some (r ∷ []) → r.phase ≡ p
-    → IsDue (thread_in p r.ticket) call due
-    → thread_of (live.next r (get_or s.words live.word 0)) ≡ led.0
+    → IsDue (thread_phase_in p r.ticket) call due
+    → thread_phase (live.next r (get_or s.words live.word 0)) ≡ led.0
     → step_of Ticket 64 s.words id due
     ≡ to (set s.words live.word (live.leaves r (get_or s.words live.word 0))) led.0 led.1
     → Happens s (table_after live id s r) id r call led
@@ -47,7 +47,7 @@ happens live id s r p call due led at is calls phase machine =
       other_seats = λ j n. set_else s.views id j (q ∷ []) n;
       machine = (
         due,
-        subst (λ d. IsDue (thread_in d r.ticket) call due) (sym is) calls,
+        subst (λ d. IsDue (thread_phase_in d r.ticket) call due) (sym is) calls,
         machine,
       );
     }
@@ -63,7 +63,7 @@ loads : (ws : List ℕ) (led : Phase × Outcome)
 loads ws led = ap (λ v. to v led.0 led.1) (sym (set-get_or ws 1 0))
 
 seen_phase : (found t : ℕ) (b : Bool) → (found == t) ≡ b
-    → thread_in (if b then Inside else Waiting) t ≡ (after_look t found).0
+    → thread_phase_in (if b then Inside else Waiting) t ≡ (after_look t found).0
 seen_phase found t true e = rw e refl
 seen_phase found t false e = rw e refl
 

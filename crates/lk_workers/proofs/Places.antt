@@ -7,7 +7,7 @@ use native.Mathlib.Decide.{ℕ_discrete}
 use lib.Seq.{map-set}
 use lib.ListN.{length-map}
 use Rattle.lk_workers.specs.Counting.{occurrences, indicator}
-use Rattle.std.proofs.lemmas.List.Elements.{All-head, All-map, All-tail, filter_passes}
+use Rattle.std.proofs.lemmas.List.Elements.{All-map, All-same, filter_passes}
 use Rattle.std.proofs.lemmas.Grind.{get_or-set_at}
 use Rattle.std.proofs.lemmas.List.{get_or-map, length-replicate}
 use Rattle.std.proofs.lemmas.Simd.{map-map, splat_is_map}
@@ -53,32 +53,22 @@ module _ (F : ℕ → List ℕ) where
       (λ no. hit ks (set os j (F j)) k (let l = length-set os j (F j) in omega arith)
       (let z : indicator k j ≡ 0 = grind arith in omega arith))
 
-pub goes : {X Y : Type 0} (slots : List Y) (i : ℕ) (y : Y) (old rest : List (ℕ × X)) (x : ℕ × X)
-    → old ≡ x ∷ rest → All (λ p. p.0 < length slots) old
-    → All (λ p. p.0 < length (set slots i y)) rest
-goes slots i y old rest x s a k d h =
-    subst (λ n. (get_or rest k d).0 < n) (sym (length-set slots i y))
-    (All-tail (λ p. p.0 < length slots) x rest (subst (All (λ p. p.0 < length slots)) s a) k d h)
-
--- the numbers of pairs that are kept are below
 abbrev Below : ℕ → ℕ × List ℕ → Type 0
 Below n p = p.0 < n
 
-kept_below : (n : ℕ) (ks : List ℕ) (f : ℕ → List ℕ)
-    → All (Below n) (map (λ k. (k, f k)) (filter (λ j. ltb j n) ks))
-kept_below n ks f =
-    All-map (Below n) (λ (k : ℕ). (k, f k)) (filter (λ j. ltb j n) ks)
-    (λ i d h. ltb-true _ n (filter_passes (λ (j : ℕ). ltb j n) ks i d h))
-
-pub each_below : (texts : List (List ℕ)) (ps : List (ℕ × List ℕ)) → IsEachOnce texts ps
+-- each number is that of a text
+each_below : (texts : List (List ℕ)) (ps : List (ℕ × List ℕ)) → IsEachOnce texts ps
     → All (Below (length texts)) ps
 each_below texts ps h =
-    subst (All (Below (length texts))) (sym h.1) (kept_below (length texts) h.0 (report_at texts))
+    let n : ℕ = length texts in
+    All-same (Below n) ps _ h.1
+    (All-map (Below n) (λ (k : ℕ). (k, report_at texts k)) (filter (λ j. ltb j n) h.0)
+    (λ i d l. ltb-true _ n (filter_passes (λ (j : ℕ). ltb j n) h.0 i d l)))
 
 -- each place has the report of its text
-pub filled : (texts : List (List ℕ)) (ps : List (ℕ × List ℕ)) → IsEachOnce texts ps
+pub places_with_each_once : (texts : List (List ℕ)) (ps : List (ℕ × List ℕ)) → IsEachOnce texts ps
     → places_with (replicate (length texts) []) ps ≡ map report_text texts
-filled texts ps h =
+places_with_each_once texts ps h =
     let n : ℕ = length texts in
     let ks : List ℕ = filter (λ j. ltb j n) h.0 in
     let os : List (List ℕ) = replicate n [] in
@@ -92,9 +82,9 @@ filled texts ps h =
     ∙ hit (report_at texts) ks os k (omega arith) (let t = h.2 k below in omega arith)
     ∙ sym (get_or-map report_text texts k [] [] below))
 
-pub unmapped : {X Y : Type 0} (P : Y → Type 0) (f : X → Y) (xs : List X) → All P (map f xs)
+pub All_of_map : {X Y : Type 0} (P : Y → Type 0) (f : X → Y) (xs : List X) → All P (map f xs)
     → All (λ x. P (f x)) xs
-unmapped P f xs a k d h =
+All_of_map P f xs a k d h =
     subst P (get_or-map f xs k d (f d) h) (a k (f d) (let l = length-map xs f in omega arith))
 
 module _ (texts : List (Vec ℕ Global)) (reports : List (ℕ × Vec ℕ Global))
@@ -103,20 +93,14 @@ module _ (texts : List (Vec ℕ Global)) (reports : List (ℕ × Vec ℕ Global)
   fits =
       subst (λ k. All (λ (p : ℕ × Vec ℕ Global). p.0 < k) reports)
       (length-map texts (λ t. t.items))
-      (unmapped (Below (length (bytes_of texts))) (λ p. (p.0, p.1.items)) reports
+      (All_of_map (Below (length (bytes_of texts))) (λ p. (p.0, p.1.items)) reports
       (each_below (bytes_of texts) (numbered_bytes reports) once))
 
-  pub finished : places_with (map (λ _. []) texts) (numbered_bytes reports)
+  pub reports_in_place : places_with (map (λ _. []) texts) (numbered_bytes reports)
       ≡ map (λ t. report_text t.items) texts
-  finished =
+  reports_in_place =
       ap (λ os. places_with os (numbered_bytes reports))
       (sym (splat_is_map {Y = List ℕ} texts (length texts) [] refl)
       ∙ ap (λ n. replicate n []) (sym (length-map texts (λ t. t.items))))
-      ∙ filled (bytes_of texts) (numbered_bytes reports) once
+      ∙ places_with_each_once (bytes_of texts) (numbered_bytes reports) once
       ∙ map-map report_text (λ t. t.items) texts
-
-pub first : (n k : ℕ) (x : Vec ℕ Global) (rest old : List (ℕ × Vec ℕ Global))
-    → old ≡ (k, x) ∷ rest → All (λ p. p.0 < n) old → k < n
-first n k x rest old s a =
-    let P : ℕ × Vec ℕ Global → Type 0 = λ p. p.0 < n in
-    All-head P (k, x) rest (subst (All P) s a)

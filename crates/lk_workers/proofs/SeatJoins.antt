@@ -12,7 +12,7 @@ use Rattle.lk_workers.specs.Seats.{next_of, serving_of, ticket_indicator, ticket
 use Rattle.lk_workers.specs.SeatSteps.{rest_of, share_of, merge_of, pair_of}
 use Rattle.lk_workers.specs.invariants.Running.{Fits, ViewFits, Running}
 use Rattle.lk_workers.proofs.Sums.{sum_over-cut, sum_over-two}
-use Rattle.lk_workers.proofs.SeatMoves.{built, views_set}
+use Rattle.lk_workers.proofs.SeatMoves.{running_at, views_set}
 
 -- a view becomes two lists of seats, which have together what it had
 two_lists : (takes id : ℕ) (v l b : List SeatState)
@@ -26,7 +26,7 @@ two_lists takes id v l b hs ts ls fits s h at =
     let vs : List (List SeatState) = s.views in
     let m : ℕ = serving_of s in
     let both = fits m (h.seats id v at) in
-    built takes (record { words = s.words; homes = s.homes; views = set vs id l ++ b ∷ [] })
+    running_at takes (record { words = s.words; homes = s.homes; views = set vs id l ++ b ∷ [] })
     (next_of s) m h.two_words refl refl h.served
     (λ x. let c = sum_over-cut (sum_over (ticket_indicator x)) vs id v l b at (hs x) in
     omega (arith, h.tickets x))
@@ -64,7 +64,7 @@ one_list takes id other r q b hs ts ls fits s h at two there =
     let theirs : get_elem? vs other ≡ some (q ∷ []) =
     ⊎_elim (λ x. absurd (two x.0)) (λ x. x.1) (at_set vs id other b (q ∷ []) there) in
     let mine = h.seats id (r ∷ []) at in let its = h.seats other (q ∷ []) theirs in
-    built takes (record { words = s.words; homes = s.homes; views = set bs other [] })
+    running_at takes (record { words = s.words; homes = s.homes; views = set bs other [] })
     (next_of s) m h.two_words refl refl h.served
     (λ x. let c = sum_over-two (sum_over (ticket_indicator x)) vs id other (r ∷ []) (q ∷ []) b []
     at there (omega (arith, hs x)) in
@@ -78,9 +78,6 @@ one_list takes id other r q b hs ts ls fits s h at two there =
     (omega arith) in
     omega (arith, h.left))
 
-max_le : (a b m : ℕ) → a ≤ m → b ≤ m → max a b ≤ m
-max_le a b m h k = omega arith
-
 pub merges : (takes id other : ℕ) (v w : List SeatState) (r q : SeatState) → v ≡ r ∷ [] → w ≡ q ∷ []
     → r.phase ≡ Idle → q.phase ≡ Idle → Joins (Running takes) id v other w (merge_of v w) []
 merges takes id other v w r q is are idle idle' = subst (λ (z : List SeatState × List SeatState).
@@ -91,7 +88,7 @@ merges takes id other v w r q is are idle idle' = subst (λ (z : List SeatState 
     let b : ticket_indicator x q ≡ 0 = ap (λ p. ticket_indicator_in x p q.ticket) idle' in
     omega arith)
     (omega arith) (omega arith)
-    (λ m f g. (((tt, max_le r.seen q.seen m f.1 g.1), tt), omega arith)))
+    (λ m f g. (((tt, omega (arith, f.1, g.1)), tt), omega arith)))
 
 pub pairs : (takes id other : ℕ) (v w : List SeatState) (r q : SeatState) → v ≡ r ∷ [] → w ≡ q ∷ []
     → Joins (Running takes) id v other w (pair_of v w) []
@@ -100,5 +97,5 @@ pairs takes id other v w r q is are = subst (λ (z : List SeatState × List Seat
     (λ k. (sym is k, sym are k))
     (one_list takes id other r q (pair_of (r ∷ []) (q ∷ []))
     (λ x. omega arith) (omega arith) (omega arith)
-    (λ m f g. let l = max_le r.seen q.seen m f.1 g.1 in
+    (λ m f g. let l : max r.seen q.seen ≤ m = omega (arith, f.1, g.1) in
     (((f.0, l), ((g.0, l), tt)), omega arith)))

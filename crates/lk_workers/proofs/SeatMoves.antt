@@ -1,7 +1,8 @@
 -- Each step of the running ticket lock keeps its rule.
 use Rattle.std.proofs.Common.{◌≡◌, ◌≢◌, ℕ, ◌+◌, ◌%◌, ◌^◌, ◌<◌, ◌≤◌, ◌==◌, Bool, true}
 use Rattle.std.proofs.Common.{false, List, [], ◌∷◌, length, if◌then◌else◌, set, sym, refl, ap}
-use Rattle.std.proofs.Common.{◌∙◌, subst, arith, length-set, ⊎_elim}
+use Rattle.std.proofs.Common.{◌∙◌, subst, arith, length-set, get_or-set_same, get_or-set_other}
+use Rattle.std.proofs.Common.{⊎_elim}
 use Rattle.std.specs.Prelude.{⊤}
 use mathlib.Core.Option.{none, some}
 use lib.ListN.{get_elem?}
@@ -12,7 +13,7 @@ use Rattle.lk_workers.specs.declared.live.LivePhase.{LivePhase}
 use Rattle.lk_workers.specs.declared.live.LivePhase.TheVariants.{Idle, Waiting, Inside, Leaving}
 use Rattle.lk_workers.specs.declared.live.rule.SeatState.{SeatState}
 use Rattle.lk_workers.specs.Counting.{sum_over, indicator, once_below}
-use Rattle.lk_workers.specs.Seats.{operation, with_operation, Table, sum_over_seats, next_of}
+use Rattle.lk_workers.specs.Seats.{access, with_access, Table, sum_over_seats, next_of}
 use Rattle.lk_workers.specs.Seats.{first_of, seat_with}
 use Rattle.lk_workers.specs.Seats.{serving_of, ticket_indicator, ticket_indicator_in, IsHolding}
 use Rattle.lk_workers.specs.SeatSteps.{LiveStep, take_step, look_step, read_step, pass_step}
@@ -20,17 +21,16 @@ use Rattle.lk_workers.specs.SeatSteps.{seat_after}
 use Rattle.lk_workers.specs.invariants.Running.{Sees, FitsPhase, Fits, Each}
 use Rattle.lk_workers.specs.invariants.Running.{ViewFits, Running, OfOne, Inspects}
 use Rattle.lk_workers.proofs.Sums.{sum_over-set, at_most_sum}
-use Rattle.lk_workers.proofs.TwoWords.{w00, w01, w10, w11}
 use Rattle.lk_workers.proofs.Below.{below_suc, indicator_here, at_most_once, below_of, once_there}
 
-told : (live : LiveStep) (tells : SeatState → ℕ → Type 0) (st : Step (Unit {0})) (me : Sees)
+step_of_one : (live : LiveStep) (tells : SeatState → ℕ → Type 0) (st : Step (Unit {0})) (me : Sees)
     (found : ℕ) (r : SeatState)
     → me.0 ≡ r ∷ [] → tells r found
     → OfOne live tells st me found
-    (with_operation (operation st.word st.first) (live.next r found) ∷ [], me.1)
-told live tells st me found r is t r' is' =
+    (with_access (access st.word st.first) (live.next r found) ∷ [], me.1)
+step_of_one live tells st me found r is t r' is' =
     let e : r ≡ r' = ap first_of (sym is ∙ is') in (
-      ap (λ z. (with_operation (operation st.word st.first) (live.next z found) ∷ [], me.1)) e,
+      ap (λ z. (with_access (access st.word st.first) (live.next z found) ∷ [], me.1)) e,
       subst (λ z. tells z found) e t,
     )
 
@@ -42,25 +42,25 @@ view_of_seat me q c e none_held = e ∙ (λ k. (
   none_held k,
 ))
 
-pub looked : (me : Sees) (p : LivePhase) (r : SeatState) (found : ℕ) (c : List (ℕ × Unit {0}))
-    (b : Bool)
+pub view_after_look : (me : Sees) (p : LivePhase) (r : SeatState) (found : ℕ)
+    (c : List (ℕ × Unit {0})) (b : Bool)
     → me ≡ (seat_after look_step r found ∷ [], c) → c ≡ [] → (found == r.ticket) ≡ b
     → p ≡ (if b then Inside else Waiting)
     → me ≡ (seat_with p r.ticket r.left r.taken found me.0 ∷ [], [])
-looked me p r found c b e none_held is same_phase =
+view_after_look me p r found c b e none_held is same_phase =
     let is_p : (if (found == r.ticket) then Inside else Waiting) ≡ p =
     ap (λ d. if d then Inside else Waiting) is ∙ sym same_phase in
     view_of_seat me
     (record (seat_after look_step r found) { phase = p }) c
     (e ∙ ap (λ d. (record (seat_after look_step r found) { phase = d } ∷ [], c)) is_p) none_held
 
-pub built : (takes : ℕ) (s : Table) (n m : ℕ) → length s.words ≡ 2 → next_of s ≡ n
+pub running_at : (takes : ℕ) (s : Table) (n m : ℕ) → length s.words ≡ 2 → next_of s ≡ n
     → serving_of s ≡ m → m ≤ n
     → ((x : ℕ) → sum_over_seats (ticket_indicator x) s.views + once_below x m ≡ once_below x n)
     → ((id : ℕ) (v : List SeatState) → get_elem? s.views id ≡ some v → ViewFits m v)
     → sum_over_seats (λ r. r.taken) s.views ≡ n → n + sum_over_seats (λ r. r.left) s.views ≤ 2 ^ 40
     → Running takes s
-built takes s n m two en em low tickets seats taken left = record {
+running_at takes s n m two en em low tickets seats taken left = record {
   two_words = two;
   served = omega arith;
   tickets = λ x. omega (arith, ap (once_below x) en, ap (once_below x) em, tickets x);
@@ -106,16 +106,17 @@ module _ (takes slots id : ℕ) (me : Sees) (r : SeatState) (is : me.0 ≡ r ∷
         (q ∷ []),
         keeps,
         tt,
-        built takes (stepped s 0 ((n + 1) % 2 ^ 64) id me.1 (q ∷ []) keeps) (n + 1) m
-            (length-set s.words 0 _ ∙ h.two_words) (w00 s.words _ h.two_words ∙ next)
-            (w01 s.words _) (omega arith)
+        running_at takes (stepped s 0 ((n + 1) % 2 ^ 64) id me.1 (q ∷ []) keeps) (n + 1) m
+            (length-set s.words 0 _ ∙ h.two_words)
+            (get_or-set_same s.words 0 _ 0 (omega (arith, h.two_words)) ∙ next)
+            (get_or-set_other s.words 0 1 _ 0 (λ e. omega arith)) (omega arith)
             (λ x. let none_yet = ap (λ (p : LivePhase). ticket_indicator_in x p r.ticket) idle in
             omega (arith, change (ticket_indicator x) vs id r q at, h.tickets x, below_suc x n))
             (views_set (ViewFits m) vs id (q ∷ []) (((omega arith, seen), tt), omega arith)
             (λ j u _ e. h.seats j u e))
             (omega (arith, change (λ u. u.taken) vs id r q at))
             (omega (arith, change (λ u. u.left) vs id r q at)),
-        told take_step TakeFinds (step slots 0 1 0 none) me n r is
+        step_of_one take_step TakeFinds (step slots 0 1 0 none) me n r is
             (omega arith, omega arith, omega arith),
       )
 
@@ -130,21 +131,22 @@ module _ (takes slots id : ℕ) (me : Sees) (r : SeatState) (is : me.0 ≡ r ∷
       let at : get_elem? s.views id ≡ some (r ∷ []) = at0 ∙ ap some is in
       let n : ℕ = next_of s in
       let m : ℕ = serving_of s in
-      let q : SeatState = with_operation (operation 1 0) (live.next r m) in
+      let q : SeatState = with_access (access 1 0) (live.next r m) in
       let vs : List (List SeatState) = s.views in
       let new = fits m (h.seats id (r ∷ []) at).0.0 in (
         (q ∷ []),
         keeps,
         tt,
-        built takes (stepped s 1 m id me.1 (q ∷ []) keeps) n m
-            (length-set s.words 1 _ ∙ h.two_words) (w10 s.words _)
-            (w11 s.words _ h.two_words) h.served
+        running_at takes (stepped s 1 m id me.1 (q ∷ []) keeps) n m
+            (length-set s.words 1 _ ∙ h.two_words)
+            (get_or-set_other s.words 1 0 _ 0 (λ e. omega arith))
+            (get_or-set_same s.words 1 _ 0 (omega (arith, h.two_words))) h.served
             (λ x. omega (arith, change (ticket_indicator x) vs id r q at, has x m, h.tickets x))
             (views_set (ViewFits m) vs id (q ∷ []) ((new.0, tt), omega arith)
             (λ j u _ e. h.seats j u e))
             (omega (arith, change (λ u. u.taken) vs id r q at, taken m, h.taken))
             (omega (arith, change (λ u. u.left) vs id r q at, left m, h.left)),
-        told live tells (step slots 1 0 0 none) me m r is new.1,
+        step_of_one live tells (step slots 1 0 0 none) me m r is new.1,
       )
 
   look_indicator : (x t : ℕ) (b : Bool)
@@ -198,7 +200,7 @@ module _ (takes slots id : ℕ) (me : Sees) (r : SeatState) (is : me.0 ≡ r ∷
       let at : get_elem? s.views id ≡ some (r ∷ []) = at0 ∙ ap some is in
       let n : ℕ = next_of s in
       let m : ℕ = serving_of s in
-      let q : SeatState = with_operation (operation 1 new) (pass_step.next r m) in
+      let q : SeatState = with_access (access 1 new) (pass_step.next r m) in
       let vs : List (List SeatState) = s.views in
       let old = h.seats id (r ∷ []) at in
       let fits = subst (λ p. FitsPhase m p r.ticket r.taken) leaving old.0.0.0 in
@@ -225,10 +227,12 @@ module _ (takes slots id : ℕ) (me : Sees) (r : SeatState) (is : me.0 ≡ r ∷
         (q ∷ []),
         keeps,
         tt,
-        built takes (stepped s 1 new id me.1 (q ∷ []) keeps) n (m + 1)
-            (length-set s.words 1 _ ∙ h.two_words) (w10 s.words _)
-            (w11 s.words _ h.two_words ∙ is_next ∙ ap (λ k. k + 1) here) (omega arith)
-            tickets
+        running_at takes (stepped s 1 new id me.1 (q ∷ []) keeps) n (m + 1)
+            (length-set s.words 1 _ ∙ h.two_words)
+            (get_or-set_other s.words 1 0 _ 0 (λ e. omega arith))
+            (get_or-set_same s.words 1 _ 0 (omega (arith, h.two_words)) ∙ is_next
+            ∙ ap (λ k. k + 1) here)
+            (omega arith) tickets
             (λ j u e. ⊎_elim (λ (x : (j ≡ id) × (q ∷ [] ≡ u)). subst (ViewFits (m + 1)) x.1
             (((tt, omega arith), tt), omega arith))
             (λ (x : (j ≢ id) × (get_elem? vs j ≡ some u)). let f = h.seats j u x.1 in (
@@ -240,7 +244,7 @@ module _ (takes slots id : ℕ) (me : Sees) (r : SeatState) (is : me.0 ≡ r ∷
             (at_set vs id j (q ∷ []) u e))
             (omega (arith, change (λ u. u.taken) vs id r q at, h.taken))
             (omega (arith, change (λ u. u.left) vs id r q at, h.left)),
-        told pass_step (λ q found. ⊤) (step slots 1 new 0 none) me new r is tt,
+        step_of_one pass_step (λ q found. ⊤) (step slots 1 new 0 none) me new r is tt,
       )
 
 module _ (takes slots id : ℕ) (me : Sees) where

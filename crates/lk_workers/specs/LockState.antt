@@ -17,7 +17,8 @@ use Rattle.lk_locks.specs.declared.kinds.LockKind.TheVariants.{Ticket}
 use Rattle.lk_workers.specs.declared.live.LivePhase.{LivePhase}
 use Rattle.lk_workers.specs.declared.live.LivePhase.TheVariants.{Idle, Waiting}
 use Rattle.lk_workers.specs.declared.live.rule.SeatState.{SeatState}
-use Rattle.lk_workers.specs.Seats.{Table, next_of, serving_of, sum_over_seats, thread_of, IsHolding}
+use Rattle.lk_workers.specs.Seats.{Table, next_of, serving_of, sum_over_seats, thread_phase}
+use Rattle.lk_workers.specs.Seats.{IsHolding}
 use Rattle.lk_workers.specs.SeatSteps.{LiveStep, table_after}
 use Rattle.lk_workers.specs.invariants.Running.{Running}
 
@@ -78,10 +79,10 @@ IsDue phase (Some op) due = after_call Ticket phase op ≡ Some due
 -- step leads to this phase and outcome, and all else stays
 pub record Happens (s s' : Table) (id : ℕ) (r : SeatState) (call : Option Op)
     (led : Phase × Outcome) : Type 0 where
-  pub seat : (q : SeatState) × (get_elem? s'.views id ≡ some (q ∷ [])) × (thread_of q ≡ led.0)
+  pub seat : (q : SeatState) × (get_elem? s'.views id ≡ some (q ∷ [])) × (thread_phase q ≡ led.0)
   pub other_seats : (j : ℕ) → j ≢ id → get_elem? s'.views j ≡ get_elem? s.views j
   -- it is the step that the ticket machine of 64 bits makes on these words
-  pub machine : (due : Phase) × IsDue (thread_of r) call due
+  pub machine : (due : Phase) × IsDue (thread_phase r) call due
       × (step_of Ticket 64 s.words id due ≡ to s'.words led.0 led.1)
 
 -- The step of a seat in this phase is this call, if there is one, and the row that leads here, by

@@ -6,10 +6,10 @@ use Rattle.std.specs.Prelude.{if◌then◌else◌}
 use Rattle.atomic_table.specs.Table.{keeps, stepped}
 use Rattle.lk_workers.specs.declared.live.LivePhase.TheVariants.{Idle, Waiting, Inside, Leaving}
 use Rattle.lk_workers.specs.declared.live.rule.SeatState.{SeatState}
-use Rattle.lk_workers.specs.Seats.{Table, new_seat, operation, with_operation, with_seen}
+use Rattle.lk_workers.specs.Seats.{Table, new_seat, access, with_access, with_seen}
 
 -- the step's word, the number that it adds or stores there, the value that it leaves there by the
--- value found, and the seat afterwards but for the note of the operation
+-- value found, and the seat afterwards but for the note of the access
 pub record LiveStep : Type 0 where
   pub word : ℕ
   pub operand : SeatState → ℕ
@@ -21,9 +21,9 @@ abbrev pub live_step : ℕ → (SeatState → ℕ) → (SeatState → ℕ → �
 live_step word operand leaves next =
     record { word = word; operand = operand; leaves = leaves; next = next }
 
--- the seat after the step, with the step's operation
+-- the seat after the step, with the step's access
 abbrev pub seat_after : LiveStep → SeatState → ℕ → SeatState
-seat_after st r found = with_operation (operation st.word (st.operand r)) (st.next r found)
+seat_after st r found = with_access (access st.word (st.operand r)) (st.next r found)
 
 -- the fetch-and-add of `take`
 abbrev pub take_step : LiveStep

@@ -11,13 +11,13 @@ use Rattle.lk_locks.specs.declared.kinds.Phase.{Phase}
 use Rattle.lk_locks.specs.declared.kinds.Phase.TheVariants.{AwaitTurn, TicketInside, PassOn}
 use Rattle.lk_workers.specs.declared.live.LivePhase.{LivePhase}
 use Rattle.lk_workers.specs.declared.live.LivePhase.TheVariants.{Idle, Waiting, Inside, Leaving}
-use Rattle.lk_workers.specs.declared.live.rule.Operation.{Operation}
+use Rattle.lk_workers.specs.declared.live.rule.Access.{Access}
 use Rattle.lk_workers.specs.declared.live.rule.SeatState.{SeatState}
 use Rattle.lk_workers.specs.Counting.{indicator, sum_over}
 
--- an atomic operation of a seat: its word, and what it adds or stores there, 0 of a load
-abbrev pub operation : ℕ → ℕ → Operation
-operation word operand = record { word = word; operand = operand }
+-- an atomic access of a seat: its word, and what it adds or stores there, 0 of a load
+abbrev pub access : ℕ → ℕ → Access
+access word operand = record { word = word; operand = operand }
 
 -- a seat that made no step: the takes that it has left, and the `now_serving` that it knows of
 abbrev pub new_seat : ℕ → ℕ → SeatState
@@ -31,9 +31,9 @@ new_seat left seen = record {
   made = [];
 }
 
--- the seat with one operation more
-abbrev pub with_operation : Operation → SeatState → SeatState
-with_operation o r = record r { made = r.made ++ o ∷ [] }
+-- the seat with one access more
+abbrev pub with_access : Access → SeatState → SeatState
+with_access a r = record r { made = r.made ++ a ∷ [] }
 
 abbrev pub with_seen : ℕ → SeatState → SeatState
 with_seen n r = record r { seen = n }
@@ -43,7 +43,7 @@ abbrev pub first_of : List SeatState → SeatState
 first_of [] = new_seat 0 0
 first_of (r ∷ rs) = r
 
--- the state of a seat: the numbers that it keeps itself, and the loads and operations of its view
+-- the state of a seat: the numbers that it keeps itself, and the loads and accesses of its view
 abbrev pub seat_with : LivePhase → ℕ → ℕ → ℕ → ℕ → List SeatState → SeatState
 seat_with phase ticket left taken seen v = record (first_of v) {
   phase = phase;
@@ -80,14 +80,14 @@ ticket_in Idle t = None
 ticket_in phase t = Some t
 
 -- the phase of the thread that a seat represents
-abbrev pub thread_in : LivePhase → ℕ → Phase
-thread_in Idle t = Rattle.lk_locks.specs.declared.kinds.Phase.TheVariants.Idle
-thread_in Waiting t = AwaitTurn t
-thread_in Inside t = TicketInside t
-thread_in Leaving t = PassOn t
+abbrev pub thread_phase_in : LivePhase → ℕ → Phase
+thread_phase_in Idle t = Rattle.lk_locks.specs.declared.kinds.Phase.TheVariants.Idle
+thread_phase_in Waiting t = AwaitTurn t
+thread_phase_in Inside t = TicketInside t
+thread_phase_in Leaving t = PassOn t
 
-abbrev pub thread_of : SeatState → Phase
-thread_of r = thread_in r.phase r.ticket
+abbrev pub thread_phase : SeatState → Phase
+thread_phase r = thread_phase_in r.phase r.ticket
 
 -- inside or leaving
 abbrev pub IsHolding : LivePhase → Type 0

@@ -3,4 +3,3 @@
 pub mod DrawRule
 pub mod Running
 pub mod Collected
-pub mod Rounds

@@ -4,8 +4,7 @@
 //! that it drew; no run keeps that list. The invariant counts: each number below the word is in the
 //! lists of all seats once, and no other number is.
 
-ghost use Rattle.std.specs.Prelude.{◌≡◌, ◌+◌, ◌-◌, ◌^◌, ◌<◌, ◌≤◌, [], ◌∷◌, ◌++◌, length, All};
-ghost use Rattle.std.specs.Prelude.{IfOk};
+ghost use Rattle.std.specs.Prelude.{◌≡◌, ◌+◌, ◌-◌, ◌^◌, ◌<◌, ◌≤◌, [], ◌∷◌, ◌++◌, length, All, IfOk};
 ghost use Rattle.lk_workers.specs.Counting.{IsEachBelow};
 ghost use Rattle.lk_workers.specs.Drawing.{Drawer, drawer, Counter, IsSeatOf, EachNumberOnce};
 ghost use Rattle.lk_workers.specs.Drawing.{IsEnd};

@@ -8,15 +8,14 @@
 //! `split` makes and `join` takes away. A waiting seat that is dropped keeps its ticket: no later
 //! one is served.
 
-ghost use Rattle.std.specs.Prelude.{◌≡◌, ◌+◌, ◌^◌, ◌<◌, ◌≤◌, ◌==◌, map, max};
-ghost use Rattle.std.specs.Prelude.{if◌then◌else◌, [], ◌∷◌, IfOk};
+ghost use Rattle.std.specs.Prelude.{◌≡◌, ◌+◌, ◌^◌, ◌<◌, ◌≤◌, ◌==◌, map, max, if◌then◌else◌, []};
+ghost use Rattle.std.specs.Prelude.{◌∷◌, IfOk};
 ghost use Rattle.lk_locks.specs.declared.kinds.Outcome.TheVariants.{Moved, Waits, Entered, Left};
 ghost use Rattle.lk_locks.specs.laws.{after_take, after_look, after_read_serving, after_pass};
 ghost use Rattle.lk_workers.specs.declared.live.LivePhase.TheVariants.{Idle, Waiting, Inside};
 ghost use Rattle.lk_workers.specs.declared.live.LivePhase.TheVariants.{Leaving};
-ghost use Rattle.lk_workers.specs.Seats.{Live, seat_with, new_seat, ticket_in, thread_of};
-ghost use Rattle.lk_workers.specs.Seats.{with_seen};
-ghost use Rattle.lk_workers.specs.Seats.{AreApart};
+ghost use Rattle.lk_workers.specs.Seats.{Live, seat_with, new_seat, ticket_in, thread_phase};
+ghost use Rattle.lk_workers.specs.Seats.{with_seen, AreApart};
 ghost use Rattle.lk_workers.specs.LockState.{IsEnd};
 ghost use Rattle.lk_workers.specs.SeatSteps.{take_step, look_step, read_step, pass_step};
 ghost use Rattle.lk_workers.specs.SeatSteps.{seat_after, join_of, rest_of, share_of};
@@ -175,7 +174,7 @@ impl LiveTicket {
         ensures own { seat.new.table ≡ self.now }
         ensures seat { seat.new.state ≡ seat_after take_step seat.old.state result }
         ensures seen { seat.old.state.seen ≤ result }
-        ensures event { after_take result ≡ (thread_of seat.new.state, Moved) }
+        ensures event { after_take result ≡ (thread_phase seat.new.state, Moved) }
     {
         let ticket = self.table.shared.fetch_add::<Take>(&mut seat.seat, 0, 1);
         seat.phase = LivePhase::Waiting;
@@ -195,7 +194,7 @@ impl LiveTicket {
         ensures later { seat.old.state.seen ≤ seat.new.state.seen }
         ensures answer { result ≡ (seat.new.state.seen == seat.old.state.ticket) }
         ensures event { after_look seat.old.state.ticket seat.new.state.seen
-            ≡ (thread_of seat.new.state, if result then Entered else Waits) }
+            ≡ (thread_phase seat.new.state, if result then Entered else Waits) }
     {
         let serving = self.table.shared.load::<Look>(&mut seat.seat, 1);
         seat.seen = serving;
@@ -213,7 +212,7 @@ impl LiveTicket {
         ensures own { seat.new.table ≡ self.now }
         ensures seat { seat.new.state ≡ seat_after read_step seat.old.state seat.old.state.ticket }
         ensures event { after_read_serving seat.new.state.seen
-            ≡ (thread_of seat.new.state, Moved) }
+            ≡ (thread_phase seat.new.state, Moved) }
     {
         let serving = self.table.shared.load::<ReadServing>(&mut seat.seat, 1);
         seat.seen = serving;
@@ -226,7 +225,7 @@ impl LiveTicket {
         requires leaving { seat.old.state.phase ≡ Leaving }
         ensures own { seat.new.table ≡ self.now }
         ensures seat { seat.new.state ≡ seat_after pass_step seat.old.state seat.old.state.ticket }
-        ensures event { after_pass ≡ (thread_of seat.new.state, Left) }
+        ensures event { after_pass ≡ (thread_phase seat.new.state, Left) }
     {
         let next = seat.ticket + 1;
         self.table.shared.store::<Pass>(&mut seat.seat, 1, next);

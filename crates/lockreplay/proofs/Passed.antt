@@ -9,7 +9,7 @@ use Rattle.std.proofs.lemmas.Grind.{flat_map-append}
 use Rattle.std.proofs.lemmas.List.{drop_all, take-append-drop}
 use Rattle.std.specs.List.{flat_map}
 use Rattle.lk_workers.specs.Batch.{file_line, numbered_from}
-use Rattle.lockreplay.proofs.Sent.{bytes_of}
+use Rattle.lk_workers.specs.invariants.Collected.{bytes_of}
 
 -- the texts before a place, and the one that is there
 pub next_text : {A : Type 0} (f : A → List ℕ) (texts : List A) (place : ℕ) (d : A)

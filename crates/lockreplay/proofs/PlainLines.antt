@@ -10,6 +10,7 @@ use Rattle.std.specs.List.{list_all}
 use Rattle.std.specs.Str.{bytes_eq}
 use Rattle.clap.specs.Lexer.{long_of, short_of}
 use Rattle.clap.specs.Words.{Row, Rule, Shape, Text, built, subcommand_of}
+use Rattle.clap.specs.Takes.{turn_passes}
 use Rattle.clap.specs.Walk.{Waiting, Walk, positional, idle, option, walk, walked, walk_from}
 use Rattle.clap.specs.Walk.{nothing_held, rows_after, finished}
 use Rattle.clap.proofs.WalkLemmas.{both, walk_stopped}
@@ -25,21 +26,15 @@ batch_shape = built_leaf (inherited (built program_app).top batch_app.top)
 abbrev pub batch_rules : List Rule
 batch_rules = batch_shape.rules
 
-pub no_long : (file : Text) → is_plain file ≡ true → long_of file ≡ None
-no_long [] plain = refl
-no_long (b ∷ rest) plain = rw (not-true (b == 45) plain) refl
-
-pub no_short : (file : Text) → is_plain file ≡ true → short_of file ≡ None
-no_short [] plain = refl
-no_short (b ∷ rest) plain = rw (not-true (b == 45) plain) refl
-
-pub no_dashes : (file : Text) → is_plain file ≡ true → bytes_eq file (45 ∷ 45 ∷ []) ≡ false
-no_dashes [] plain = refl
-no_dashes (b ∷ rest) plain = rw (not-true (b == 45) plain) refl
+-- a plain word is no option, and not the two hyphens that end the options
+pub no_option : (word : Text) → is_plain word ≡ true
+    → (bytes_eq word (45 ∷ 45 ∷ []) ≡ false) × (long_of word ≡ None) × (short_of word ≡ None)
+no_option [] plain = (refl, refl, refl)
+no_option (b ∷ rest) plain = rw (not-true (b == 45) plain) (refl, refl, refl)
 
 -- where files are taken, after the digit or after a file
-abbrev pub taking : Waiting → List Row → Option (Text × List Text) → Walk
-taking waiting rows pending = record {
+abbrev pub walk_with : Waiting → List Row → Option (Text × List Text) → Walk
+walk_with waiting rows pending = record {
   held = record { rows = rows; pending = pending; skip = 0 };
   waiting = waiting;
   position = 1;
@@ -48,21 +43,22 @@ taking waiting rows pending = record {
 }
 
 abbrev pub files_after : List Row → List Text → Walk
-files_after rows seen = taking positional rows (Some (codes "files", seen))
+files_after rows seen = walk_with positional rows (Some (codes "files", seen))
 
--- a plain word is one more file
+-- a plain word is one more file, and its turn passes
 pub one_more : (rows : List Row) (seen : List Text) (file : Text) → is_plain file ≡ true
-    → walked batch_rules [] (files_after rows seen) file ≡ files_after rows (seen ++ file ∷ [])
+    → (walked batch_rules [] (files_after rows seen) file ≡ files_after rows (seen ++ file ∷ []))
+    × (turn_passes batch_shape [] (files_after rows seen) file ≡ true)
 unfolding clap_on_literals
-one_more rows seen file plain =
-    rw (no_dashes file plain, no_long file plain, no_short file plain) refl
+one_more rows seen file plain = let (dashes, long, short) = no_option file plain in
+    rw (dashes, long, short) (refl, refl)
 
 pub all_more : (rows : List Row) (seen files : List Text) → list_all is_plain files ≡ true
     → fold (walked batch_rules []) (files_after rows seen) files ≡ files_after rows (seen ++ files)
 all_more rows seen [] plain = ap (files_after rows) (sym (append-nil seen))
 all_more rows seen (file ∷ files) plain =
     let each = both (is_plain file) (list_all is_plain files) plain in
-    ap (λ w. fold (walked batch_rules []) w files) (one_more rows seen file each.0)
+    ap (λ w. fold (walked batch_rules []) w files) (one_more rows seen file each.0).0
     ∙ all_more rows (seen ++ file ∷ []) files each.1
     ∙ ap (files_after rows) (append_assoc seen (file ∷ []) files)
 
@@ -74,33 +70,32 @@ plain_digit workers = elim (eqb_tells (48 + workers) 45) [
 
 -- `--workers` waits for its digit
 abbrev pub wants_digit : Walk
-wants_digit = taking (option (codes "workers")) [] (Some (codes "workers", []))
+wants_digit = walk_with (option (codes "workers")) [] (Some (codes "workers", []))
 
 -- the digit is there
 abbrev pub has_digit : ℕ → Walk
-has_digit workers = taking idle [] (Some (codes "workers", digit workers ∷ []))
+has_digit workers = walk_with idle [] (Some (codes "workers", digit workers ∷ []))
 
-pub meets_option : walked batch_rules [] (walk_from nothing_held) (codes "--workers") ≡ wants_digit
+pub meets_option :
+    (walked batch_rules [] (walk_from nothing_held) (codes "--workers") ≡ wants_digit)
+    × (turn_passes batch_shape [] (walk_from nothing_held) (codes "--workers") ≡ true)
 unfolding clap_on_literals
-meets_option = refl
+meets_option = (refl, refl)
 
 pub meets_digit : (workers : ℕ)
-    → walked batch_rules [] wants_digit (digit workers) ≡ has_digit workers
+    → (walked batch_rules [] wants_digit (digit workers) ≡ has_digit workers)
+    × (turn_passes batch_shape [] wants_digit (digit workers) ≡ true)
 unfolding clap_on_literals
 meets_digit workers =
-    let plain = plain_digit workers in
-    rw (
-      no_dashes (digit workers) plain,
-      no_long (digit workers) plain,
-      no_short (digit workers) plain,
-    ) refl
+    let (dashes, long, short) = no_option (digit workers) (plain_digit workers) in
+    rw (dashes, long, short) (refl, refl)
 
 pub meets_file : (workers : ℕ) (file : Text) → is_plain file ≡ true
     → walked batch_rules [] (has_digit workers) file
     ≡ files_after (workers_row workers ∷ []) (file ∷ [])
 unfolding clap_on_literals
-meets_file workers file plain =
-    rw (no_dashes file plain, no_long file plain, no_short file plain) refl
+meets_file workers file plain = let (dashes, long, short) = no_option file plain in
+    rw (dashes, long, short) refl
 
 -- the walk over the words after `batch`
 pub batch_walk : (workers : ℕ) (file : Text) (files : List Text)
@@ -110,8 +105,8 @@ pub batch_walk : (workers : ℕ) (file : Text) (files : List Text)
 batch_walk workers file files plain =
     let each = both (is_plain file) (list_all is_plain files) plain in
     let go = fold (walked batch_rules []) in
-    ap (λ w. go w (digit workers ∷ file ∷ files)) meets_option
-    ∙ ap (λ w. go w (file ∷ files)) (meets_digit workers)
+    ap (λ w. go w (digit workers ∷ file ∷ files)) meets_option.0
+    ∙ ap (λ w. go w (file ∷ files)) (meets_digit workers).0
     ∙ ap (λ w. go w files) (meets_file workers file each.0)
     ∙ all_more (workers_row workers ∷ []) (file ∷ []) files each.1
 

@@ -8,12 +8,9 @@ use Rattle.lk_replay.specs.declared.devices.RunFault.TheVariants.{Read, Write, O
 use Rattle.lk_replay.specs.Devices.{AppendsPrefix, IfErrOf}
 use Rattle.lk_replay.specs.Report.{report_text}
 use Rattle.lk_workers.specs.Batch.{batch_text_of}
+use Rattle.lk_workers.specs.invariants.Collected.{bytes_of}
 use Rattle.lockreplay.specs.Jobs.{EndsBatch}
 use Rattle.lockreplay.specs.Faults.{fault_from}
-
--- the bytes of each
-abbrev pub bytes_of : List (Vec ℕ Global) → List (List ℕ)
-bytes_of = map (λ v. v.items)
 
 -- the reports, if the slices that were handed on are the lists
 pub same_reports : (texts given reports lent : List (Vec ℕ Global))

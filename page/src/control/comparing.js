@@ -1,6 +1,6 @@
 // Comparing: another schedule above the one that is shown, in the same columns, stepping with it:
-// the one that it was branched off from, or the same calls on the other read-write lock. Both
-// memories are beside each other.
+// the one that it was branched off from, the same calls on the other read-write lock, or one that
+// was chosen. Both memories are beside each other.
 
 import { texts } from '../texts/texts.js';
 import { commonMoves, firstDifference, otherLock } from '../model/compare_runs.js';
@@ -8,6 +8,7 @@ import { looks } from '../model/looks.js';
 import { onOtherLock } from '../model/other_lock.js';
 import { LOCKS } from '../locks/locks.js';
 import { tell } from '../view/notice.js';
+import { compareDialog, othersOf } from './compare_dialog.js';
 
 /** @typedef {import('../model/run.js').Run} Run */
 
@@ -30,6 +31,11 @@ export class Comparing {
     this.page = page;
     this.kind = null;
     this.made = {};
+    // {title, text, lock} of what was chosen.
+    this.chosen = null;
+    this.choose = compareDialog({
+      way: (mode) => page.modes.set(mode), other: (other) => this.compareWith(other),
+    });
   }
 
   get isOn() { return this.kind !== null; }
@@ -40,14 +46,30 @@ export class Comparing {
     const branched = run.hasLock && origin.run.hasLock
       && (commonMoves(run, origin.run) < origin.run.count || run.refusal);
     const known = otherLock(run) && !machine.stored;
-    return [branched && run !== origin.run && 'origin', known && 'lock'].filter(Boolean);
+    const chosen = run.hasLock && this.chosen?.lock === run.kind;
+    return [branched && run !== origin.run && 'origin', known && 'lock', chosen && 'chosen']
+      .filter(Boolean);
   }
 
-  // From one to the next, and then to none.
+  // From one to the next, and then to none. Without one, it is said what a comparison needs.
   toggle() {
     const kinds = this.kinds();
-    if (!kinds.length) tell(T.nothing);
+    if (!kinds.length) return this.offer();
     this.kind = kinds[kinds.indexOf(this.kind) + 1] ?? null;
+    if (!this.kind) this.chosen = null;
+    return this.page.fit();
+  }
+
+  offer() {
+    const { session: { run, machine } } = this.page;
+    if (run.hasLock) this.choose(othersOf(this.page), machine.stored);
+    else tell(T.nothing);
+  }
+
+  compareWith({ title, text }) {
+    this.chosen = { title, text, lock: this.page.session.run.kind };
+    this.kind = 'chosen';
+    this.made = {};
     this.page.fit();
   }
 
@@ -55,18 +77,22 @@ export class Comparing {
 
   // Ends if there is nothing to compare with any more.
   settle() {
-    if (this.isOn && !this.kinds().includes(this.kind)) this.kind = null;
+    if (this.isOn && !this.kinds().includes(this.kind)) this.kind = this.chosen = null;
   }
 
   // {session, at, columns, first, title} of what is compared, made once for a run.
   compared() {
     const { run, origin } = this.page.session;
+    const { chosen } = this;
     if (this.made.run === run && this.made.kind === this.kind) return this.made;
     const session = this.page.session.twin();
     let at = (move) => Math.min(move, session.run.last);
     let { title } = origin;
     if (this.kind === 'origin') session.open(origin.run.text, null, 0, origin.run);
-    else {
+    else if (this.kind === 'chosen') {
+      session.open(chosen.text);
+      title = chosen.title;
+    } else {
       const there = onOtherLock(session.machine, run, this.made.session?.run);
       session.open(there.run.text, null, 0, there.run);
       at = (move) => there.at[Math.min(move, run.count)];
@@ -84,7 +110,7 @@ export class Comparing {
 
   // How many columns both need.
   get columns() {
-    if (this.kind !== 'origin') return 0;
+    if (!this.isOn || this.kind === 'lock') return 0;
     return Math.max(this.page.session.run.last, this.compared().session.run.last);
   }
 

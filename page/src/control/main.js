@@ -7,7 +7,7 @@ import { Machine } from '../machine/machine.js';
 import { StoredMachine } from '../machine/stored_machine.js';
 import { learnWords } from '../machine/word_names.js';
 import { language, learnLessons, translatedTerms } from '../texts/language.js';
-import { texts } from '../texts/texts.js';
+import { capital, texts } from '../texts/texts.js';
 import { learnKinds } from '../model/kinds.js';
 import { looks } from '../model/looks.js';
 import { Session } from '../model/session.js';
@@ -15,7 +15,6 @@ import { learnTerms } from '../view/terms.js';
 import { listen } from './controls.js';
 import { Page } from './page.js';
 import { testPort } from './test_port.js';
-import { drawTheme } from './theme.js';
 
 // The machine if the browser can run it, else what it answered when the page was built.
 function runOrStored(data) {
@@ -41,6 +40,16 @@ function writeTexts() {
     if (node.matches('button, select')) node.title = named(node.dataset.label);
   }
   for (const node of all('[data-title]')) node.title = named(node.dataset.title);
+  tellTools(all('.tools button'));
+}
+
+// What a tool does is said where one points at it, as the list of keys says it.
+function tellTools(tools) {
+  const does = new Map(texts.keys.list);
+  for (const node of tools) {
+    const key = node.querySelector('kbd')?.textContent;
+    if (does.has(key)) node.title = capital(does.get(key));
+  }
 }
 
 // Pictures are laid out by the widths of letters, so these come first. A browser that blocks the
@@ -60,7 +69,6 @@ function begin(data) {
   writeTexts();
   const page = new Page(new Session(machine, linesOf(data.code)), lessons, data.plans);
   listen(page);
-  drawTheme();
   page.stepping.draw();
   byId('banner').hidden = !machine.stored;
   for (const id of ['mode-own', 'mode-play', 'show-find']) {

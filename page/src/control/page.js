@@ -22,7 +22,7 @@ import { Modes } from './modes.js';
 import { Playing } from './playing.js';
 import { Presenter } from './presenter.js';
 import { Stepping } from './stepping.js';
-import { drawTheme, switchTheme } from './theme.js';
+import { switchTheme } from './theme.js';
 import { sheetsDialog, viewDialog } from './view_dialogs.js';
 
 // How many times wider than usual columns are.
@@ -88,7 +88,7 @@ export class Page {
 
   toggleTheme() {
     switchTheme();
-    drawTheme();
+    this.presenter.draw();
     this.address.writeSoon();
   }
 
@@ -161,9 +161,10 @@ export class Page {
     this.show();
   }
 
-  // Another move, or another text: its answer is not shown yet.
+  // Another move, or another text: its answer is not shown yet, and nobody was told that it waits.
   show() {
     this.answered = false;
+    this.reminded = false;
     noteDone(this.session);
     this.fit();
   }

@@ -28,7 +28,6 @@ export class Presenter {
     const { document: there } = this.window;
     there.title = T.title;
     there.head.append(...[document.querySelector('style').cloneNode(true)]);
-    there.documentElement.dataset.theme = document.documentElement.dataset.theme ?? '';
     there.body.className = 'presenter';
     // Its keys are those of the page.
     this.window.onkeydown = ({ key }) => document.body.dispatchEvent(
@@ -37,7 +36,10 @@ export class Presenter {
   }
 
   draw() {
-    if (this.isOpen && this.page.session.run.hasLock) show(this.window.document.body, this.view());
+    if (!this.isOpen || !this.page.session.run.hasLock) return;
+    const { document: there } = this.window;
+    there.documentElement.dataset.theme = document.documentElement.dataset.theme ?? '';
+    show(there.body, this.view());
   }
 
   view() {

@@ -2,6 +2,7 @@
 
 import { byId, elementOf, focusIn, selectOf } from '../lib/elements.js';
 import { texts } from '../texts/texts.js';
+import { isAsked } from '../model/remarks.js';
 import { tell } from '../view/notice.js';
 
 // The speeds that can be chosen, the slowest first, and how many milliseconds a move takes at each.
@@ -18,10 +19,22 @@ export class Stepping {
   step(by) {
     const { page } = this;
     if (page.quiz.on && by > 0 && this.askNext()) return;
+    if (by === 1 && this.stopsAtQuestion()) return;
     const { place, run: { last } } = page.session;
     if (place === last && by > 0) return void this.atEnd();
     page.go(place + by);
     if (page.quiz.asks(page.session)) page.modes.askFocus();
+  }
+
+  // A step past a question whose answer was not seen stops once, and says what there is to do.
+  stopsAtQuestion() {
+    const { page } = this;
+    const waits = isAsked(page.session.view({ answered: page.answered }));
+    if (!waits || page.quiz.on || page.reminded) return false;
+    page.reminded = true;
+    tell(texts.questionWaits);
+    page.draw();
+    return true;
   }
 
   // There is no further move, but perhaps another lesson.
@@ -90,6 +103,8 @@ export class Stepping {
     if (this.timer) return this.pause();
     const { place, run } = this.page.session;
     if (place >= run.last) this.page.go(0);
+    // Where one lets the moves run, its question was seen.
+    this.page.reminded = true;
     this.timer = setInterval(() => this.runOn(), PACES[this.speed]);
     return this.draw();
   }

@@ -31,6 +31,8 @@ export function isDark() {
 export function showTheme() {
   const theme = looks.theme ?? remembered();
   if (theme) root.dataset.theme = theme;
+  else delete root.dataset.theme;
+  drawTheme();
 }
 
 export function switchTheme() {
@@ -40,7 +42,7 @@ export function switchTheme() {
 }
 
 // Before its key the button says what it would choose.
-export function drawTheme() {
+function drawTheme() {
   const label = `${isDark() ? texts.tools.light : texts.tools.dark} `;
   byId('theme').firstChild.nodeValue = label;
 }

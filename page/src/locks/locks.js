@@ -23,7 +23,7 @@ import { ticket } from './ticket.js';
  * @property {boolean} [hasRecords] whether each thread has words of its own
  * @property {number} [leastColumn] how wide its calls are
  * @property {string[]} signs of its lanes, by their names in the legend
- * @property {{text: string, kinds: string[]}} [wraps] what is said when a count wraps around
+ * @property {{text: string, words: string[]}} [wraps] what is said when one of these wraps around
  * @property {(view: View, move: number) => string} mark what is below a move's mark
  * @property {(named: Named, move: number, phase: number) => Object<string, string>} [values]
  *   further values of its sentences

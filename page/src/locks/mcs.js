@@ -36,7 +36,7 @@ const NAMES_ANOTHER = ['LinkTo', 'Grant'];
 
 const OWN_VARIABLE = { SetLocked: 'pred', LinkTo: 'pred', Grant: 'succ' };
 const RECORD = {
-  narrowest: 123, widest: 156, height: 108, gap: 52, wideGap: 60, top: 86, row: 170, last: 172,
+  narrowest: 123, widest: 156, height: 108, gap: 52, wideGap: 74, top: 86, row: 170, last: 172,
   left: 19, edge: 14,
 };
 // Up to so many records stay in one row, even if a picture of two rows would be larger.

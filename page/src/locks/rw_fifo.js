@@ -6,7 +6,7 @@ import { wordNamed, wordNames } from '../machine/word_names.js';
 import { translated } from '../texts/language.js';
 import { say } from '../texts/texts.js';
 import {
-  monitor, monitorEnd, readersCaption, readWrite, room, roomHeight, sectionMark,
+  callers, monitor, monitorEnd, readersCaption, readWrite, room, roomHeight, sectionMark,
 } from './read_write.js';
 import { picture, useOf, wordBox } from './shapes.js';
 import { handLegend, HANDS, hasWheel, wheelOf, wheelPlaced } from './wheel.js';
@@ -55,8 +55,8 @@ const CALLERS = 280;
 const GAP = 24;
 
 /** @param {View} view */
-function callersAt({ width }, left, below, wheelEnd) {
-  if (width < left + ROOM) return [24, Math.max(below, wheelEnd)];
+function callersAt({ width }, left, below, wheelEnd, isEmpty) {
+  if (width < left + ROOM && !isEmpty) return [24, Math.max(below, wheelEnd)];
   if (width >= Math.max(WORDS, left + ROOM + GAP) + CALLERS) {
     return [Math.max(WORDS, left + ROOM + GAP), 24];
   }
@@ -72,7 +72,8 @@ function draw(view, state) {
   const roomWidth = Math.min(ROOM, view.width - left - 12);
   const below = 104 + roomHeight(view, state, roomWidth);
   const wheelEnd = wheel ? wheelHeight(view) : 0;
-  const [x, y] = callersAt(view, left, below, wheelEnd);
+  const isEmpty = !callers(view, state).length;
+  const [x, y] = callersAt(view, left, below, wheelEnd, isEmpty);
   const height = Math.max(wheelEnd || 180, below, monitorEnd(view, state, y));
   return picture(view, height, caption(view, state).text,
     html`${box(ACQUIRES, 24, 116)}${box(RELEASES, 156, 116)}${box(FLAG, 288, 70)}
@@ -96,7 +97,7 @@ const leastWidth = (view) => (hasWheel(view.run.bits) ? 494 : 380);
 export const rwFifo = {
   ...readWrite, name: NAME, title: T.title, lesson: 'fifo',
   signs: ['inCall', 'queue', 'reads', 'writes', 'ended'],
-  wraps: { text: T.wraps, kinds: ['rlock: entered', 'runlock: left', 'downgrade: entered'] },
+  wraps: { text: T.wraps, words: [ACQUIRES, RELEASES] },
   mark: sectionMark(NAME, { [ACQUIRES]: 'acq.', [RELEASES]: 'rel.' }),
   wordName: (word) => wordNames(NAME)[word], draw, caption, leastWidth,
 };

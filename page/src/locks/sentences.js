@@ -30,8 +30,9 @@ export function sentence(view, move) {
   const { records } = run;
   const [kind, values] = [kindOf(run, move), valuesOf(view, move)];
   const text = `${say(kind.says, values)}.`;
-  const { wraps } = lockOf(run);
-  const isWrap = wraps?.kinds.includes(kind.name) && records.left(move) < records.found(move);
+  const { wraps, name } = lockOf(run);
+  const isWrap = wraps?.words.includes(wordNames(name)[records.touched(move)])
+    && records.left(move) < records.found(move);
   return isWrap ? `${text} ${say(wraps.text, values)}` : text;
 }
 

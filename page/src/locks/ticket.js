@@ -204,7 +204,7 @@ const leastWidth = (view) => (hasWheel(view.run.bits) ? 466 : 446);
 export const ticket = {
   name: NAME, title: T.title, lesson: 'ticket', memory: T.memory,
   signs: ['inCall', 'queue', 'holds', 'ended'],
-  wraps: { text: T.wraps, kinds: ['acquire: took a ticket', 'release: served the next ticket'] },
+  wraps: { text: T.wraps, words: [NEXT_TICKET, NOW_SERVING] },
   mark,
   wordName, valueText, draw, caption, leastWidth,
 };

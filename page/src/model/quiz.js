@@ -112,9 +112,11 @@ export class Quiz {
 export const answerText = ({ move, said, kind, given, truth, right }) => (
   `${move} ${said} ${kind}: ${given}${right ? '' : ` (${truth})`}`);
 
-// An answer as the report would write it: with a thread's number for its name.
+// An answer as the report would write it: with a thread's number for its name. Longer names come
+// first, since one may be a part of another.
 function normalised(text, names) {
-  const given = [...names.given].reduce((left, [thread, name]) => (
+  const longest = [...names.given].sort(([, one], [, other]) => other.length - one.length);
+  const given = longest.reduce((left, [thread, name]) => (
     left.replaceAll(name.toLowerCase(), thread)), text.toLowerCase());
   return given.replace(/\s+/g, '') || '-';
 }

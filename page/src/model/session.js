@@ -15,6 +15,7 @@ import { BoundRemarks } from './stale_remarks.js';
  * @typedef {import('./run.js').Run} Run
  * @typedef {object} Wishes
  * @property {boolean} [answered] whether the answer to the move's question is shown
+ * @property {boolean} [reminded] whether a step stopped here, since the question waits
  * @property {boolean} [hidden] whether what comes is hidden, since the quiz asks for it
  * @property {boolean} [future] whether later moves are drawn too
  * @property {number} [different] the first move that differs from the compared run's; 0 for none

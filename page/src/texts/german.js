@@ -1,9 +1,12 @@
 // The sentences of the page in German, by the names of the English ones. The words of schedules
 // and reports stay as they are.
 
+import { MOST_BYTES, MOST_MOVES } from '../machine/codes.js';
 import { germanKeys } from './german_keys.js';
 import { germanKinds } from './german_kinds.js';
 import { germanLocks } from './german_locks.js';
+
+const grouped = (count) => count.toLocaleString('de');
 
 export const german = {
   page: {
@@ -22,6 +25,13 @@ export const german = {
       first: (move) => `Erster Unterschied: Zug ${move}`, same: 'Kein Unterschied',
       here: 'hier:', there: 'dort:', hereMemory: 'Speicher hier', thereMemory: 'Speicher dort',
       nothing: 'Es gibt nichts zu vergleichen. Zweige zuerst ab, beim Spielen oder im Text.',
+      choose: 'Vergleichen mit',
+      needs: 'Zwei Abläufe einer Sperre stehen übereinander, mit dem ersten Zug, in dem sie sich '
+        + 'unterscheiden. Mache den zweiten aus diesem, oder wähle ihn.',
+      ways: {
+        play: ['Spielen', 'einen anderen nächsten Zug wählen'],
+        own: ['Eigener', 'den Text ändern oder einen öffnen'],
+      },
     },
     tools: {
       copyLink: 'Link', print: 'Drucken', dark: 'Dunkel', light: 'Hell', keys: 'Tasten',
@@ -161,6 +171,7 @@ export const german = {
     position: (move, count) => `${move} von ${count}`,
     start: 'Alle Wörter sind 0, und die Schlange ist leer.',
     startHint: 'Mit → kommt der erste Zug.', startTouch: 'Nach links wischen: der erste Zug.',
+    isCalled: (thread, name) => `${thread} ist ${name}`,
     before: 'vor dem ersten Zug',
     plain: {
       called: 'ein Aufruf beginnt', moved: 'der Aufruf geht weiter',
@@ -171,6 +182,7 @@ export const german = {
     facts: { wrote: 'Schrieb', holds: 'Hält', queue: 'Schlange', report: 'Bericht' },
     noWord: 'kein Wort', nobody: 'niemand', asReader: 'liest', asWriter: 'schreibt',
     question: 'Frage:', showAnswer: 'Antwort zeigen', notLinked: 'nicht verknüpft',
+    questionWaits: 'Hier wartet eine Frage: A zeigt die Antwort, noch ein → geht weiter.',
     spoken: {
       move: (move, count) => `Zug ${move} von ${count}.`,
       start: (count) => `Vor dem ersten von ${count} Zügen.`,
@@ -213,8 +225,9 @@ export const german = {
         + 'fallen.',
       open: 'Öffnen', save: 'Speichern', copy: 'Kopieren', clear: 'Neu',
       copied: 'Der Ablauf ist kopiert.',
-      several: (name, others) => `${name} ist zu sehen. ${others === 1 ? 'Die andere Datei ist'
-        : `Die ${others} anderen Dateien sind`} aufgehoben und steht bei den Lektionen.`,
+      several: (name, others) => `${name} ist zu sehen. ${others === 1
+        ? 'Die andere Datei ist aufgehoben und steht'
+        : `Die ${others} anderen Dateien sind aufgehoben und stehen`} bei den Lektionen.`,
       trace: 'Das ist eine Spur. Sie ist als Ablauf zu sehen, ohne Wörter und Werte.',
       notCopied: 'Der Browser hat es nicht erlaubt. Wähle den Text aus und kopiere ihn.',
       label: 'Text des Ablaufs',
@@ -222,7 +235,7 @@ export const german = {
         ? 'Der eine Zug ist angenommen.' : `Alle ${count} Züge sind angenommen.`),
       noMoves: 'Der Kopf ist angenommen. Noch kein Zug.',
       line: (number) => `Zeile ${number}`,
-      large: (bytes) => `${bytes} Bytes: zu viel, um es hier zu ändern.`,
+      large: (bytes) => `${grouped(bytes)} Bytes: zu viel, um es hier zu ändern.`,
       begins: 'Ein Ablauf beginnt mit einem Kopf. Jede weitere Zeile ist ein Zug: die Nummer eines '
         + 'Threads, und ein Aufruf oder ein Schritt.',
       forms: (locks, [least, most]) => `Sperren: ${locks}. Threads: ${least} bis ${most}. Danach `
@@ -248,7 +261,7 @@ export const german = {
       nextKindsCut: 'Was weiter weg ist, wurde nicht gesucht.',
       newLock: 'Neuer Ablauf',
       lock: 'Sperre', threads: 'Threads', bits: 'Bits', begin: 'Beginnen',
-      full: 'Ein Ablauf hat höchstens 65.536 Züge.',
+      full: `Ein Ablauf hat höchstens ${grouped(MOST_MOVES)} Züge.`,
       faulty: 'Der Text hat einen Fehler. Behebe ihn, oder beginne einen neuen Ablauf.',
       noMachine: 'Zum Spielen braucht der Browser WebAssembly-Speicher mit 64 Bit.',
     },
@@ -257,6 +270,9 @@ export const german = {
       next: (move, who, word) => `Zug ${move}: ${who}, ${word}`,
       outcome: 'Was ist sein Ergebnis?', holders: 'Wer hält dann?',
       queue: 'Wer ist dann in der Schlange?',
+      goOn: (move) => `Weiter mit →: Vor Zug ${move} wird gefragt, was kommt. Eine falsche Antwort `
+        + 'kostet einen Punkt. Q beendet das Quiz.',
+      noneLeft: 'In diesem Ablauf ist keine Frage mehr offen. Q beendet das Quiz.',
       hint: {
         holders: 'Nummern oder Namen: - für niemand, 0 für einen, r0,2 für Leser, w1 für einen '
           + 'Schreiber.',
@@ -330,8 +346,10 @@ export const german = {
       noBreak: 'Da ist ein geschütztes Leerzeichen. Richtig ist ein einfaches.',
       unseen: 'Da ist ein unsichtbares Zeichen, {code}.',
       stranger: '„{letter}“ ist kein Zeichen von ASCII, sondern {code}.',
-      TooLong: 'Der Text hat mehr als 1.048.576 Bytes. Mehr darf ein Ablauf nicht haben.',
-      TooManyMoves: 'Das wäre Zug 65.537. Ein Ablauf hat höchstens 65.536.',
+      TooLong: `Der Text hat mehr als ${grouped(MOST_BYTES)} Bytes. Mehr darf ein Ablauf nicht `
+        + 'haben.',
+      TooManyMoves: `Das wäre Zug ${grouped(MOST_MOVES + 1)}. Ein Ablauf hat höchstens ${
+        grouped(MOST_MOVES)}.`,
       NoHeader: 'Es gibt keinen Kopf: Jede Zeile ist leer oder beginnt mit #.',
       header: 'lock NAME threads N, oder lock NAME threads N bits B',
       headerShape: 'Das ist kein Kopf. Ein Ablauf beginnt mit einem.',

@@ -1,9 +1,12 @@
 // What the page says, in English, but for what it says of one lock alone: that is in the lock's
 // file. {..} is what the machine or the schedule gave.
 
+import { MOST_BYTES, MOST_MOVES } from '../machine/codes.js';
 import { keys } from './english_keys.js';
 import { hall, lessons, plans, presenter } from './english_lessons.js';
 import { translated } from './language.js';
+
+const grouped = (count) => count.toLocaleString('en');
 
 const english = {
   product: 'lockreplay',
@@ -42,6 +45,12 @@ const english = {
     first: (move) => `First difference: move ${move}`, same: 'No difference',
     here: 'here:', there: 'there:', hereMemory: 'Memory here', thereMemory: 'Memory there',
     nothing: 'There is nothing to compare with. Branch off first, in Play or by an edit.',
+    choose: 'Compare with',
+    needs: 'Two schedules of one lock are shown one above the other, with the first move in which '
+      + 'they differ. Make the second from this one, or choose it.',
+    ways: {
+      play: ['Play', 'choose another next move'], own: ['Your own', 'change the text, or open one'],
+    },
   },
   tools: {
     copyLink: 'Link', print: 'Print', dark: 'Dark', light: 'Light', keys: 'Keys',
@@ -147,6 +156,7 @@ const english = {
   position: (move, count) => `${move} of ${count}`,
   start: 'All words are 0, and the queue is empty.',
   startHint: 'Press → for the first move.', startTouch: 'Swipe to the left for the first move.',
+  isCalled: (thread, name) => `${thread} is ${name}`,
   before: 'before the first move',
   outcomes: {
     called: 'called', moved: 'moved', waits: 'waits', entered: 'entered', left: 'left',
@@ -164,6 +174,7 @@ const english = {
   wordBecomes: (word, value) => `${word} = ${value}`,
   question: 'Question:',
   showAnswer: 'Show the answer',
+  questionWaits: 'A question waits here: A shows its answer, another → goes on.',
   notLinked: 'not linked',
 
   spoken: {
@@ -193,7 +204,7 @@ const english = {
       ? 'The one move is accepted.' : `All ${count} moves are accepted.`),
     noMoves: 'The header is accepted. No move yet.',
     line: (number) => `Line ${number}`,
-    large: (bytes) => `${bytes} bytes: too much to edit here.`,
+    large: (bytes) => `${grouped(bytes)} bytes: too much to edit here.`,
     template: 'lock mcs threads 2\n0 acquire\n',
     begins: 'A schedule begins with a header. Each further line is a move: a thread’s number, and '
       + 'a call or a step.',
@@ -223,7 +234,7 @@ const english = {
     inMoves: (count) => (count === 1 ? 'in 1 move' : `in ${count} moves`),
     nextKindsCut: 'What is further away was not searched.',
     lock: 'lock', threads: 'threads', bits: 'bits', begin: 'Begin',
-    full: 'A schedule has at most 65,536 moves.',
+    full: `A schedule has at most ${grouped(MOST_MOVES)} moves.`,
     faulty: 'The text has a fault. Correct it, or begin a new schedule.',
     noMachine: 'Playing needs a browser with 64-bit WebAssembly memory.',
   },
@@ -235,6 +246,9 @@ const english = {
     holders: 'Who holds then?',
     queue: 'Who is in the queue then?',
     short: { outcome: 'outcome', holders: 'hold', queue: 'queue' },
+    goOn: (move) => `Go on with →: before move ${move} it is asked what comes. A wrong answer `
+      + 'takes a point away. Q ends the quiz.',
+    noneLeft: 'No question is left in this schedule. Q ends the quiz.',
     hint: {
       holders: 'Numbers or names: - for nobody, 0 for a holder, r0,2 for readers, w1 for a writer.',
       queue: 'Numbers or names in order: - for nobody, 0,2 for thread 0 and after it thread 2.',
@@ -318,8 +332,10 @@ const english = {
     noBreak: 'There is a no-break space. Words are separated by one plain blank.',
     unseen: 'There is a character that cannot be seen, {code}.',
     stranger: '“{letter}” is not an ASCII character, but {code}.',
-    TooLong: 'The text has more than 1,048,576 bytes, the most that a schedule may have.',
-    TooManyMoves: 'This would be move 65,537. A schedule has at most 65,536.',
+    TooLong: `The text has more than ${grouped(MOST_BYTES)} bytes, the most that a schedule may `
+      + 'have.',
+    TooManyMoves: `This would be move ${grouped(MOST_MOVES + 1)}. A schedule has at most ${
+      grouped(MOST_MOVES)}.`,
     NoHeader: 'There is no header: every line is empty or begins with #.',
     header: 'lock NAME threads N, or lock NAME threads N bits B',
     headerShape: 'This is not a header. A schedule begins with one.',
@@ -346,7 +362,7 @@ export const texts = translated('page', english);
 // Puts values into a text.
 export const fill = (text, values) => text.replace(/\{(\w+)\}/g, (_, name) => values[name]);
 
-const capital = (line) => line.charAt(0).toUpperCase() + line.slice(1);
+export const capital = (line) => line.charAt(0).toUpperCase() + line.slice(1);
 
 // The same as sentences: each begins with a capital letter.
 export const say = (text, values) => capital(text.replace(/([.?!] )?\{(\w+)\}/g,

@@ -26,8 +26,8 @@ const LANES = {
 const COMPARED = 0.17;
 // In a hall they are as low as can be, since two memories are below.
 const COMPARED_LANE = { height: 26, foot: 6, most: 5 };
-// Above memory on a projector.
-const ABOVE = 0.2;
+// Above memory on a projector, and above another part.
+const ABOVE = { memory: 0.2, other: 0.24 };
 const LOW = { wide: { height: 800, share: 0.26 }, medium: { height: 600, share: 0.2 } };
 const LANES_LEAST = 100;
 const LANES_LOW = 82;
@@ -65,8 +65,8 @@ export function lanesHeight(run) {
   const threads = run.hasLock ? run.threads : 1;
   if (document.body.classList.contains('compares')) return comparedHeight(height, threads);
   const low = LOW[layout];
-  const isAbove = looks.hall && partsShown().includes('memory');
-  const share = isAbove ? ABOVE : height < low?.height ? low.share : LANES[layout];
+  const above = partsShown().includes('memory') ? ABOVE.memory : ABOVE.other;
+  const share = looks.hall ? above : height < low?.height ? low.share : LANES[layout];
   return Math.max(layout === 'low' ? LANES_LOW : LANES_LEAST, height * share);
 }
 

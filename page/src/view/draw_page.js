@@ -21,12 +21,14 @@ export function drawPage(page, reveals) {
   // Read before anything is written, so that a step lays the page out once.
   const sizes = measured(run);
   drawHead(session);
-  const { hides, answered } = page;
+  const { hides, answered, reminded } = page;
   const { first: different, columns } = page.comparing;
   const { future } = looks;
   const next = page.nextLesson;
   const compares = page.comparing.isOn;
-  const wanted = { answered, hidden: hides, future, different, columns, next, compares };
+  const wanted = {
+    answered, reminded, hidden: hides, future, different, columns, next, compares,
+  };
   const view = session.view(wanted);
   const state = run.hasLock && run.state(view.move);
   if (run.hasLock) drawTexts(page, view, state);

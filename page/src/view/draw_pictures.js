@@ -79,17 +79,19 @@ export function drawPictures(shown, sizes) {
   return layout;
 }
 
-// What is left free below the code.
+// What is left free below the code, and how near its lines may be.
 const EDGE = 4;
+const NEAREST_LINES = 21;
 // The sentences on a move in smaller letters, if they do not fit otherwise; then less beside them,
 // and at last more room for them.
 const FITS = ['', '1', '1 2', '1 2 3', '1 2 3 4', '1 2 3 4 5'];
+// In a hall no letters are smaller.
+const FITS_IN_A_HALL = ['', 'hall'];
 
 function fitNow() {
   const box = byId('now');
   if (box.dataset.fit) box.dataset.fit = '';
-  if (looks.hall) return;
-  for (const fit of FITS) {
+  for (const fit of looks.hall ? FITS_IN_A_HALL : FITS) {
     if (fit) box.dataset.fit = fit;
     if (box.scrollHeight <= box.clientHeight + 1) return;
   }
@@ -100,12 +102,22 @@ function heightOfFirst({ firstElementChild: first }) {
   return first instanceof HTMLElement ? first.offsetHeight : 0;
 }
 
+// Lines are nearer to each other if all of them have room then.
+function linesIn(box, room) {
+  if (box.style.lineHeight) box.style.lineHeight = '';
+  const line = heightOfFirst(box);
+  const fitting = Math.floor(room / box.childElementCount);
+  if (!looks.hall || line <= fitting || fitting < NEAREST_LINES) return line;
+  box.style.lineHeight = `${fitting}px`;
+  return heightOfFirst(box);
+}
+
 // As many lines of code as have room, each of them whole.
 function fitCode() {
   const box = byId('code-lines');
-  const line = heightOfFirst(box);
-  if (!line) return;
   const room = byId('code').clientHeight - box.offsetTop - EDGE;
+  const line = linesIn(box, room);
+  if (!line) return;
   const most = `${Math.floor(room / line) * line}px`;
   if (box.style.maxHeight !== most) box.style.maxHeight = most;
   if (box.scrollTop % line) box.scrollTop = Math.round(box.scrollTop / line) * line;

@@ -60,7 +60,7 @@ function quizView({ quiz, session }, view) {
   const outcome = quiz.result && OUTCOMES[view.run.records.outcome(quiz.result.move)];
   const atEnd = quiz.on && view.place === view.run.last;
   return {
-    score: quiz.on && scoreView(quiz), form: question && quizForm(view, question),
+    score: quiz.on && scoreView(quiz, session), form: question && quizForm(view, question),
     came: html`${quiz.result && resultView(quiz.result, outcome)}${atEnd && endView(quiz)}`,
   };
 }

@@ -46,7 +46,7 @@ export class Editor {
     this.returns = letters.includes('\r');
     this.area.value = this.returns ? letters.replaceAll('\r', RETURN_SIGN) : letters;
     this.area.disabled = large;
-    this.area.placeholder = large ? texts.own.large(text.length.toLocaleString('en')) : '';
+    this.area.placeholder = large ? texts.own.large(text.length) : '';
     // A long line of text is scrolled to; what is said in its place is seen whole.
     this.area.wrap = large ? 'soft' : 'off';
     this.caretAt = 0;

@@ -10,7 +10,7 @@ import { spansOf, unlinkedSpans } from '../model/spans.js';
 import { fitted } from '../locks/fitting.js';
 import { lockOf } from '../locks/locks.js';
 import { fillOf, standingIn } from '../locks/shapes.js';
-import { columnX, laneMiddle, LOW_LANE, NAME_EDGES, placeOf, placeX } from './layout.js';
+import { columnX, LANE, laneMiddle, LOW_LANE, NAME_EDGES, placeOf, placeX } from './layout.js';
 
 /** @typedef {import('../machine/machine.js').Records} Records */
 /** @typedef {import('../model/session.js').View} View */
@@ -281,14 +281,17 @@ function hereColumn(layout, y, height) {
     height="${height}" rx="7"/>`;
 }
 
-// A line before the column of the first move that differs from what is compared.
+// A line before the column of the first move that differs from what is compared. The lanes of
+// two runs may be too low for its sign above their words.
 /** @param {View} view @param {Layout} layout */
 function differentColumn(view, layout) {
   const { different } = view;
   if (!different || different < layout.origin || different > layout.end) return null;
   const x = rounded(placeX(layout, different - 0.5));
-  return html`<path class="different" data-different="${different}" d="M${x} 20V${layout.height}"/>
-    <text class="different-sign" x="${x}" y="14" text-anchor="middle">≠</text>`;
+  const signed = layout.laneHeight >= LANE.lowest;
+  return html`<path class="different" data-different="${different}"
+    d="M${x} ${signed ? 20 : 4}V${layout.height}"/>${signed && html`<text class="different-sign"
+    x="${x}" y="14" text-anchor="middle">≠</text>`}`;
 }
 
 const sized = (width, height) => html`width="${width}" height="${height}"

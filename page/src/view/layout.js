@@ -2,6 +2,7 @@
 // step costs the same in a schedule of 65,536 moves as in one of ten.
 
 import { placeAfter } from '../lib/ascending.js';
+import { looks } from '../model/looks.js';
 import { standingAfter } from '../model/spans.js';
 import { widthOf } from '../locks/fitting.js';
 import { lockOf } from '../locks/locks.js';
@@ -13,8 +14,8 @@ import { lockOf } from '../locks/locks.js';
 // beside a name there.
 const GUTTER = { least: 122, share: 0.16 };
 export const NAME_EDGES = { left: 20, right: 10 };
-const COLUMN = { narrowest: 16, least: 44, most: 66, widest: 120 };
-const LANE = { tallest: 85, lowest: 38, compared: 26, foot: 6 };
+const COLUMN = { compared: 22, narrowest: 16, least: 44, most: 66, widest: 120 };
+export const LANE = { tallest: 85, lowest: 38, compared: 26, foot: 6 };
 // Of more threads than these only those that move are drawn.
 const MANY_THREADS = 8;
 // How far along the view the current move is in a long schedule.
@@ -34,10 +35,11 @@ export function lanesOf(run, all) {
 /** @param {Run} run */
 const leastColumn = (run) => lockOf(run).leastColumn ?? COLUMN.least;
 
-/** @param {Run} run */
-function columnWidth(run, moves, room, zoom) {
+// Beside its memory in a hall only the move that is shown has its word, so columns may be narrow.
+/** @param {View} view */
+function columnWidth({ run, compares }, moves, room, zoom) {
   const fitting = room / Math.max(1, moves + 0.4);
-  const least = leastColumn(run);
+  const least = compares && looks.hall ? COLUMN.compared : leastColumn(run);
   const wanted = Math.min(Math.max(COLUMN.most, least), Math.max(least, fitting)) * zoom;
   return Math.min(COLUMN.widest, Math.max(COLUMN.narrowest, wanted));
 }
@@ -92,7 +94,7 @@ export function layOutLanes(view, all, room, zoom) {
   const { run, place, names } = view;
   const moves = Math.max(run.last, view.columns ?? 0);
   const gutter = gutterOf(names, room.width);
-  const column = columnWidth(run, moves, room.width - gutter - 12, zoom);
+  const column = columnWidth(view, moves, room.width - gutter - 12, zoom);
   const visible = Math.max(1, Math.floor((room.width - gutter - 8) / column));
   const first = firstMove(moves, place, visible);
   const end = Math.min(moves, first + visible - 1);

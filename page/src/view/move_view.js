@@ -4,7 +4,7 @@
 import { folding } from '../lib/folding.js';
 import { html } from '../lib/markup.js';
 import { MOVES, OUTCOMES } from '../machine/codes.js';
-import { texts } from '../texts/texts.js';
+import { capital, texts } from '../texts/texts.js';
 import { isCovered } from '../model/remarks.js';
 import { reportLine } from '../model/report.js';
 import { unlinkedAfter } from '../model/spans.js';
@@ -81,7 +81,8 @@ export function questionView(view) {
   const question = view.remarks.ask.get(view.move);
   const answer = view.remarks.answer.get(view.move);
   if (!question || view.refused) return null;
-  return html`<div class="question"><p><b>${texts.question}</b> ${question}</p>
+  return html`<div class="question ${view.reminded && 'waits'}">
+    <p><b>${texts.question}</b> ${question}</p>
     ${answer && html`<details ${view.answered && 'open'}>
       <summary>${texts.showAnswer}<kbd>A</kbd></summary><p>${answer}</p></details>`}</div>`;
 }
@@ -111,13 +112,22 @@ function storyView({ remarks: { about }, answered }) {
     </summary><p class="about">${withCode(about)}</p></details>`;
 }
 
+// Which threads have names. Lanes are in the order of numbers, and keys of Play are numbers.
+/** @param {View} view */
+function namesView({ names }) {
+  const named = [...names.given].sort(([one], [other]) => one - other);
+  if (!named.length || named.length > MOST_LISTED) return null;
+  const all = named.map(([thread, name]) => texts.isCalled(texts.thread(thread), name));
+  return html`<p class="aside names">${capital(`${all.join(', ')}.`)}</p>`;
+}
+
 /** @param {View} view @param {State} state */
 function startView(view, state) {
   const { learn } = view.remarks;
   const isTouched = matchMedia('(pointer: coarse)').matches;
   return html`<h2 class="spoken">${texts.now}</h2>
     <div class="head"><b>0</b><span>${texts.before}</span></div>
-    ${learn && html`<p class="say own-say">${learn}</p>`}
+    ${learn && html`<p class="say own-say">${learn}</p>`}${namesView(view)}
     <p class="${learn ? 'aside' : 'say'}">${withTerms(texts.start)}</p>${storyView(view)}
     <p class="hint">${isTouched ? texts.startTouch : texts.startHint}</p>
     ${questionView(view)}${factList(view, state, '')}`;
@@ -133,8 +143,8 @@ function wroteRow(view) {
 // The lesson's own sentence, if it has one, and that of the machine.
 /** @param {View} view */
 function sentences(view) {
-  const { remarks: { say }, move } = view;
-  const own = say.get(move);
+  const { remarks, move } = view;
+  const own = remarks.say.get(move);
   const hidden = isCovered(view, 'sentence') && 'hidden';
   return html`${hidden && html`<p class="plain">${texts.coveredSentence}</p>`}
     ${own && html`<p class="say own-say" ${hidden}>${withTerms(own)}</p>`}

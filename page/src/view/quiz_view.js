@@ -45,12 +45,21 @@ export function resultView({ kind, truth, given, right }, outcome) {
   kind === 'queue' ? T.whyQueue : T.why[outcome]}</p>`}</div>`;
 }
 
-export function scoreView(quiz) {
+// What there is to do between two questions: to go on to the next one.
+function howView(quiz, session) {
+  if (quiz.asks(session)) return null;
+  const before = quiz.limit();
+  return html`<p class="hint quiz-how">${
+    before < Infinity ? T.goOn(before + 1) : T.noneLeft}</p>`;
+}
+
+export function scoreView(quiz, session) {
   const score = quiz.score();
   const some = score.right + score.wrong > 0;
   return html`<p class="score">${T.score(score)} ${some && html`<input id="quiz-name"
     placeholder="${T.nameLabel}" aria-label="${T.nameLabel}" value="${quiz.name}">
-    <button type="button" data-save-quiz="true">${T.save}</button>`}</p>`;
+    <button type="button" data-save-quiz="true">${T.save}</button>`}</p>${
+  howView(quiz, session)}`;
 }
 
 // After the last move: what was wrong.

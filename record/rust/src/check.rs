@@ -1,12 +1,19 @@
-//! Checks a run in the process, by the library `liblk_trace_c`, without a file.
+//! Checks a run in the process, without a file, by `locktrace.c`, which the build script compiles.
 //!
-//! The library is the check of `locktrace`, as `record/locktrace.h` declares it for C.
+//! It is the check of `locktrace`, as `record/locktrace.h` declares it for C.
 // SPDX-License-Identifier: Apache-2.0 OR MIT
 
-use crate::error::Error;
-use crate::run::{Run, Shared};
+use std::sync::{Mutex, PoisonError};
 
-/// A move that was made, as the library writes it.
+use crate::error::Error;
+use crate::moves::Move;
+use crate::run::{Run, Shared};
+use crate::tape::Source;
+
+/// One thread may call the check at a time, and tests run side by side.
+static ALONE: Mutex<()> = Mutex::new(());
+
+/// A move that was made, as the check writes it.
 #[repr(C)]
 #[derive(Clone, Copy, Debug, Default)]
 struct Step {
@@ -19,7 +26,7 @@ struct Step {
     word: u32,
 }
 
-/// What the library answers. A fault of 0 is none.
+/// What the check answers. A fault of 0 is none.
 #[repr(C)]
 #[derive(Debug, Default)]
 struct Answer {
@@ -35,7 +42,6 @@ const LEFT: u32 = 4;
 /// More than the text of any fault has.
 const MOST_BYTES: usize = 256;
 
-#[link(name = "lk_trace_c", kind = "static")]
 extern "C" {
     fn lt_check(
         text: *const u8,
@@ -48,11 +54,11 @@ extern "C" {
 }
 
 impl Run {
-    /// Checks the run's trace as `locktrace check` does, in this process. It is refused too if a
-    /// thread has not ended, though the lock's machine has let it through its last call.
+    /// Checks the run's trace as `locktrace check` does, in this process: up to 65,536 moves. It is
+    /// refused too if a thread has not ended, though the lock's machine has let it through its last
+    /// call, or has ended inside a call.
     ///
-    /// With the feature `check` alone. Link with `liblk_trace_c.a`, as by
-    /// `RUSTFLAGS="-L native=FOLDER"`.
+    /// With the feature `check` alone, for which the build needs a C compiler.
     ///
     /// ```
     /// use lockreplay_record::{call, Call, Error, Lock, Mode, Run};
@@ -70,8 +76,8 @@ impl Run {
     ///
     /// # Errors
     ///
-    /// The trace is refused, a thread goes on with a call that is over, or the threads ran as they
-    /// like: then `locktrace order` finds their order.
+    /// The trace is refused, a thread goes on with a call that is over or has ended inside one, or
+    /// the threads ran as they like: then `locktrace order` finds their order.
     pub fn check(&self) -> Result<(), Error> {
         if !self.0.mode.has_order() {
             return Err(Error::NoOrder);
@@ -82,31 +88,55 @@ impl Run {
             let (made, reason) = (move_at(&self.0, answer.moves), text_of(answer.fault));
             return Err(Error::Refused { line: answer.line, made, reason });
         }
-        match goes_on(&self.0, &steps) {
-            Some(thread) => Err(Error::GoesOn { thread }),
-            None => Ok(()),
-        }
+        beside(&self.0, &steps).map_or(Ok(()), Err)
     }
+
+    /// The moves of the run in their order, each with its line in the trace and its place in the
+    /// source.
+    pub(crate) fn listing(&self) -> Result<String, Error> {
+        let lines = self.trace()?;
+        let head = lines.lines().take_while(|line| !line.starts_with(|it: char| it.is_numeric()));
+        let first = head.count() + 1;
+        let shown =
+            moves_of(&self.0).into_iter().enumerate().map(|(at, (thread, made, source))| {
+                let place = format!("{}:{}", source.file(), source.line());
+                // A width is of a text alone.
+                let made = made.to_string();
+                format!("\n{:5} {thread} {made:36} {place}", at + first)
+            });
+        Ok(shown.collect())
+    }
+}
+
+/// The moves of all threads in their order, and where in the source each was made.
+fn moves_of(run: &Shared) -> Vec<(usize, Move, Source)> {
+    let order = run.turns.stage().order().to_vec();
+    let mut made = vec![0; run.header.threads];
+    let next = |thread: u8| {
+        let thread = usize::from(thread);
+        let at = made.get_mut(thread)?;
+        *at += 1;
+        let tape = run.tape(thread)?;
+        let (made, source) = tape.as_ref()?.at(*at - 1)?;
+        Some((thread, *made, source))
+    };
+    order.into_iter().map_while(next).collect()
 }
 
 /// The move at a place in the order, and where in the source it was made.
 fn move_at(run: &Shared, index: u64) -> String {
-    let order = run.turns.stage().order().to_vec();
-    let found = usize::try_from(index).ok().and_then(|index| {
-        let thread = usize::from(*order.get(index)?);
-        let before = order.get(..index)?.iter().filter(|&&it| usize::from(it) == thread).count();
-        let tape = run.tape(thread)?;
-        let (made, source) = tape.as_ref()?.at(before)?;
-        Some(format!("{}:{}, '{thread} {made}'", source.file(), source.line()))
-    });
-    found.unwrap_or_default()
+    let found = usize::try_from(index).ok().and_then(|at| moves_of(run).into_iter().nth(at));
+    found.map_or_else(String::new, |(thread, made, source)| {
+        format!("{}:{}, '{thread} {made}'", source.file(), source.line())
+    })
 }
 
 #[allow(unsafe_code)]
 fn answer_to(text: &str, steps: &mut [Step]) -> Answer {
     let mut answer = Answer::default();
-    // SAFETY: the library reads so many bytes of the text, and writes at most so many records and
-    // the answer, which have the layouts of record/locktrace.h. It keeps no pointer.
+    let _alone = ALONE.lock().unwrap_or_else(PoisonError::into_inner);
+    // SAFETY: the check reads so many bytes of the text, and writes at most so many records and the
+    // answer, which have the layouts of record/locktrace.h. It keeps no pointer.
     unsafe { lt_check(text.as_ptr(), text.len(), steps.as_mut_ptr(), steps.len(), &mut answer) };
     answer
 }
@@ -114,17 +144,23 @@ fn answer_to(text: &str, steps: &mut [Step]) -> Answer {
 #[allow(unsafe_code)]
 fn text_of(fault: u32) -> String {
     let mut text = [0; MOST_BYTES];
-    // SAFETY: the library writes at most so many bytes.
+    // SAFETY: the check writes at most so many bytes.
     let length = unsafe { lt_fault_text(fault, text.as_mut_ptr(), text.len()) };
     String::from_utf8_lossy(text.get(..length).unwrap_or(&text)).into_owned()
 }
 
-/// A thread whose last move ends its call, and which has not come to its end.
-fn goes_on(run: &Shared, steps: &[Step]) -> Option<usize> {
-    let missing = run.turns.stage().missing();
-    missing.into_iter().find(|&thread| {
+/// What is wrong with how a thread ended: inside a call, or not at all though its call is over.
+fn beside(run: &Shared, steps: &[Step]) -> Option<Error> {
+    let stage = run.turns.stage();
+    let (missing, is_cut) = (stage.missing(), stage.is_cut);
+    drop(stage);
+    (0..run.header.threads).find_map(|thread| {
         let is_own = |step: &&Step| usize::try_from(step.thread) == Ok(thread);
-        let last = steps.iter().rev().find(is_own);
-        last.map_or(false, |step| matches!(step.outcome, ENTERED | LEFT))
+        let last = steps.iter().rev().find(is_own)?;
+        match (matches!(last.outcome, ENTERED | LEFT), missing.contains(&thread)) {
+            (true, true) => Some(Error::GoesOn { thread }),
+            (false, false) if !is_cut => Some(Error::EndsInCall { thread }),
+            _ => None,
+        }
     })
 }

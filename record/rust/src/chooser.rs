@@ -34,12 +34,18 @@ impl Chooser {
         }
     }
 
-    /// One of those who are ready, after the one whose turn it was.
-    pub(crate) fn choose(&mut self, holder: Option<usize>, ready: &[usize]) -> Option<usize> {
+    /// One of those who are ready, after the one whose turn it was; or of those who are asleep, if
+    /// all runs are explored.
+    pub(crate) fn choose(
+        &mut self,
+        holder: Option<usize>,
+        ready: &[usize],
+        asleep: &[usize],
+    ) -> Option<usize> {
         match self {
             Chooser::Seed(draw) => draw.one_of(ready),
             Chooser::Priorities(priorities) => priorities.choose(holder, ready),
-            Chooser::Path(path) => path.choose(holder, ready),
+            Chooser::Path(path) => path.choose(holder, ready, asleep),
             Chooser::Lines(following) => following.choose(ready),
         }
     }

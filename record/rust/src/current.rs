@@ -105,7 +105,9 @@ impl Recorder {
 
     fn note(&mut self, made: Move, source: Source) {
         let made = match made {
-            Move::Step(step) => Move::Step(step.in_bits(self.shared.header.bits)),
+            Move::Step(step) => {
+                Move::Step(step.in_bits(self.shared.header.bits, self.shared.start))
+            }
             other => other,
         };
         let added = self.tape.add(made, source);

@@ -75,6 +75,11 @@ pub enum Error {
         /// The thread.
         thread: usize,
     },
+    /// A thread has ended, and its call has a step left.
+    EndsInCall {
+        /// The thread.
+        thread: usize,
+    },
     /// In a run that is explored a thread did not do what it had done after the same turns.
     Strayed,
     /// A file could not be read.
@@ -149,6 +154,7 @@ impl Error {
             Error::GoesOn { thread } => {
                 write!(out, "thread {thread} goes on with a call that is over")
             }
+            Error::EndsInCall { thread } => write!(out, "thread {thread} has ended inside a call"),
             Error::Strayed => out.write_str("the driver does not do the same after the same turns"),
             _ => Ok(()),
         }

@@ -77,9 +77,9 @@
 //! ends where a move is not that of its line. [`RunBuilder::explore`] makes all runs of a few
 //! threads with few preemptions. Each run's [trace](Run::trace) is for `locktrace check`.
 //!
-//! [`RunBuilder::spurious`] wakes threads of a monitor for nothing, as a system may. With the
-//! feature `check`, `Run::check` checks a run in the process, by the library `liblk_trace_c.a`:
-//! without a file, so that many runs can be made.
+//! Threads of a monitor may be woken for nothing ([`RunBuilder::spurious`]). With the
+//! feature `check`, which the build needs a C compiler for, `Run::check` checks a run in the
+//! process, and `explore` all runs of a lock's test: no other tool is needed.
 //!
 //! A run that hangs ends all the same: a seeded one when nothing but failed polls was seen for
 //! 20,000 turns ([`Ending::Hangs`]), others when their time is over ([`Ending::Stopped`]). The
@@ -125,6 +125,8 @@ mod moves;
 mod plain;
 mod whole;
 
+#[cfg(feature = "record")]
+mod builder;
 #[cfg(feature = "check")]
 mod check;
 #[cfg(feature = "record")]
@@ -173,15 +175,18 @@ pub use atomic::{
     AtomicU16, AtomicU32, AtomicU64, AtomicU8, AtomicUsize,
 };
 pub use current::{call, note, operation, own_record, switch, InCall};
+#[cfg(feature = "check")]
+pub use explore::explore;
 pub use monitor::{Condvar, Mutex, MutexGuard};
 pub use moves::{Call, Outcome, Step, Word};
 #[cfg(feature = "record")]
 pub use {
+    builder::RunBuilder,
     error::Error,
     explore::Explore,
     follow::Departure,
     lock::Lock,
     mode::Mode,
-    run::{Ending, Log, Run, RunBuilder},
+    run::{Ending, Log, Run},
     schedule::Schedule,
 };

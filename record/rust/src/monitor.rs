@@ -59,9 +59,9 @@ pub struct MutexGuard<'a, T> {
 
 /// A condition variable for a [`Mutex`].
 ///
-/// In a seeded run a thread that waits runs again when it is notified, and not before, unless
-/// [wakes for nothing](crate::RunBuilder::spurious) were asked for. So a run in which a
-/// notification is missing hangs.
+/// With one thread at a time a thread that waits runs again when it is notified, or is now and then
+/// [woken for nothing](crate::RunBuilder::spurious). So a run in which a notification is missing
+/// hangs.
 #[derive(Debug, Default)]
 pub struct Condvar {
     plain: sync::Condvar,

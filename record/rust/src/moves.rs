@@ -1,4 +1,4 @@
-//! A move of a thread, and its line in a log or a trace (docs/TRACE.md).
+//! A move of a thread, and its line in a log or a trace (docs/FORMATS.md).
 // SPDX-License-Identifier: Apache-2.0 OR MIT
 
 use std::fmt;
@@ -124,10 +124,10 @@ impl Step {
         Step { left: Some(left), ..self }
     }
 
-    /// The same, with values as a counter of so many bits has them.
+    /// The same, with values as a counter of so many bits has them that began at `start`.
     #[cfg(feature = "record")]
-    pub(crate) fn in_bits(self, bits: u32) -> Step {
-        let of_counter = |value| value & (u64::MAX >> (64 - bits));
+    pub(crate) fn in_bits(self, bits: u32, start: u64) -> Step {
+        let of_counter = |value: u64| value.wrapping_sub(start) & (u64::MAX >> (64 - bits));
         match self.word {
             Word::NextTicket | Word::NowServing => {
                 Step { found: self.found.map(of_counter), left: self.left.map(of_counter), ..self }

@@ -5,9 +5,23 @@
 #[derive(Clone, Debug)]
 pub(crate) struct Decision {
     options: Vec<usize>,
+    /// Those who wait for a notification. One of them in its place is woken for nothing.
+    asleep: Vec<usize>,
     /// The thread that had the turn, if it could go on. Another one in its place is a preemption.
     running: Option<usize>,
     chosen: usize,
+}
+
+impl Decision {
+    /// All who could have been chosen.
+    fn all(&self) -> impl Iterator<Item = &usize> {
+        self.options.iter().chain(&self.asleep)
+    }
+
+    /// Whether another choice is a preemption, or counts as one.
+    fn costs(&self, other: usize) -> bool {
+        self.running.is_some() || self.asleep.contains(&other)
+    }
 }
 
 /// What an operation did.
@@ -48,6 +62,8 @@ pub(crate) type Way = Vec<usize>;
 #[derive(Debug)]
 pub(crate) struct Path {
     way: Way,
+    /// Whether threads are woken for nothing.
+    wakes: bool,
     made: Vec<Decision>,
     /// Whether anything was done since the last decision.
     has_moved: bool,
@@ -56,14 +72,19 @@ pub(crate) struct Path {
 }
 
 impl Path {
-    pub(crate) fn of(way: Way) -> Path {
+    pub(crate) fn of(way: Way, wakes: bool) -> Path {
         let (made, stuck) = (Vec::new(), Stuck::default());
-        Path { way, made, has_moved: false, stuck, has_strayed: false }
+        Path { way, wakes, made, has_moved: false, stuck, has_strayed: false }
     }
 
     /// Who of those who are ready goes on. A thread that polled in vain does not, as long as there
-    /// is another one; if all did, they poll by turns.
-    pub(crate) fn choose(&mut self, holder: Option<usize>, ready: &[usize]) -> Option<usize> {
+    /// is another one; if all did, they poll by turns. One that is asleep may be woken for nothing.
+    pub(crate) fn choose(
+        &mut self,
+        holder: Option<usize>,
+        ready: &[usize],
+        asleep: &[usize],
+    ) -> Option<usize> {
         let runs_on = holder.filter(|thread| ready.contains(thread));
         if !std::mem::take(&mut self.has_moved) && runs_on.is_some() {
             return runs_on;
@@ -74,24 +95,27 @@ impl Path {
         }
         let running = runs_on.filter(|thread| free.contains(thread));
         let first = running.or_else(|| after(&free, holder))?;
-        Some(self.decide(free, running, first))
+        let asleep = if self.wakes { asleep.to_vec() } else { Vec::new() };
+        Some(self.decide(Decision { options: free, asleep, running, chosen: first }))
     }
 
     /// Which of those who wait is woken. That is no preemption.
     pub(crate) fn choose_waiter(&mut self, waiters: &[usize]) -> Option<usize> {
         let first = *waiters.first()?;
-        Some(self.decide(waiters.to_vec(), None, first))
+        let (options, asleep) = (waiters.to_vec(), Vec::new());
+        Some(self.decide(Decision { options, asleep, running: None, chosen: first }))
     }
 
-    /// Chooses as the way says, and after the way's end the first.
-    fn decide(&mut self, options: Vec<usize>, running: Option<usize>, first: usize) -> usize {
-        if options.len() == 1 {
-            return first;
+    /// Chooses as the way says, and after the way's end what is chosen already.
+    fn decide(&mut self, first: Decision) -> usize {
+        if first.options.len() + first.asleep.len() == 1 {
+            return first.chosen;
         }
         let given = self.way.get(self.made.len()).copied();
-        let chosen = given.filter(|thread| options.contains(thread)).unwrap_or(first);
-        self.has_strayed |= given.map_or(false, |given| given != chosen);
-        self.made.push(Decision { options, running, chosen });
+        let chosen = given.filter(|thread| first.all().any(|it| it == thread));
+        self.has_strayed |= given != chosen;
+        let chosen = chosen.unwrap_or(first.chosen);
+        self.made.push(Decision { chosen, ..first });
         chosen
     }
 
@@ -112,8 +136,8 @@ impl Path {
     pub(crate) fn others(&self) -> Vec<(Way, bool)> {
         let places = self.made.iter().enumerate().skip(self.way.len());
         let others = places.flat_map(|(place, decision)| {
-            let not_chosen = decision.options.iter().filter(|&&it| it != decision.chosen);
-            not_chosen.map(move |&other| (self.way_to(place, other), decision.running.is_some()))
+            let not_chosen = decision.all().filter(|&&it| it != decision.chosen);
+            not_chosen.map(move |&other| (self.way_to(place, other), decision.costs(other)))
         });
         others.collect()
     }

@@ -10,23 +10,19 @@ use std::sync::{Arc, Mutex, MutexGuard, PoisonError};
 use std::thread::{self, Builder, ScopedJoinHandle};
 use std::time::Duration;
 
-use crate::chooser::Chooser;
+use crate::builder::RunBuilder;
 use crate::current::{self, Recorder};
 use crate::draw::Draw;
 use crate::error::Error;
-use crate::explore::Explore;
-use crate::follow::{Departure, Following};
+use crate::follow::Departure;
 use crate::lock::{Header, Lock, MOST_BITS};
 use crate::mode::Mode;
 use crate::moves::Call;
-use crate::number;
-use crate::path::{Path as Choices, Way};
-use crate::priorities::Priorities;
+use crate::path::Path as Choices;
 use crate::records::Records;
 use crate::save;
-use crate::tape::{Tape, POLLS_WRITTEN};
-use crate::turns::{Rule, Stopped, Turns};
-use crate::wakes::Wakes;
+use crate::tape::Tape;
+use crate::turns::{Stopped, Turns};
 
 /// What all threads of a run share.
 #[derive(Debug)]
@@ -35,131 +31,20 @@ pub(crate) struct Shared {
     pub(crate) header: Header,
     /// Of a run that is explored `Ordered`: nothing but its moves says how it can be had again.
     pub(crate) mode: Mode,
-    /// At one turn in so many a thread is woken for nothing; at none if 0.
-    pub(crate) spurious: usize,
+    /// At one turn in so many a thread is woken for nothing, if that was asked for.
+    pub(crate) spurious: Option<usize>,
+    /// The number at which the lock's counters began.
+    pub(crate) start: u64,
     pub(crate) turns: Turns,
     pub(crate) records: Records,
     /// The log of each thread, except while the thread itself has it.
-    tapes: Vec<Mutex<Option<Tape>>>,
+    pub(crate) tapes: Vec<Mutex<Option<Tape>>>,
 }
 
 impl Shared {
     pub(crate) fn tape(&self, thread: usize) -> Option<MutexGuard<'_, Option<Tape>>> {
         let tape = self.tapes.get(thread)?;
         Some(tape.lock().unwrap_or_else(PoisonError::into_inner))
-    }
-}
-
-/// What is asked of a run before it is opened.
-#[derive(Clone, Debug)]
-#[must_use = "a run is opened by `open`"]
-pub struct RunBuilder {
-    header: Header,
-    mode: Mode,
-    room: usize,
-    spurious: usize,
-}
-
-impl RunBuilder {
-    /// How the threads are scheduled; [`Mode::Free`] if this is not said.
-    pub fn mode(self, mode: Mode) -> RunBuilder {
-        RunBuilder { mode, ..self }
-    }
-
-    /// The width of the lock's counters; 64, if nothing wraps around.
-    pub fn bits(self, bits: u32) -> RunBuilder {
-        RunBuilder { header: Header { bits, ..self.header }, ..self }
-    }
-
-    /// How many moves each log has room for; 65,536 if this is not said. A full log counts what it
-    /// drops. A round of a ticket lock takes at most 6 moves, and two more for each thread before
-    /// it in the queue; of an MCS lock 15; of a read-write lock 11. With [`Mode::Follow`] each poll
-    /// of the schedule takes one.
-    pub fn room(self, moves: usize) -> RunBuilder {
-        RunBuilder { room: moves, ..self }
-    }
-
-    /// By [`Mode::Seed`] and [`Mode::Pct`]: one turn in so many wakes a thread that waits for a
-    /// notification, though nobody gave it. None does if that is 0, or is not said. A thread that
-    /// does not look again after its wait is then seen.
-    pub fn spurious(self, one_in: usize) -> RunBuilder {
-        RunBuilder { spurious: one_in, ..self }
-    }
-
-    /// Opens the run, with memory for all of its logs.
-    ///
-    /// # Errors
-    ///
-    /// The threads or the bits are such as no run has, the schedule that is to be followed is of
-    /// another lock, the mode has no seed for [wakes](RunBuilder::spurious), or memory was refused.
-    pub fn open(self) -> Result<Run, Error> {
-        let (rule, chooser) = match &self.mode {
-            Mode::Free | Mode::Noise(_) => (Rule::AtOnce, Chooser::Seed(Draw::new(0))),
-            Mode::Ordered => (Rule::Alone, Chooser::Seed(Draw::new(0))),
-            Mode::Seed(seed) => (Rule::ByTurns, Chooser::Seed(Draw::new(*seed))),
-            Mode::Pct { seed, depth, steps } => {
-                let drawn = Priorities::of(*seed, self.header.threads, *depth, *steps);
-                (Rule::ByTurns, Chooser::Priorities(drawn))
-            }
-            Mode::Follow(schedule) if !schedule.is_of(&self.header) => {
-                return Err(Error::OtherRun { run: self.header.to_string() });
-            }
-            Mode::Follow(schedule) => {
-                (Rule::ByLines, Chooser::Lines(Following::of(schedule.clone())))
-            }
-        };
-        let number = number::of(&self.mode);
-        self.open_by(rule, chooser, number)
-    }
-
-    /// All runs in which at most so many times another thread takes the turn of one that could go
-    /// on: so many *preemptions*. The threads run by turns, whatever the mode. A thread that polled
-    /// in vain, finding the same in one atomic twice in a row, cannot go on until another steps.
-    ///
-    /// Runs with fewer preemptions come first. Each has to be run before the next one is asked for,
-    /// with a new lock. If none is refused and none hangs, no run of these threads with so
-    /// few preemptions is wrong. Begin with two threads and a round each: there are many runs.
-    ///
-    /// ```
-    /// use lockreplay_record::{AtomicU8, Ending, Error, Lock, Run};
-    /// use std::{sync::atomic::Ordering::SeqCst, time::Duration};
-    ///
-    /// let mut counts = Vec::new();
-    /// for run in Run::of(Lock::Ticket, 2).explore(1) {
-    ///     let count = AtomicU8::new(0);
-    ///     let ending = run?.threads(Duration::from_secs(10), |_log| {
-    ///         count.store(count.load(SeqCst) + 1, SeqCst);
-    ///     })?;
-    ///     assert_eq!(ending, Ending::Complete);
-    ///     counts.push(count.load(SeqCst));
-    /// }
-    /// assert_eq!(counts[..2], [2, 2]); // one thread after the other
-    /// assert!(counts[2..].contains(&1)); // and one between the other's load and store
-    /// # Ok::<(), Error>(())
-    /// ```
-    #[must_use]
-    pub fn explore(self, preemptions: usize) -> Explore {
-        Explore::new(self.mode(Mode::Ordered), preemptions)
-    }
-
-    /// Opens a run that is explored, which begins with these choices and has this number.
-    pub(crate) fn open_on(self, way: Way, number: u64) -> Result<Run, Error> {
-        self.open_by(Rule::ByTurns, Chooser::Path(Choices::of(way)), number)
-    }
-
-    fn open_by(self, rule: Rule, chooser: Chooser, number: u64) -> Result<Run, Error> {
-        let RunBuilder { header, mode, room, spurious } = self;
-        let Header { threads, .. } = header.checked()?;
-        let refused = |_| Error::OutOfMemory { logs: threads, room };
-        let polls = if rule == Rule::ByLines { u32::MAX } else { POLLS_WRITTEN };
-        let moves = room.saturating_mul(threads);
-        let wakes = Wakes::of(&mode, spurious)?;
-        let turns = Turns::new(rule, chooser, wakes, threads, moves).map_err(refused)?;
-        let new_tape = |_| Tape::with_room(room, polls).map(Some).map(Mutex::new);
-        let tapes: Result<Vec<_>, _> = (0..threads).map(new_tape).collect();
-        let tapes = tapes.map_err(refused)?;
-        let records = Records::of(threads);
-        Ok(Run(Arc::new(Shared { number, header, mode, spurious, turns, records, tapes })))
     }
 }
 
@@ -202,8 +87,7 @@ pub struct Run(pub(crate) Arc<Shared>);
 impl Run {
     /// A run of this lock by so many threads, 1 to 64.
     pub fn of(lock: Lock, threads: usize) -> RunBuilder {
-        let header = Header { lock, threads, bits: MOST_BITS };
-        RunBuilder { header, mode: Mode::Free, room: 1 << 16, spurious: 0 }
+        RunBuilder::of(Header { lock, threads, bits: MOST_BITS })
     }
 
     /// Starts the run's threads, does the work on each, and waits until all have ended. If they

@@ -69,8 +69,11 @@ fn write_header(run: &Shared, out: &mut impl Write) -> io::Result<()> {
         Mode::Noise(seed) => writeln!(out, "# noise {seed}")?,
         Mode::Free | Mode::Ordered | Mode::Follow(_) => {}
     }
-    if run.spurious > 0 {
-        writeln!(out, "# spurious {}", run.spurious)?;
+    if let Some(spurious) = run.spurious {
+        writeln!(out, "# spurious {spurious}")?;
+    }
+    if run.start > 0 {
+        writeln!(out, "# counters began at {}, here at 0", run.start)?;
     }
     write!(out, "{}", run.header)
 }

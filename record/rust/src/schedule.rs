@@ -14,7 +14,7 @@ use crate::moves::Call;
 
 /// Which thread moves next, and which move that is, for [`Mode::Follow`](crate::Mode::Follow).
 ///
-/// Its clones share their lines. The text is that of `docs/SCHEDULE.md`; a trace is one too, and
+/// Its clones share their lines. The text is that of `docs/FORMATS.md`; a trace is one too, and
 /// its values are not looked at.
 ///
 /// ```

@@ -48,7 +48,7 @@ pub(crate) struct Stage {
     /// Where each thread looked last without a note, if nobody has made a step since.
     looks: Vec<Option<usize>>,
     order: Vec<u8>,
-    is_cut: bool,
+    pub(crate) is_cut: bool,
     /// Nobody got on, by turns that no schedule gave.
     has_hung: bool,
 }
@@ -106,8 +106,12 @@ impl Stage {
         self.turns += 1;
         self.wake_for_nothing();
         let ready = self.threads_that(|phase| phase == Phase::Inside);
-        match self.chooser.choose(self.holder, &ready) {
-            Some(thread) if self.is_patient() => Next::Thread(thread),
+        let asleep = self.asleep();
+        match self.chooser.choose(self.holder, &ready, &asleep) {
+            Some(thread) if self.is_patient() => {
+                self.set_phase(thread, Phase::Inside);
+                Next::Thread(thread)
+            }
             None if self.all_have_gone() => Next::Nobody,
             _ => {
                 self.has_hung = !matches!(self.chooser, Chooser::Lines(_));
@@ -242,12 +246,16 @@ impl Stage {
         }
     }
 
+    fn asleep(&self) -> Vec<usize> {
+        self.threads_that(|phase| matches!(phase, Phase::Asleep(_)))
+    }
+
     /// Wakes a thread that nobody notified, if the seed says so.
     fn wake_for_nothing(&mut self) {
         if self.wakes.is_none() {
             return;
         }
-        let asleep = self.threads_that(|phase| matches!(phase, Phase::Asleep(_)));
+        let asleep = self.asleep();
         if let Some(thread) = self.wakes.as_mut().and_then(|wakes| wakes.one_of(&asleep)) {
             self.set_phase(thread, Phase::Inside);
         }

@@ -8,6 +8,9 @@ use crate::error::Error;
 use crate::lock::MOST_THREADS;
 use crate::mode::Mode;
 
+/// At one turn in so many an even seed wakes a thread, if nothing else is asked for.
+const BY_ITSELF: usize = 8;
+
 /// Whom a seed wakes for nothing, and when.
 #[derive(Debug)]
 pub(crate) struct Wakes {
@@ -17,15 +20,16 @@ pub(crate) struct Wakes {
 
 impl Wakes {
     /// At one turn in so many, by numbers of the run's seed other than those of its turns. Nothing,
-    /// if that is 0.
-    pub(crate) fn of(mode: &Mode, one_in: usize) -> Result<Option<Wakes>, Error> {
-        match mode {
-            _ if one_in == 0 => Ok(None),
-            Mode::Seed(seed) | Mode::Pct { seed, .. } => {
-                Ok(Some(Wakes { draw: Draw::of_thread(*seed, MOST_THREADS), one_in }))
-            }
-            _ => Err(Error::NoSeed),
-        }
+    /// if that is 0. If nothing is asked for, even seeds have some.
+    pub(crate) fn of(mode: &Mode, asked: Option<usize>) -> Result<Option<Wakes>, Error> {
+        let seed = match (mode, asked) {
+            (Mode::Seed(seed) | Mode::Pct { seed, .. }, _) => *seed,
+            (_, None | Some(0)) => return Ok(None),
+            _ => return Err(Error::NoSeed),
+        };
+        let one_in = asked.unwrap_or(if seed % 2 == 0 { BY_ITSELF } else { 0 });
+        let draw = Draw::of_thread(seed, MOST_THREADS);
+        Ok((one_in > 0).then_some(Wakes { draw, one_in }))
     }
 
     /// The thread that is woken at this turn, if one is.

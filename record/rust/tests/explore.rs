@@ -5,7 +5,9 @@
 use std::sync::atomic::{AtomicUsize, Ordering::SeqCst};
 use std::time::Duration;
 
-use lockreplay_record::{AtomicBool, AtomicU8, Condvar, Ending, Error, Lock, Mutex, Run, Word};
+use lockreplay_record::{
+    AtomicBool, AtomicU8, Condvar, Ending, Error, Lock, Mutex, Run, RunBuilder, Word,
+};
 
 const LIMIT: Duration = Duration::from_secs(60);
 
@@ -111,6 +113,35 @@ fn who_is_woken_is_explored() -> Result<(), Error> {
     }
     let [first, second] = woken.map(AtomicUsize::into_inner);
     assert!(first > 0 && first == second, "{first} {second}");
+    Ok(())
+}
+
+/// Thread 0 waits once, and takes a wake for a change. Whether it missed the change in some run.
+fn misses(setup: RunBuilder, preemptions: usize) -> Result<bool, Error> {
+    let is_missed = AtomicUsize::new(0);
+    for run in setup.explore(preemptions) {
+        let (open, changed) = (Mutex::new(false), Condvar::new());
+        let ending = run?.threads(LIMIT, |log| {
+            let mut state = open.lock().unwrap();
+            if log.thread() == 1 {
+                *state = true;
+                changed.notify_all();
+            } else if !*state {
+                state = changed.wait(state).unwrap();
+                is_missed.fetch_add(usize::from(!*state), SeqCst);
+            }
+        })?;
+        assert_eq!(ending, Ending::Complete);
+    }
+    Ok(is_missed.into_inner() > 0)
+}
+
+/// A wake for nothing counts as a preemption.
+#[test]
+fn wakes_for_nothing_are_explored() -> Result<(), Error> {
+    let setup = || Run::of(Lock::RwSimple, 2);
+    assert!(!misses(setup(), 0)? && misses(setup(), 1)?);
+    assert!(!misses(setup().spurious(0), 2)? && misses(setup().spurious(9), 1)?);
     Ok(())
 }
 

@@ -263,8 +263,8 @@ fn one_or_all_are_woken() -> Result<(), Error> {
         for all in [false, true] {
             let (waiting, changed) = (Mutex::new(0), Condvar::new());
             let woken = AtomicUsize::new(0);
-            let run = Run::of(Lock::RwSimple, 3).mode(Mode::Seed(seed)).open()?;
-            run.threads(LIMIT, |log| {
+            let setup = Run::of(Lock::RwSimple, 3).mode(Mode::Seed(seed)).spurious(0);
+            setup.open()?.threads(LIMIT, |log| {
                 if log.thread() < 2 {
                     let mut state = waiting.lock().unwrap();
                     *state += 1;
@@ -337,6 +337,23 @@ fn a_wake_for_nothing_takes_the_place_of_a_notification() -> Result<(), Error> {
     Ok(())
 }
 
+/// One turn in 8 has them by itself, and it takes few turns until one comes.
+#[test]
+fn even_seeds_have_wakes_for_nothing() -> Result<(), Error> {
+    for seed in 0..20 {
+        let (state, changed) = (Mutex::new(()), Condvar::new());
+        let waits = || drop(changed.wait(state.lock().unwrap()).unwrap());
+        let run = Run::of(Lock::RwSimple, 2).mode(Mode::Seed(seed)).open()?;
+        let ending = run.threads(LIMIT, |log| match log.thread() {
+            0 => waits(),
+            _ => (0..200).for_each(|_| switch()),
+        })?;
+        let hangs = ending != Ending::Complete;
+        assert_eq!(hangs, seed % 2 == 1, "{seed}");
+    }
+    Ok(())
+}
+
 #[test]
 fn wakes_for_nothing_need_a_seed() -> Result<(), Error> {
     let opened = |mode| Run::of(Lock::RwSimple, 2).mode(mode).spurious(9).open();
@@ -345,8 +362,6 @@ fn wakes_for_nothing_need_a_seed() -> Result<(), Error> {
         let said = opened(mode).expect_err("it has no seed").to_string();
         assert_eq!(said, "wakes for nothing are drawn by the seed of a mode");
     }
-    let mut explored = Run::of(Lock::RwSimple, 2).spurious(9).explore(1);
-    assert!(matches!(explored.next(), Some(Err(Error::NoSeed))));
     Ok(())
 }
 

@@ -40,6 +40,25 @@ fn numbered(folder: &Path, name: &str) -> (String, String) {
     (digits.to_owned(), rest.to_owned())
 }
 
+/// Counters of 8 bits that begin at 255 wrap around at once, and the trace counts from 0.
+#[test]
+fn counters_begin_where_the_run_says() -> Result<(), Error> {
+    let (next, serving) = (AtomicU8::new(255), AtomicU8::new(255));
+    let (next, serving) = (next.noted(Word::NextTicket), serving.noted(Word::NowServing));
+    let run = Run::of(Lock::Ticket, 1).bits(8).start(255).mode(Mode::Ordered).open()?;
+    run.threads(LIMIT, |_| {
+        assert_eq!(next.fetch_add(1, SeqCst), 255);
+        assert_eq!(next.fetch_add(1, SeqCst), 0);
+        serving.store(0, SeqCst);
+    })?;
+    let trace = run.trace()?;
+    let due = "# counters began at 255, here at 0\nlock ticket threads 1 bits 8\n\
+               0 add next_ticket found 0 left 1\n0 add next_ticket found 1 left 2\n\
+               0 write now_serving left 1\n";
+    assert_eq!(trace.split_once('\n').map(|(_, rest)| rest), Some(due));
+    Ok(())
+}
+
 #[test]
 fn each_operation_has_its_line() -> Result<(), Error> {
     type Operation = fn(&AtomicUsize);

@@ -1,4 +1,4 @@
-//! What is said of an order that does not reach the end of the logs, or whose run hangs. It is
+//! The report on an order that does not reach the end of the logs, or whose run hangs. It is
 //! written as lines on standard error, or on standard output as TAP or JSON.
 
 use lk_locks::{LockKind, Move, StepKind};
@@ -15,12 +15,12 @@ use lk_text::{Text, Value, json, put_plan, put_point};
 use lk_trace::{Difference, Seen, TraceLine};
 use std::alloc::Global;
 
-/// What is said of an order. A text of no file is the program's own.
+/// The report on an order. A text of no file is the program's own.
 #[derive(Drop)]
 pub struct OrderReport {
-    /// How many steps were placed.
+    /// The number of steps that were placed.
     pub placed: usize,
-    /// What is wrong.
+    /// The faults, in words.
     pub messages: Notes,
     /// The same for programs.
     pub details: Option<Details>,

@@ -19,7 +19,7 @@ use std::alloc::{AllocError, Global};
 use std::fmt::InlineText;
 use thiserror::Error;
 
-/// What is wrong with a log, or with the logs together.
+/// A fault of a log, or of the logs together.
 #[derive(Clone, Copy, PartialEq, Eq, Debug, Error)]
 pub enum BadLog {
     /// It could not be opened or read. The input's own error is what is said of it.
@@ -40,7 +40,7 @@ pub enum BadLog {
 }
 
 impl BadLog {
-    /// How the job ends.
+    /// The end of the job.
     pub fn ending(self) -> Ending
         ensures { result ≡ ending_of_bad self }
     {
@@ -79,7 +79,7 @@ impl BadLog {
     }
 }
 
-/// What a search found.
+/// The result of a search.
 #[derive(Drop)]
 pub struct Search {
     pub found: Found,
@@ -88,7 +88,7 @@ pub struct Search {
 }
 
 impl Search {
-    /// How the job ends.
+    /// The end of the job.
     pub fn ending(&self) -> Ending
         ensures { result ≡ ending_of_search self.now }
     {
@@ -100,7 +100,7 @@ impl Search {
     }
 }
 
-/// What came of the logs of a run.
+/// The answer about the logs of a run.
 #[derive(Drop)]
 pub enum Sought {
     /// No order was looked for.
@@ -110,7 +110,7 @@ pub enum Sought {
 }
 
 impl Sought {
-    /// How the job ends.
+    /// The end of the job.
     pub fn ending(&self) -> Ending
         ensures { result ≡ ending_of_sought self.now }
     {

@@ -1,23 +1,18 @@
 -- The effect of each move of a thread on the queue of an MCS lock.
 use Rattle.std.proofs.Common.{List, [], ap, arith, drop, eqb, false, inl, inr, length, refl, set}
-use Rattle.std.proofs.Common.{slice_index, sym, true, ℕ, ◌++◌, ◌+◌, ◌-◌, ◌<◌, ◌∙◌, ◌∷◌, ◌≡◌}
-use Rattle.std.proofs.Common.{◌≢◌}
+use Rattle.std.proofs.Common.{slice_index, sym, true, ℕ, ◌++◌, ◌+◌, ◌-◌, ◌<◌, ◌∙◌, ◌∷◌, ◌≡◌, ◌≢◌}
 use Rattle.std.proofs.lemmas.Bool.{eq-eqb, eqb-true, or_from, or_right}
 use Rattle.std.proofs.lemmas.Bool.Decides.{eqb_tells}
 use Rattle.std.proofs.lemmas.List.{get_or-set_same, length-set, get_or-set_other}
-use Rattle.lk_locks.specs.Sequential.{has}
-use Rattle.lk_locks.specs.State.{phase_at}
-use Rattle.lk_locks.specs.invariants.mcs.{IsSuccessor, IsHead, IsRest, IsNotQueued}
-use Rattle.lk_locks.specs.invariants.mcs.{IsQueue}
+use Rattle.lk_locks.specs.{Sequential.has, State.phase_at, mcs.locked, mcs.next}
+use Rattle.lk_locks.specs.invariants.mcs.{IsSuccessor, IsHead, IsRest, IsNotQueued, IsQueue}
 use Rattle.lk_locks.specs.invariants.mcs.{last_of, locked_of, next_of}
-use Rattle.lk_locks.specs.mcs.{locked, next}
 use Rattle.lk_locks.proofs.Threads.{at_other, at_same, once_more, first_has}
 use Rattle.lk_locks.proofs.Threads.{members_more, more_other, more_same}
 use Rattle.lk_locks.specs.Types.{Phase, AwaitGrant, Grant, Idle, McsInside, SetLocked}
-use Rattle.lk_locks.proofs.invariants.McsLinks.{IsHeadOf, has_predecessor}
-use Rattle.lk_locks.proofs.invariants.McsLinks.{first_more, last_more, later_change, later_frame}
-use Rattle.lk_locks.proofs.invariants.McsLinks.{later_more, first_frame, stays_outside}
-use Rattle.lk_locks.proofs.invariants.McsLinks.{links_frame}
+use Rattle.lk_locks.proofs.invariants.McsLinks.{IsHeadOf, has_predecessor, first_more, last_more}
+use Rattle.lk_locks.proofs.invariants.McsLinks.{later_change, later_frame, later_more, first_frame}
+use Rattle.lk_locks.proofs.invariants.McsLinks.{stays_outside, links_frame}
 
 module _ {ws q : List ℕ} {ps : List Phase} (agreed : IsQueue ws ps q) where
   -- the queue stays if a thread outside it changes its phase and link, and stays outside
@@ -140,12 +135,12 @@ mcs_first ws ps t in_lock has_tail no_next agreed = record {
 }
 
 -- a swap of a tail that is not nil leaves a queue with one more thread, which knows the last
-pub swapped : (ws : List ℕ) (ps : List Phase) (q : List ℕ) (t : ℕ) → t < length ps → 0 < length ws
+pub mcs_swap : (ws : List ℕ) (ps : List Phase) (q : List ℕ) (t : ℕ) → t < length ps → 0 < length ws
     → has q t ≡ false → next_of ws t ≡ 0 → slice_index ws 0 ≢ 0 → IsQueue ws ps q
     → IsQueue (set ws 0 (t + 1)) (set ps t (SetLocked (slice_index ws 0 - 1))) (q ++ t ∷ [])
-swapped ws ps [] t in_lock has_tail not_queued no_next not_nil agreed =
+mcs_swap ws ps [] t in_lock has_tail not_queued no_next not_nil agreed =
     absurd (not_nil agreed.tail_is)
-swapped ws ps (head ∷ rest) t in_lock has_tail not_queued no_next not_nil agreed =
+mcs_swap ws ps (head ∷ rest) t in_lock has_tail not_queued no_next not_nil agreed =
     let new_ws : List ℕ = set ws 0 (t + 1) in
     let p : Phase = SetLocked (slice_index ws 0 - 1) in
     let is_last : slice_index ws 0 - 1 ≡ last_of head rest = omega (arith, agreed.tail_is) in
@@ -198,9 +193,9 @@ mcs_only ws ps t in_lock has_tail agreed = record {
 }
 
 -- a thread that its predecessor's link names waits to be granted
-pub granted : (ws : List ℕ) (before t : ℕ) (p : Phase) → next_of ws before ≡ t + 1
+pub awaits_grant : (ws : List ℕ) (before t : ℕ) (p : Phase) → next_of ws before ≡ t + 1
     → IsSuccessor ws before t p → p ≡ AwaitGrant
-granted ws before t p linked after = grind arith
+awaits_grant ws before t p linked after = grind arith
 
 -- a grant takes the head off the queue, and its successor becomes the head
 pub mcs_grant : (ws : List ℕ) (ps : List Phase) (rest : List ℕ) (t successor : ℕ)
@@ -214,7 +209,7 @@ mcs_grant ws ps (second ∷ rest) t successor in_lock has_locked (grants_head, l
     let (second_once, others_once) = rest_once in
     let is_second = eqb-true successor second grants_head in
     let second_awaits =
-    granted ws t second (phase_at ps second) (linked ∙ ap (λ thread. thread + 1) is_second)
+    awaits_grant ws t second (phase_at ps second) (linked ∙ ap (λ thread. thread + 1) is_second)
     second_after in
     record {
       tail_is = get_or-set_other ws (locked successor) 0 0 0 (omega arith) ∙ agreed.tail_is;

@@ -3,27 +3,22 @@
 use Rattle.std.proofs.Common.{List, ap, arith, inl, inr, refl, set, slice_index, rules, length, ◌≤◌}
 use Rattle.std.proofs.Common.{sym, ℕ, ◌*◌, ◌+◌, ◌-◌, ◌<◌, ◌∙◌, ◌≡◌, ◌^◌}
 use Rattle.std.proofs.lemmas.Bool.{eq-eqb, cases_lt}
-use Rattle.std.proofs.lemmas.Bool.Decides.{eqb_tells}
+use Rattle.std.proofs.{lemmas.Bool.Decides.eqb_tells, lemmas.Grind.common_steps}
 use Rattle.std.proofs.lemmas.List.{get_or-set_same, get_or-set_other, length-set, set-get_or}
 use Rattle.std.proofs.lemmas.List.{set_past}
-use Rattle.std.proofs.lemmas.Grind.{common_steps}
-use Rattle.lk_locks.specs.Sequential.{nobody}
-use Rattle.lk_locks.specs.State.{start}
+use Rattle.lk_locks.specs.{Sequential.nobody, State.start, mcs.locked, mcs.next, Locks.family_of}
 use Rattle.lk_locks.specs.invariants.Locks.{AgreeAs}
 use Rattle.lk_locks.specs.invariants.mcs.{locked_of, next_of}
-use Rattle.lk_locks.specs.mcs.{locked, next}
 use Rattle.lk_locks.proofs.Cases.{LockProof, waits, Keeps}
 use Rattle.lk_locks.proofs.Threads.{all_idle}
-use Rattle.lk_locks.proofs.invariants.McsLinks.{alone, empty_of, place_of}
-use Rattle.lk_locks.proofs.invariants.McsLinks.{head_by_phase}
-use Rattle.lk_locks.proofs.invariants.McsLinks.{not_alone, not_member}
+use Rattle.lk_locks.proofs.invariants.McsLinks.{alone, empty_of, place_of, head_by_phase, not_alone}
+use Rattle.lk_locks.proofs.invariants.McsLinks.{not_member}
 use Rattle.lk_locks.proofs.invariants.McsQueue.{head_moves, mcs_first, mcs_grant, mcs_only}
-use Rattle.lk_locks.proofs.invariants.McsQueue.{mcs_later, mcs_out, swapped, may_grant}
+use Rattle.lk_locks.proofs.invariants.McsQueue.{mcs_later, mcs_out, mcs_swap, may_grant}
 use Rattle.lk_locks.specs.Types.{Mcs, Call, Step, Acquire, Release, AwaitGrant, AwaitLink, CasTail}
 use Rattle.lk_locks.specs.Types.{ClearNext, Grant, Idle, LinkTo, McsInside, ReadNext, SetLocked}
 use Rattle.lk_locks.specs.Types.{SwapTail}
 use Rattle.lk_locks.proofs.Requests.{allows_acquire, allows_release}
-use Rattle.lk_locks.specs.Locks.{family_of}
 
 -- each move keeps the queue, and its entries may come
 keeps : Keeps Mcs
@@ -63,7 +58,7 @@ keeps bits ws ps q t SwapTail (Step kind) given =
       | inr (test, not_nil) ↦ rw test (
         (may_act, tt),
         rw may_act
-            (swapped ws ps q.queue t given.thread (omega (arith, given.enough)) not_queued no_next
+            (mcs_swap ws ps q.queue t given.thread (omega (arith, given.enough)) not_queued no_next
             not_nil given.agrees),
       )
     ]
@@ -208,7 +203,6 @@ proof = record {
   begins = λ n t p op fits own not_refused. search rules;
   owed_is_own = λ t p. search rules;
   idle_rest = λ t. refl;
-  few_entries = λ t p outcome. search rules;
   keeps_length = λ bits t ws p. search (rules, length-set);
   idle_fits = λ n. tt;
   call_fits = λ n p op fits. search rules;

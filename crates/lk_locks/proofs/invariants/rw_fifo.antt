@@ -1,28 +1,22 @@
 -- The FIFO read-write lock: each section adds the next entries of its call, and each move preserves
 -- that the counts and the flag agree with the holders.
-use Rattle.std.proofs.Common.{List, Some, [], ap, arith, inl, inr, length, refl, rules}
-use Rattle.std.proofs.Common.{set, slice_index, sym, true, ℕ, ◌%◌, ◌+◌, ◌<◌, ◌^◌}
-use Rattle.std.proofs.Common.{◌∙◌, ◌≡◌, ◌≤◌}
+use Rattle.std.proofs.Common.{List, Some, [], ap, arith, inl, inr, length, refl, rules, set}
+use Rattle.std.proofs.Common.{slice_index, sym, true, ℕ, ◌%◌, ◌+◌, ◌<◌, ◌^◌, ◌∙◌, ◌≡◌, ◌≤◌}
 use Rattle.std.proofs.Math.Nat.{mod-add-mod, mod-eq_of_lt}
-use Rattle.std.proofs.lemmas.Bool.Decides.{eqb_tells}
+use Rattle.std.proofs.{lemmas.Bool.Decides.eqb_tells, lemmas.Nat.pow_pos, lemmas.Grind.common_steps}
 use Rattle.std.proofs.lemmas.List.{get_or-set_other, get_or-set_same, length-set, length-replicate}
-use Rattle.std.proofs.lemmas.Nat.{pow_pos}
 use Rattle.std.proofs.lemmas.Bool.{eq-eqb, ne_eqb}
 use Rattle.lk_locks.specs.Change.{plus_one, with_one_more}
 use Rattle.lk_locks.specs.Sequential.{nobody, Sequential, after_act, is_allowed}
-use Rattle.lk_locks.specs.State.{start}
-use Rattle.lk_locks.specs.invariants.Locks.{AgreeAs}
+use Rattle.lk_locks.specs.{State.start, invariants.Locks.AgreeAs}
 use Rattle.lk_locks.specs.invariants.read_write.{is_announced, is_reading}
 use Rattle.lk_locks.specs.invariants.rw_fifo.{AgreesWith, Count}
-use Rattle.lk_locks.proofs.Cases.{LockProof, Keeps}
-use Rattle.lk_locks.proofs.Cases.{waits}
+use Rattle.lk_locks.proofs.Cases.{LockProof, Keeps, waits}
 use Rattle.std.proofs.lemmas.List.{nil_from_length}
-use Rattle.std.proofs.lemmas.Grind.{common_steps}
 use Rattle.lk_locks.proofs.Words.{no_round, plus_one-lt, plus_one_plus}
 use Rattle.lk_locks.proofs.Threads.{this_is}
-use Rattle.lk_locks.proofs.invariants.HolderLists.{flag_none, flag_some}
-use Rattle.lk_locks.proofs.invariants.HolderLists.{no_holders, no_writer_beside}
-use Rattle.lk_locks.proofs.invariants.HolderLists.{readers_few}
+use Rattle.lk_locks.proofs.invariants.HolderLists.{flag_none, flag_some, no_holders}
+use Rattle.lk_locks.proofs.invariants.HolderLists.{no_writer_beside, readers_few}
 use Rattle.lk_locks.proofs.invariants.ReadWriteMoves.{below_64, calls, downgrades, joins, leaves}
 use Rattle.lk_locks.proofs.invariants.ReadWriteMoves.{unwrites, writes, announces}
 use Rattle.lk_locks.specs.Types.{Announced, Acted, RwFifo, Call, Step, Phase, AwaitReaders, Idle}
@@ -179,7 +173,6 @@ proof = record {
   begins = λ n t p op fits own not_refused. search rules;
   owed_is_own = λ t p. search rules;
   idle_rest = λ t. refl;
-  few_entries = λ t p outcome. search rules;
   keeps_length = λ bits t ws p. search (rules, length-set);
   idle_fits = λ n. refl;
   call_fits = λ n p op fits. search rules;

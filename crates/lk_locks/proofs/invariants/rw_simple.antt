@@ -1,18 +1,13 @@
 -- The simple read-write lock: each section adds the next entries of its call, and each move
 -- preserves that the count and the flag agree with the holders.
-use Rattle.std.proofs.Common.{List, ap, arith, inl, inr, length, refl, rules, set}
-use Rattle.std.proofs.Common.{slice_index, sym, true, ℕ, ◌%◌, ◌+◌, ◌-◌, ◌<◌}
-use Rattle.std.proofs.Common.{◌^◌, ◌∙◌, ◌≡◌, ◌≤◌}
-use Rattle.std.proofs.Math.Nat.{add-mod_right, mod-eq_of_lt}
-use Rattle.std.proofs.lemmas.Bool.Decides.{eqb_tells}
+use Rattle.std.proofs.Common.{List, ap, arith, inl, inr, length, refl, rules, set, slice_index, sym}
+use Rattle.std.proofs.Common.{true, ℕ, ◌%◌, ◌+◌, ◌-◌, ◌<◌, ◌^◌, ◌∙◌, ◌≡◌, ◌≤◌}
+use Rattle.std.proofs.{Math.Nat.add-mod_right, Math.Nat.mod-eq_of_lt, lemmas.Bool.Decides.eqb_tells}
 use Rattle.std.proofs.lemmas.List.{get_or-set_other, get_or-set_same, length-set, length-replicate}
 use Rattle.lk_locks.specs.Change.{less_one, plus_one, with_one_more}
 use Rattle.lk_locks.specs.Sequential.{nobody, is_allowed}
-use Rattle.lk_locks.specs.State.{start}
-use Rattle.lk_locks.specs.invariants.Locks.{AgreeAs}
-use Rattle.lk_locks.specs.invariants.rw_simple.{Count}
-use Rattle.lk_locks.proofs.Cases.{LockProof, Keeps}
-use Rattle.lk_locks.proofs.Cases.{waits}
+use Rattle.lk_locks.specs.{State.start, invariants.Locks.AgreeAs, invariants.rw_simple.Count}
+use Rattle.lk_locks.proofs.Cases.{LockProof, Keeps, waits}
 use Rattle.std.proofs.lemmas.List.{nil_from_length}
 use Rattle.lk_locks.proofs.invariants.HolderLists.{flag_none, no_holders}
 use Rattle.lk_locks.proofs.invariants.ReadWriteMoves.{below_64, calls, downgrades, joins, leaves}
@@ -110,7 +105,6 @@ proof = record {
   begins = λ n t p op fits own not_refused. search rules;
   owed_is_own = λ t p. search rules;
   idle_rest = λ t. refl;
-  few_entries = λ t p outcome. search rules;
   keeps_length = λ bits t ws p. search (rules, length-set);
   idle_fits = λ n. refl;
   call_fits = λ n p op fits. search rules;

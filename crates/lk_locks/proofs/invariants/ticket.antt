@@ -1,19 +1,12 @@
 -- The ticket lock: each step adds the next entries of its call, and each move preserves that words
 -- and phases agree with the queue.
-use Rattle.std.proofs.Common.{List, ap, arith, inl, inr}
-use Rattle.std.proofs.Common.{refl, rules, slice_index, sym, ℕ, ◌<◌}
-use Rattle.std.proofs.Common.{◌≡◌, ◌^◌}
-use Rattle.std.proofs.Math.Nat.{mod-eq_of_lt}
-use Rattle.std.proofs.lemmas.Nat.{pow_pos}
-use Rattle.std.proofs.lemmas.Bool.Decides.{eqb_tells}
+use Rattle.std.proofs.Common.{List, ap, arith, inl, inr, refl, rules, slice_index, sym, ℕ, ◌<◌, ◌≡◌}
+use Rattle.std.proofs.Common.{◌^◌}
+use Rattle.std.proofs.{Math.Nat.mod-eq_of_lt, lemmas.Nat.pow_pos, lemmas.Bool.Decides.eqb_tells}
 use Rattle.std.proofs.lemmas.List.{length-replicate, length-set}
-use Rattle.lk_locks.specs.Sequential.{nobody}
-use Rattle.lk_locks.specs.State.{start}
-use Rattle.lk_locks.specs.Locks.{family_of}
-use Rattle.lk_locks.specs.invariants.Locks.{AgreeAs}
-use Rattle.lk_locks.specs.invariants.ticket.{ticket_of}
-use Rattle.lk_locks.proofs.Cases.{LockProof, Keeps}
-use Rattle.lk_locks.proofs.Cases.{waits}
+use Rattle.lk_locks.specs.{Sequential.nobody, State.start, Locks.family_of}
+use Rattle.lk_locks.specs.{invariants.Locks.AgreeAs, invariants.ticket.ticket_of}
+use Rattle.lk_locks.proofs.Cases.{LockProof, Keeps, waits}
 use Rattle.lk_locks.proofs.Threads.{all_idle, rest_false}
 use Rattle.lk_locks.proofs.invariants.TicketQueue.{inside_is_head, no_member, queue_frame}
 use Rattle.lk_locks.proofs.invariants.TicketQueue.{queue_pass, queue_take, served_is_head}
@@ -90,7 +83,6 @@ proof = record {
   begins = λ n t p op fits own not_refused. search rules;
   owed_is_own = λ t p. search rules;
   idle_rest = λ t. refl;
-  few_entries = λ t p outcome. search rules;
   keeps_length = λ bits t ws p. search (rules, length-set);
   idle_fits = λ n. refl;
   call_fits = λ n p op fits. search rules;

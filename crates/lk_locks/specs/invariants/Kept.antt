@@ -1,15 +1,23 @@
--- Invariants. The invariant of a lock, its sequential object and its history after every list of
--- moves.
+-- Invariants. The invariant of a sequential object; and that of a lock, its sequential object and
+-- its history after every list of moves.
 use Rattle.std.specs.Prelude.{◌≡◌, ℕ, ◌<◌, ◌≤◌, List, ◌++◌, length, None}
 use Rattle.std.specs.List.{flat_map, AllByRecursion}
 use Rattle.lk_locks.specs.State.{State, phase_at}
-use Rattle.lk_locks.specs.Sequential.{Sequential, nobody, thread_of}
+use Rattle.lk_locks.specs.Sequential.{Sequential, IsAscending, nobody, thread_of}
 use Rattle.lk_locks.specs.Legal.{AreEnabled, after_entries, subhistory, whole_call}
 use Rattle.lk_locks.specs.Holding.{holder_after}
 use Rattle.lk_locks.specs.Play.{Tracked}
 use Rattle.lk_locks.specs.invariants.Locks.{AgreeAs, owed_of}
+use Rattle.lk_locks.specs.invariants.Threads.{AreThreads}
 use Rattle.lk_locks.specs.invariants.WellFormed.{WellFormed}
+use Rattle.lk_locks.specs.invariants.read_write.{IsAlone}
 use Rattle.lk_locks.specs.Types.{LockKind, Phase, Op, Entry}
+
+pub record IsSequential (q : Sequential) : Type 0 where
+  pub queue : AreThreads q.queue
+  pub readers : AreThreads q.readers
+  pub ascending : IsAscending q.readers
+  pub alone : IsAlone q.writer q.readers q.announced
 
 -- thread t's entries, with the rest of its pending call, are whole calls
 abbrev pub IsInTurn : LockKind → List Entry → ℕ → Phase → Type 0

@@ -1,6 +1,5 @@
 -- Invariants. Lists of threads.
-use Rattle.std.specs.Prelude.{◌≡◌, ℕ, ◌<◌, List, [], ◌∷◌, Option, Some, Bool, true, false}
-use Rattle.std.specs.Prelude.{nat_eq}
+use Rattle.std.specs.Prelude.{◌≡◌, ℕ, ◌<◌, List, [], ◌∷◌, Option, Some, Bool, true, false, nat_eq}
 use Rattle.std.specs.Option.{option_eq}
 use Rattle.lk_locks.specs.Sequential.{has}
 

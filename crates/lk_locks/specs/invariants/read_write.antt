@@ -2,16 +2,14 @@
 -- owes the history, the readers, the writer and the announced writer.
 use Rattle.std.specs.Prelude.{◌≡◌, ◌<◌, ◌^◌, ℕ, List, [], ◌++◌, length, Option, None, Some}
 use Rattle.std.specs.Prelude.{Bool, true, false, set, slice_index}
-use Rattle.lk_locks.specs.Change.{acts, announcement}
-use Rattle.lk_locks.specs.Change.{Change}
+use Rattle.lk_locks.specs.Change.{acts, announcement, Change, Makes}
 use Rattle.lk_locks.specs.State.{phase_at}
 use Rattle.lk_locks.specs.Sequential.{Sequential, has}
 use Rattle.lk_locks.specs.invariants.Threads.{EachOnce, is_this}
 use Rattle.lk_locks.specs.declared.read_write.Section.{Section}
 use Rattle.lk_locks.specs.Types.{Entry, Family, FifoReadWrite, ReadLock, ReadUnlock, WriteLock}
-use Rattle.lk_locks.specs.Types.{WriteUnlock}
-use Rattle.lk_locks.specs.Types.{Downgrade, Phase, TryRead, Reading, LeaveRead, TryWrite}
-use Rattle.lk_locks.specs.Types.{AwaitReaders, Writing, LeaveWrite, TryDowngrade}
+use Rattle.lk_locks.specs.Types.{WriteUnlock, Downgrade, Phase, TryRead, Reading, LeaveRead}
+use Rattle.lk_locks.specs.Types.{TryWrite, AwaitReaders, Writing, LeaveWrite, TryDowngrade}
 
 -- the entries that the pending call of thread i has still to add to the history
 abbrev pub owed_of : Family → ℕ → Phase → List Entry
@@ -59,10 +57,9 @@ after_writes ws None (Some other) = set ws other.0 other.1
 after_writes ws (Some first) (Some other) = set (set ws first.0 first.1) other.0 other.1
 
 -- a section that finds these words makes this change
-pub record IsSection (section : Section) (ws : List ℕ) (change : Change) : Type 0 where
-  pub words : after_writes ws section.first section.other ≡ change.words
-  pub phase : section.phase ≡ change.phase
-  pub outcome : section.outcome ≡ change.outcome
+abbrev pub IsSection : Section → List ℕ → Change → Type 0
+IsSection section ws change =
+    Makes (after_writes ws section.first section.other) (section.phase, section.outcome) change
 
 -- the FIFO lock has a third word
 abbrev pub third_word : Family → List ℕ → Option ℕ

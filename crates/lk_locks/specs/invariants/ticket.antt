@@ -3,8 +3,7 @@
 use Rattle.std.specs.Prelude.{◌≡◌, ℕ, ◌+◌, ◌%◌, ◌^◌, ◌<◌, List, [], ◌∷◌, length, slice_index}
 use Rattle.std.specs.Prelude.{Option, None, Some, is_some, Bool, true, false}
 use Rattle.lk_locks.specs.State.{phase_at}
-use Rattle.lk_locks.specs.Change.{plus_one}
-use Rattle.lk_locks.specs.Change.{acts}
+use Rattle.lk_locks.specs.Change.{plus_one, acts}
 use Rattle.lk_locks.specs.Sequential.{has}
 use Rattle.lk_locks.specs.ticket.{next_ticket, now_serving, operation}
 use Rattle.lk_locks.specs.invariants.Threads.{EachOnce}

@@ -3,7 +3,8 @@ use Rattle.std.proofs.Common.{◌≡◌, List, ℕ, length, drop, ◌++◌, Opti
 use Rattle.std.proofs.Common.{sym, ap, ◌∙◌, length-take-le}
 use Rattle.std.specs.Int.{from_bool}
 use Rattle.lk_locks.specs.declared.kinds.Refusal.{Refusal}
-use Rattle.lk_replay.specs.Schedule.{plan_of}
+use Rattle.lk_replay.specs.Schedule.{plan_of, plan_with}
+use Rattle.lk_page.specs.Playing.{moves_left}
 use Rattle.lk_page.specs.Written.{answer_of}
 use Rattle.lk_page.proofs.Ends.{plays}
 use Rattle.lk_page.proofs.play.Goals as goal
@@ -24,16 +25,16 @@ copy_from_slice-requires-2 c =
 
 pub returns-clause-told : goal.returns-clause-told
 returns-clause-told c = λ enough.
-    plays c.in-Ok.reader (plan_of c.args.text.now) c.args.most _ c.moves_left-moves.result
+    plays (plan_with c.in-Ok.read.0 (moves_left c.in-Ok.read.1 0)) (plan_of c.args.text.now)
+    c.args.most _ c.in-Ok.read.2
     c.at_start-lock.result c.play_moves-stopped.new.lock c.play_moves-stopped.result.count
     c.play_moves-stopped.result.refused
     c.args.records.now c.play_moves-stopped.new.records c.args.state.now _
     c.state_bytes-bytes.result.items
     c.in-Ok.ensures.read
-    (rw (c.header.ensures.kind, c.header.ensures.threads, c.header.ensures.bits)
-    at c.at_start-lock.ensures.start)
+    c.at_start-lock.ensures.start
     c.play_moves-stopped.ensures.played
     (c.from.ensures ∙ ap from_bool c.is_some.ensures ∙ one_if_refused _)
-    c.moves_left-moves.ensures.moves c.state_bytes-bytes.ensures.bytes
+    c.in-Ok.ensures.count c.state_bytes-bytes.ensures.bytes
     (ap (λ (xs : List ℕ). xs ++ drop 2304 c.args.state.now)
     (c.copy_from_slice-2.ensures.after ∙ c.as_slice-2.ensures.value))

@@ -1,8 +1,7 @@
 //! The last line of a report: its end, a refused move, or the fault of its text.
 
 ghost use Rattle.std.specs.Prelude.{◌≡◌, ◌≤◌, ◌++◌, length, IfOk, List, OnErr, take, ℕ};
-ghost use Rattle.lk_lines.specs.Reads.{IsOfText};
-ghost use Rattle.lk_lines.specs.Reads.{Fails};
+ghost use Rattle.lk_lines.specs.Reads.{IsOfText, Fails};
 ghost use Rattle.lk_replay.specs.Report.{at_line, fault_line, last_line, refusal_text, report_text};
 ghost use Rattle.lk_replay.specs.Schedule.{plan_of};
 

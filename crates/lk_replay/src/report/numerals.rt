@@ -1,77 +1,20 @@
-//! Numbers as text. The digits are `itoa`'s, but for the last digit of a count that grows by one.
-//! Those of a thread's number are written where they belong: out of a `Buffer` they would have to
-//! be copied, which takes 12 to 40 % more instructions for a move.
+//! Numbers as text. `itoa` writes their digits, and a thread's number where it belongs: out of a
+//! buffer it would have to be copied, which takes 12 to 40 % more instructions for a move.
 
-ghost use Rattle.std.specs.Prelude.{◌≡◌, ◌+◌, ◌≤◌, ◌++◌, ◌∷◌, decimal, length, take, ◌<◌, ◌^◌, ℕ};
+ghost use Rattle.std.specs.Prelude.{◌≡◌, ◌+◌, ◌≤◌, ◌++◌, ◌∷◌, decimal, length, take};
 
-use itoa::{Buffer, write_digits};
-use std::marker::Model;
+use crate::report::text::put_block;
+use itoa::write_digits;
 
-// The bytes of a block of digits: one store.
-const BLOCK: usize = 16;
-
-/// A number, and its digits at the front of a block.
-#[derive(Drop)]
-pub struct Numeral {
-    number: u32,
-    block: [u8; BLOCK],
-    digits: usize,
-}
-
-impl Model for Numeral {
-    ghost Value = { ℕ };
-
-    ghost view = { λ a. a.number };
-
-    ghost invariant = { λ a.
-        (0 < a.digits) × (a.digits ≤ 16) × (take a.digits a.block ≡ decimal a.number) };
-}
-
-impl Numeral {
-    /// Prints the number.
-    pub fn of(number: u32) -> Numeral
-        ensures { result ≡ number }
-    {
-        let mut buffer = Buffer::new();
-        let text = buffer.format(number).as_bytes();
-        let mut block = [b'0'; BLOCK];
-        block[..text.len()].copy_from_slice(text);
-        Numeral {
-            number,
-            block,
-            digits: text.len(),
-        }
-    }
-
-    /// The number.
-    pub fn number(&self) -> u32
-        ensures { result ≡ self.now }
-    {
-        self.number
-    }
-
-    /// The number after this one. Its digits are printed anew only if more than the last one
-    /// changes.
-    pub fn count_on(&mut self)
-        requires { self.old + 1 < 2 ^ 32 }
-        ensures { self.new ≡ self.old + 1 }
-    {
-        let last = self.digits - 1;
-        if self.block[last] < b'9' {
-            self.block[last] += 1;
-            self.number += 1;
-        } else {
-            *self = Numeral::of(self.number + 1);
-        }
-    }
-
-    /// The block that begins with the digits, and how many they are.
-    pub fn block(&self) -> (&[u8; BLOCK], usize)
-        ensures text { take result.1 result.0.now ≡ decimal self.now }
-        ensures fits { result.1 ≤ 16 }
-    {
-        (&self.block, self.digits)
-    }
+/// Puts a count at the front of a place, and returns where it ends.
+pub fn put_count(place: &mut [u8], count: u32) -> usize
+    requires { 16 ≤ length place.old }
+    ensures text { take result place.new ≡ decimal count }
+    ensures most { result ≤ 16 }
+{
+    let mut digits = [0; 32];
+    let start = write_digits(count as u64, &mut digits, 16);
+    put_block::<16>(place, 0, &digits[start..], 16 - start)
 }
 
 /// Puts a thread's number into a place, from `at` on, and returns where it ends.

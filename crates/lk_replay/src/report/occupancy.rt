@@ -6,7 +6,7 @@ ghost use Rattle.lk_locks.specs.Change.{entries_by};
 ghost use Rattle.lk_locks.specs.declared.kinds.Entry.TheVariants.{Acted, Announced, Returned};
 ghost use Rattle.lk_locks.specs.Holding.{held_by_one, one_or_none, shared_by};
 ghost use Rattle.lk_locks.specs.Legal.{AreEnabled, IsEnabled};
-ghost use Rattle.lk_locks.specs.invariants.SequentialKept.{IsSequential};
+ghost use Rattle.lk_locks.specs.invariants.Kept.{IsSequential};
 ghost use Rattle.lk_replay.specs.Occupancy.{Occupancy, occupancy_after, occupancy_of};
 ghost use Rattle.lk_replay.specs.Occupancy.{occupancy_text};
 ghost use Rattle.lk_replay.specs.Report.{holding_text, queue_text};

@@ -12,7 +12,7 @@ ghost use Rattle.lk_replay.specs.ReportRest.{ReportRest, rest_of};
 use crate::ending::Ending;
 use crate::played::Accepted;
 use crate::report::closings::put_last;
-use crate::report::numerals::{Numeral, put_number};
+use crate::report::numerals::{put_count, put_number};
 use crate::report::occupancy::OccupancyText;
 use crate::report::text::{put, put_block};
 use crate::{Line, Schedule};
@@ -30,7 +30,7 @@ pub const LEAST_PLACE: usize = 448;
 #[derive(Drop)]
 pub struct Replay<'a> {
     moves: &'a [Line],
-    count: Numeral,
+    count: u32,
     machine: Machine<WordArray>,
     occupancy: OccupancyText,
     ending: Option<Ending>,
@@ -47,13 +47,12 @@ impl<'a> Model for Replay<'a> {
 
 // Writes `K T WORD OUTCOME hold ` of an accepted move, and returns where it ends.
 #[tactic(auto, unfolding(crate::specs::Report::line_start))]
-fn put_start(line: &mut [u8], count: &Numeral, accepted: &Accepted) -> usize
+fn put_start(line: &mut [u8], count: u32, accepted: &Accepted) -> usize
     requires { 80 ≤ length line.old }
-    ensures text { take result line.new ≡ line_start count.now accepted.now }
+    ensures text { take result line.new ≡ line_start count accepted.now }
     ensures short { result ≤ 64 }
 {
-    let (block, len) = count.block();
-    let at = put_block::<16>(line, 0, block, len);
+    let at = put_count(line, count);
     let at = put(line, at, b" ");
     let at = put_number(line, at, accepted.thread);
     let at = put(line, at, b" ");
@@ -73,7 +72,7 @@ impl<'a> Replay<'a> {
     {
         Replay {
             moves: schedule.moves(),
-            count: Numeral::of(0),
+            count: 0,
             machine: Machine::at_start(schedule.shape()),
             occupancy: OccupancyText::new(schedule.kind()),
             ending: None,
@@ -92,26 +91,26 @@ impl<'a> Replay<'a> {
     {
         let Some((line, rest)) = self.moves.split_first() else {
             self.ending = Some(Ending::Accepted);
-            return put_last(place, self.count.number(), None);
+            return put_last(place, self.count, None);
         };
         let line = *line;
         let (outcome, added) = match self.machine.play(line.thread, line.action) {
             Ok((outcome, added)) => (outcome, added),
             Err(refusal) => {
                 self.ending = Some(Ending::Refused);
-                return put_last(place, self.count.number(), Some((line.number, refusal)));
+                return put_last(place, self.count, Some((line.number, refusal)));
             }
         };
         self.occupancy.follow(line.thread, added);
         self.moves = rest;
-        self.count.count_on();
+        self.count += 1;
         let accepted = Accepted {
             line: line.number,
             thread: line.thread,
             action: line.action,
             outcome,
         };
-        let at = put_start(place, &self.count, &accepted);
+        let at = put_start(place, self.count, &accepted);
         self.occupancy.put(place, at)
     }
 

@@ -1,4 +1,4 @@
-//! What a history answers if memory is refused. `locks` plays the worked rows on a keeper.
+//! A history's answer if memory is refused. `locks` plays the worked rows on a keeper.
 
 use crate::holding::holds;
 use crate::refusing::{refuse, was_refused};

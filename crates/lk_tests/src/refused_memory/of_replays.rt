@@ -1,4 +1,4 @@
-//! What reading a text and reporting answer if memory is refused.
+//! The answers of reading a text and of reporting if memory is refused.
 
 use crate::devices::Output;
 use crate::holding::holds;
@@ -83,7 +83,7 @@ pub fn read_input(rt: &impl Abort, alloc: Global, number: usize, (text, _, _): T
 }
 
 // Whether all was written and it ended so, or memory was refused and nothing was written.
-fn ended_as(
+fn ends_as(
     answer: &Result<Ending, RunFault>,
     rest: &[u8],
     (_, due, ending): Text,
@@ -102,6 +102,6 @@ pub fn run_all(rt: &impl Abort, alloc: Global, number: usize, text: Text) -> boo
     refuse(alloc, number);
     let answer = run(alloc, &mut input, &mut output);
     let refused = was_refused(alloc);
-    holds(rt, ended_as(&answer, output.rest, text, refused), text.0);
+    holds(rt, ends_as(&answer, output.rest, text, refused), text.0);
     refused
 }

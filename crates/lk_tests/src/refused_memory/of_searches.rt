@@ -1,4 +1,4 @@
-//! What a search of a small lock and a tour of it answer if memory is refused.
+//! The answers of a search of a small lock and of a tour of it if memory is refused.
 
 ghost use Rattle.std.specs.Prelude.{◌≡◌, [], IfOk};
 ghost use Rattle.lk_search.specs.Sketches.{Lines};
@@ -6,19 +6,24 @@ ghost use Rattle.lk_search.specs.Sketches.{Lines};
 use crate::holding::holds;
 use crate::refusing::{refuse, was_refused};
 use crate::searches::ticket_lock;
-use lk_search::{Bounds, Heap, SearchFault, Space, TourFault, tour};
+use lk_search::{Bounds, Heap, Rounds, SearchFault, Space, TourFault, tour};
 use std::alloc::Global;
 use std::process::Abort;
 
-fn explored(alloc: Global) -> Result<Space<'static, Heap>, SearchFault>
+fn small_space(alloc: Global) -> Result<Space<'static, Heap>, SearchFault>
     ensures { IfOk result (λ space. space.bounds.goal ≡ Lines []) }
 {
-    Space::explore(Heap::new(alloc)?, ticket_lock(), Bounds::new(1, &[]), 41)
+    Space::explore(
+        Heap::new(alloc)?,
+        ticket_lock(),
+        Bounds::new(Rounds::UpTo(1), &[]),
+        41,
+    )
 }
 
 // Whether the lock has its states and a tour. An error says whether memory ran out.
 fn is_toured(alloc: Global) -> Result<bool, bool> {
-    match explored(alloc) {
+    match small_space(alloc) {
         Ok(space) => match tour(alloc, &space) {
             Ok(runs) => Ok(space.states() == 41 && !runs.is_empty()),
             Err(fault) => Err(fault == TourFault::OutOfMemory),

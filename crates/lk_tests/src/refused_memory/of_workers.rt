@@ -1,4 +1,4 @@
-//! What draws, the running lock and batches answer if memory is refused.
+//! The answers of draws, the running lock and batches if memory is refused.
 
 ghost use Rattle.std.specs.Prelude.{◌≤◌, length};
 
@@ -34,7 +34,7 @@ pub fn open_lock(rt: &impl Abort, alloc: Global, number: usize) -> bool {
     refused
 }
 
-fn batched<R: Threads + Sync>(
+fn batch_of_five<R: Threads + Sync>(
     rt: &R,
     alloc: Global,
     texts: &[Vec<u8>],
@@ -63,7 +63,7 @@ fn is_batched<R: Threads + Sync>(
     let texts = texts_of(alloc, &FIVE)?;
     let gate = Counts::new(alloc, 5)?;
     refuse(alloc, number);
-    let answer = batched(rt, alloc, &texts[..texts.len().min(5)], &gate);
+    let answer = batch_of_five(rt, alloc, &texts[..texts.len().min(5)], &gate);
     let refused = was_refused(alloc);
     Ok((is_due(&answer, &gate, refused), refused))
 }

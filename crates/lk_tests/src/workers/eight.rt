@@ -3,7 +3,7 @@
 
 ghost use Rattle.std.specs.Prelude.{IfSome};
 ghost use Rattle.std.specs.Thread.{IsSync};
-ghost use Rattle.lk_workers.specs.invariants.Rounds.{IsIdleOf};
+ghost use Rattle.lk_workers.specs.invariants.Running.{IsIdleOf};
 
 use super::running::rounds;
 use lk_workers::{LiveSeat, LiveTicket};

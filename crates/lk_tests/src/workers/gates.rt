@@ -23,7 +23,7 @@ struct Gathering {
 }
 
 impl Gathering {
-    fn failed(&self) -> bool {
+    fn has_failed(&self) -> bool {
         self.failed.load(Ordering::SeqCst)
     }
 }
@@ -35,7 +35,7 @@ impl Gate for Gathering {
             return;
         }
         for _ in 0..TURNS {
-            if self.begun.load(Ordering::SeqCst) >= self.wanted || self.failed() {
+            if self.begun.load(Ordering::SeqCst) >= self.wanted || self.has_failed() {
                 return;
             }
             thread::yield_now();
@@ -73,7 +73,7 @@ fn pass<R: Threads + Sync>(
         failed: AtomicBool::new(false),
     };
     let reports = replay_many(rt, alloc, &texts, workers, &gate)?;
-    Ok(reports.len() == texts.len() && !gate.failed())
+    Ok(reports.len() == texts.len() && !gate.has_failed())
 }
 
 #[test]

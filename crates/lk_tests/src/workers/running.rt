@@ -1,7 +1,7 @@
 //! The running lock by hand, and under threads.
 
 ghost use Rattle.std.specs.Prelude.{◌≡◌, ◌+◌, ◌≤◌, true, IfSome};
-ghost use Rattle.lk_workers.specs.invariants.Rounds.{IsIdleOf};
+ghost use Rattle.lk_workers.specs.invariants.Running.{IsIdleOf};
 
 use lk_workers::{LivePhase, LiveSeat, LiveTicket};
 use std::snapshot::Snapshot;
@@ -15,7 +15,7 @@ const TURNS: u64 = 100_000_000;
 
 const ROUNDS: u64 = 1000;
 
-// What a seat does, and what it answers.
+// A seat's call, with its answer.
 #[derive(Clone, Copy)]
 enum Deed {
     Take(u64),
@@ -169,7 +169,7 @@ struct IdleOf(Snapshot<LiveTicket>);
 
 impl Promise<Option<LiveSeat>> for IdleOf {
     ghost use Rattle.std.specs.Prelude.{IfSome};
-    ghost use Rattle.lk_workers.specs.invariants.Rounds.{IsIdleOf};
+    ghost use Rattle.lk_workers.specs.invariants.Running.{IsIdleOf};
 
     ghost kept_by = { λ p r. IfSome r (λ s. IsIdleOf p.0.value 0 s) };
 }

@@ -1,4 +1,4 @@
--- What is left is reported as the text is.
+-- The rest is reported as the text is.
 use Rattle.std.proofs.Common.{◌≡◌, length}
 use Rattle.lk_lines.specs.Lines.{lines_of}
 use Rattle.lk_trace_c.specs.Records.{told_lines, told_text}

@@ -1,6 +1,6 @@
 -- Invariants. The results of workers that draw the numbers of texts.
 use Rattle.std.specs.Prelude.{Vec, slice_set, ◌∷◌, ◌≡◌, ℕ, ◌+◌, ◌*◌, ◌<◌, ◌≤◌, List}
-use Rattle.std.specs.Prelude.{[], map, length, filter, ltb, slice_index_or}
+use Rattle.std.specs.Prelude.{[], map, length, filter, nat_lt, slice_index_or}
 use Rattle.std.specs.declared.alloc.Global.{Global}
 use Rattle.lk_replay.specs.Report.{report_text}
 use Rattle.lk_workers.specs.Counting.{occurrences}
@@ -20,7 +20,7 @@ report_at texts k = report_text (slice_index_or texts k [])
 -- the numbers of texts among the numbers drawn, each with its report
 abbrev pub reports_of : List (List ℕ) → List ℕ → List (ℕ × List ℕ)
 reports_of texts drawn =
-    map (λ k. (k, report_at texts k)) (filter (λ k. ltb k (length texts)) drawn)
+    map (λ k. (k, report_at texts k)) (filter (λ k. nat_lt k (length texts)) drawn)
 
 -- a number past the texts was drawn
 abbrev pub IsThrough : List (List ℕ) → List ℕ → Type 0
@@ -44,7 +44,7 @@ IsDone c texts workers s reports =
 abbrev pub IsEachOnce : List (List ℕ) → List (ℕ × List ℕ) → Type 0
 IsEachOnce texts ps =
     (ks : List ℕ) × (ps ≡ reports_of texts ks)
-    × ((k : ℕ) → k < length texts → occurrences k (filter (λ j. ltb j (length texts)) ks) ≡ 1)
+    × ((k : ℕ) → k < length texts → occurrences k (filter (λ j. nat_lt j (length texts)) ks) ≡ 1)
 
 -- the reports put into their places
 abbrev pub places_with : List (List ℕ) → List (ℕ × List ℕ) → List (List ℕ)

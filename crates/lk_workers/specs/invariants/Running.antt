@@ -3,12 +3,13 @@
 use Rattle.std.specs.Prelude.{◌≡◌, ℕ, ◌+◌, ◌^◌, ◌≤◌, List, [], ◌∷◌, length, ⊤}
 use mathlib.Core.Option.{some}
 use lib.ListN.{get_elem?}
+use Rattle.atomic_table.specs.Seated.{TableId}
 use Rattle.atomic_table.specs.Table.{Me, Step}
 use Rattle.lk_workers.specs.declared.live.LivePhase.{LivePhase}
 use Rattle.lk_workers.specs.declared.live.LivePhase.TheVariants.{Idle, Waiting}
 use Rattle.lk_workers.specs.declared.live.rule.SeatState.{SeatState}
 use Rattle.lk_workers.specs.Counting.{once_below}
-use Rattle.lk_workers.specs.Seats.{Table, operation, with_operation, next_of, serving_of}
+use Rattle.lk_workers.specs.Seats.{Live, Table, access, with_access, next_of, serving_of}
 use Rattle.lk_workers.specs.Seats.{sum_over_seats, ticket_indicator, AreApart}
 use Rattle.lk_workers.specs.SeatSteps.{LiveStep}
 
@@ -50,7 +51,7 @@ pub record Running (takes : ℕ) (s : Table) : Type 0 where
 abbrev pub OfOne : LiveStep → (SeatState → ℕ → Type 0) → Step (Unit {0}) → Sees → ℕ → Sees → Type 0
 OfOne live tells st v found w =
     (r : SeatState) → v.0 ≡ r ∷ []
-    → (w ≡ (with_operation (operation st.word st.first) (live.next r found) ∷ [], v.1))
+    → (w ≡ (with_access (access st.word st.first) (live.next r found) ∷ [], v.1))
     × tells r found
 
 -- nothing changes, what one seat has is few, and two seats side by side are apart
@@ -59,3 +60,7 @@ Inspects st v found w =
     (w ≡ v) × (st.word ≡ 0)
     × ((r : SeatState) → v.0 ≡ r ∷ [] → (r.left ≤ 2 ^ 40) × (r.taken ≤ 2 ^ 40))
     × ((r q : SeatState) → v.0 ≡ r ∷ q ∷ [] → AreApart r q)
+
+-- an idle seat of this lock, which may take at least this many tickets
+abbrev pub IsIdleOf : TableId → ℕ → Live → Type 0
+IsIdleOf lock takes s = (s.table ≡ lock) × (s.state.phase ≡ Idle) × (takes ≤ s.state.left)

@@ -14,8 +14,8 @@ use crate::amount::{Amount, SplitOff};
 use atomic_table::{Join, Play, Shared, Split, TableRule};
 use std::collections::LinkedList;
 
-/// An atomic operation: its word, and what it adds or stores there. No value of it is made.
-pub struct Operation {
+/// An atomic access: its word, and what it adds or stores there. No value of it is made.
+pub struct Access {
     pub word: u64,
     pub operand: u64,
 }
@@ -28,7 +28,7 @@ pub struct SeatState {
     pub taken: u64,
     pub seen: u64,
     pub loads: u64,
-    pub made: LinkedList<Operation>,
+    pub made: LinkedList<Access>,
 }
 
 /// The ghost states of the seats that are held together.

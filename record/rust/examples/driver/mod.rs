@@ -4,12 +4,12 @@
 //!     EXAMPLE follow SCHEDULES FOLDER
 //!     EXAMPLE explore THREADS ROUNDS PREEMPTIONS FOLDER [RUNS]
 //!
-//! `wakes` is `seed` with wakes for nothing. The logs go to FOLDER. Of schedules that are followed
-//! and of runs that are explored, the traces do; with the feature `check` these runs are checked
-//! here, and the trace of one that is not well is all that is saved. Status: 0 all threads ended,
-//! every schedule was followed, no run was refused; 1 some threads hang, after SECONDS (60) or if a
-//! run hangs, and their logs end there, or a schedule was not followed, or a run was refused;
-//! 2 usage; 3 memory, a thread, a read or a write was refused.
+//! `wakes` is `seed` with more wakes for nothing. The logs go to FOLDER. Of schedules that are
+//! followed and of runs that are explored, the traces do; with the feature `check` these runs are
+//! checked here, and the trace of one that is not well is all that is saved. Status: 0 all threads
+//! ended, every schedule was followed, no run was refused; 1 some threads hang, after SECONDS (60)
+//! or if a run hangs, and their logs end there, or a schedule was not followed, or a run was
+//! refused; 2 usage; 3 memory, a thread, a read or a write was refused.
 // SPDX-License-Identifier: Apache-2.0 OR MIT
 
 mod explore;
@@ -97,7 +97,7 @@ pub fn drive<L: Tested>() -> ExitCode {
 fn record<L: Tested>(mode: &str, words: &Words) -> Option<Result<Told, Error>> {
     let (threads, rounds): (usize, usize) = (words.number(1)?, words.number(2)?);
     let seed = words.number(3)?;
-    let spurious = if mode == "wakes" { WAKES_ONE_IN } else { 0 };
+    let wakes = mode == "wakes";
     let mode = match mode {
         "free" => Mode::Free,
         "noise" => Mode::Noise(seed),
@@ -109,8 +109,9 @@ fn record<L: Tested>(mode: &str, words: &Words) -> Option<Result<Told, Error>> {
     let folder = words.text(4)?;
     let limit = Duration::from_secs(words.number_or(5, 60)?);
     let is_real = !matches!(mode, Mode::Seed(_) | Mode::Pct { .. });
-    let run = setup::<L>(threads, rounds).mode(mode).spurious(spurious).open();
-    Some(run.and_then(|run| {
+    let setup = setup::<L>(threads, rounds).mode(mode);
+    let setup = if wakes { setup.spurious(WAKES_ONE_IN) } else { setup };
+    Some(setup.open().and_then(|run| {
         let work = |lock: &L, log: &Log| rounds::of_thread(lock, log.thread(), rounds, is_real);
         let ending = run_new(&run, limit, work)?;
         run.save(folder)?;

@@ -1,4 +1,4 @@
--- What comes after the first letters is the name of a schedule.
+-- After the first letters comes the name of a schedule.
 use Rattle.std.proofs.Common.{◌≡◌, ◌++◌, rules, codes}
 use Rattle.lk_jobs.specs.FileNames.{of_order}
 use Rattle.lk_jobs.proofs.folder.is_own_name.Goals as goal

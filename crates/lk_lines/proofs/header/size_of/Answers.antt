@@ -2,8 +2,7 @@
 use Rattle.std.proofs.Common.{List, ℕ, ap, ◌∙◌, ◌∷◌}
 use Rattle.lk_lines.proofs.Cuts.{has_piece}
 use Rattle.lk_lines.proofs.Pieces.{more_words}
-use Rattle.lk_lines.specs.Lines.{words_of, is_space}
-use Rattle.lk_lines.specs.Header.{size_of_words}
+use Rattle.lk_lines.specs.{Lines.words_of, Lines.is_space, Header.size_of_words}
 use Rattle.lk_lines.proofs.header.size_of.Goals as goal
 
 pub returns-in-Some-cut_word-clause-size : goal.returns-in-Some-cut_word-clause-size

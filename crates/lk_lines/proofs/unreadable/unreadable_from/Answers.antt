@@ -1,8 +1,7 @@
 -- The line goes on after a word that may be here, and stops at any other.
 use Rattle.std.proofs.Common.{◌≡◌, ◌+◌, ℕ, Some, None, [], ◌∙◌, ap, arith, length, sym}
 use Rattle.std.proofs.lemmas.Bool.{cond-false, cond-true}
-use Rattle.lk_lines.specs.Lines.{words_of}
-use Rattle.lk_lines.specs.Unreadable.{unreadable_from}
+use Rattle.lk_lines.specs.{Lines.words_of, Unreadable.unreadable_from}
 use Rattle.lk_lines.proofs.Expectations.{walks}
 use Rattle.lk_lines.proofs.unreadable.unreadable_from.Goals as goal
 

@@ -1,7 +1,6 @@
 -- The rest gives the answer of the whole line.
 use Rattle.std.proofs.Common.{◌≡◌, ◌+◌, length}
-use Rattle.lk_lines.specs.Lines.{words_of}
-use Rattle.lk_lines.specs.Unreadable.{unreadable_from}
+use Rattle.lk_lines.specs.{Lines.words_of, Unreadable.unreadable_from}
 use Rattle.lk_lines.proofs.unreadable.unreadable_from.Given as goal
 
 abbrev pub invariant-loop-word : goal.invariant-loop-word

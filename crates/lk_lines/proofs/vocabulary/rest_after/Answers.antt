@@ -1,7 +1,6 @@
 -- The stripped bytes come first.
 use Rattle.std.proofs.Common.{◌-◌, Some, drop, length, refl, take}
-use Rattle.std.proofs.lemmas.Bool.Decides.{Decides-eqb}
-use Rattle.std.proofs.lemmas.Slice.Eq.{strip_prefix_is}
+use Rattle.std.proofs.{lemmas.Bool.Decides.Decides-eqb, lemmas.Slice.Eq.strip_prefix_is}
 use Rattle.lk_lines.proofs.FirstMoves.{both_stripped, some_gives}
 use Rattle.lk_lines.proofs.vocabulary.rest_after.Goals as goal
 

@@ -1,7 +1,6 @@
 use Rattle.std.proofs.Common.{refl, sym}
-use Rattle.lk_locks.specs.invariants.read_write.{IsSection}
-use Rattle.lk_locks.specs.read_write.{step}
-use Rattle.lk_locks.proofs.Sections.{first_is, second_is, told, writes_of}
+use Rattle.lk_locks.specs.{invariants.read_write.IsSection, read_write.step}
+use Rattle.lk_locks.proofs.Sections.{first_is, second_is, section_tells, writes_of}
 use Rattle.lk_locks.proofs.read_write.effect.Goals as goal
 
 pub returns : goal.returns
@@ -19,12 +18,12 @@ returns c =
           rw (
             c.change_to.ensures,
             c.change_to-2.ensures,
-            section.outcome,
-            ← section.words,
+            section.outcome_is,
+            ← section.words_are,
             first_is c.args.words.now.0 _ _ writes,
             second_is c.args.words.now.0 _ _ writes,
           ) refl;
       tells =
-          rw (c.change_to.ensures, c.change_to-2.ensures, ← section.words)
-          (told c.args.words.now.0 _ _ c.section_on-section.result.outcome writes);
+          rw (c.change_to.ensures, c.change_to-2.ensures, ← section.words_are)
+          (section_tells c.args.words.now.0 _ _ c.section_on-section.result.outcome writes);
     }

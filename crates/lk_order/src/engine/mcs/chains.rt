@@ -12,7 +12,7 @@ use std::alloc::{AllocError, Global};
 
 const NONE: u32 = u32::MAX;
 
-/// What is known of the end of a chain.
+/// The end of a chain, as far as it is known.
 #[derive(Clone, Copy, PartialEq, Eq)]
 pub enum End {
     /// A compare-and-swap wrote.
@@ -175,7 +175,7 @@ impl Chains {
         Ok(chains)
     }
 
-    /// How a chain ends.
+    /// The end of a chain.
     pub fn end(&self, chain: usize) -> Option<End> {
         self.ends.get(chain).copied()
     }

@@ -5,7 +5,7 @@ use lk_locks::{LockKind, Move, Op, StepKind};
 use lk_trace::{Seen, TraceLine, WordName};
 use std::alloc::{AllocError, Global};
 
-/// What is known of a neighbor in the queue.
+/// A neighbor in the queue, as far as it is known.
 #[derive(Clone, Copy, Default, PartialEq, Eq, Debug)]
 pub enum Neighbor {
     #[default]
@@ -24,8 +24,8 @@ pub struct Instance {
     /// How far the log has to be placed before the successor may link itself: after the last look
     /// that found no link.
     pub unlinked: usize,
-    /// What the release found in the tail if it failed to clear it, and the place of that in the
-    /// log.
+    /// The value that the release found in the tail if it failed to clear it, and the place of that
+    /// in the log.
     pub failed: Option<(u64, usize)>,
     /// Which instance of its thread the predecessor is.
     pub predecessor: Option<usize>,
@@ -44,7 +44,7 @@ fn named(value: u64) -> Neighbor {
     }
 }
 
-// What a step of a release tells of the instance. `at` is its place in the log.
+// Notes what a step of a release tells. `at` is its place in the log.
 fn note(instance: &mut Instance, line: TraceLine, at: usize) {
     let (
         Move::Step(step),

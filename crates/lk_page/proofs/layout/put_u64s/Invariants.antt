@@ -1,4 +1,4 @@
--- What was appended, and then the bytes of the rest, is what there was and the bytes of all.
+-- The bytes so far and those of the rest are the bytes before and those of all numbers.
 use Rattle.std.proofs.Common.{◌≡◌, ◌+◌, ◌*◌, ◌++◌, drop, length}
 use Rattle.std.specs.Int.{to_le_bytes, w64}
 use Rattle.std.specs.List.{flat_map}

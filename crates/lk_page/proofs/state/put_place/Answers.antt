@@ -10,8 +10,8 @@ returns-clause-bytes c =
     own_put c.args.machine.now c.args.thread _ _ _ _ _ _ _ _ _ c.args.out.now.items _ _ here
     c.phase.ensures c.next_step.ensures c.phase_code-code.ensures.code c.due_code-due.ensures
     c.allowed_calls-calls.ensures
-    (c.owned-next.ensures.next ∙ rw (bits, c.kind.ensures) refl)
-    (c.owned-next.ensures.locked ∙ rw (bits, c.kind.ensures) refl)
-    (c.owned-next.ensures.name ∙ rw (bits, c.kind.ensures) refl)
+    (c.record_of-next.ensures.next ∙ rw (bits, c.kind.ensures) refl)
+    (c.record_of-next.ensures.locked ∙ rw (bits, c.kind.ensures) refl)
+    (c.record_of-next.ensures.name ∙ rw (bits, c.kind.ensures) refl)
     c.phase_code-code.ensures.number
     c.put_bytes.ensures.bytes c.put_u64.ensures.bytes

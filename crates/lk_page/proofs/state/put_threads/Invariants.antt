@@ -1,5 +1,4 @@
--- What was appended, and then the bytes of the other threads, is what there was and the bytes of
--- all.
+-- The bytes so far and those of the other threads are the bytes before and those of all threads.
 use Rattle.std.proofs.Common.{◌≡◌, ◌+◌, ◌-◌, ◌*◌, ◌++◌, length}
 use Rattle.lk_page.specs.Layout.{threads_bytes}
 use Rattle.lk_page.proofs.state.put_threads.Given as goal

@@ -3,7 +3,7 @@ use Rattle.std.proofs.Common.{◌+◌, refl}
 use Rattle.std.proofs.lemmas.Result.{err_from_is_err_and}
 use Rattle.lk_lines.specs.Header.{header_of}
 use Rattle.lk_replay.specs.Schedule.{moves_from, with_header}
-use Rattle.lk_replay.proofs.Headers.{fails_as, header_here, no_header}
+use Rattle.lk_replay.proofs.Moves.{fails_as, header_here, no_header}
 use Rattle.lk_lines.proofs.Skipped.{skips_same}
 use Rattle.lk_replay.proofs.schedule.read_header.Goals as goal
 

@@ -4,8 +4,7 @@ use Rattle.std.proofs.lemmas.Result.{IfOk-weaker, on_ok_weaker}
 use Rattle.std.specs.Io.KnownBytes.{Appends}
 use Rattle.lk_replay.specs.Devices.{AppendsPrefix}
 use Rattle.lk_replay.specs.Ending.{ending_of}
-use Rattle.lk_replay.proofs.Promised.{appended_report}
-use Rattle.lk_replay.proofs.Reports.{reported}
+use Rattle.lk_replay.proofs.Promised.{appends_report, report_of_input}
 use Rattle.lk_replay.proofs.stream.run.Goals as goal
 
 pub returns-clause-written : goal.returns-clause-written
@@ -14,18 +13,15 @@ returns-clause-written g c =
     let old = g.W.Write.contents c.args.output.now in
     let new = g.W.Write.contents c.write_report.new.output in
     on_ok_weaker c.write_report.result
-    (reported _ _ _ _ (Appends old new) c.deref.ensures.value text.taken text.bounded text.whole)
+    (λ appended. appends_report _ _ _ (report_of_input _ _ _ _ (Appends old new)
+    c.deref.ensures.value text.taken text.bounded text.whole appended))
     c.write_report.ensures.written
-
-pub returns-clause-promised : goal.returns-clause-promised
-returns-clause-promised g c =
-    on_ok_weaker c.write_report.result (appended_report _ _ _) (returns-clause-written g c)
 
 pub returns-clause-ending : goal.returns-clause-ending
 returns-clause-ending g c =
     let text = c.in_ok-text.ensures in
     IfOk-weaker c.write_report.result _ _
-    (λ e. reported _ _ _ _ (λ (r : List ℕ). e ≡ ending_of r) c.deref.ensures.value text.taken
+    (λ e. report_of_input _ _ _ _ (λ (r : List ℕ). e ≡ ending_of r) c.deref.ensures.value text.taken
     text.bounded text.whole)
     c.write_report.ensures.ending
 
@@ -34,5 +30,5 @@ returns-clause-prefix g c = λ is.
     let text = c.in_ok-text.ensures in
     let old = g.W.Write.contents c.args.output.now in
     let new = g.W.Write.contents c.write_report.new.output in
-    reported _ _ _ _ (AppendsPrefix old new) c.deref.ensures.value text.taken text.bounded
+    report_of_input _ _ _ _ (AppendsPrefix old new) c.deref.ensures.value text.taken text.bounded
     text.whole (c.write_report.ensures.prefix is)

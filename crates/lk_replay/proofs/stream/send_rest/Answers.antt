@@ -1,6 +1,6 @@
 -- Each part goes on its way, and then the last one.
 use Rattle.std.proofs.Common.{◌∙◌, [], arith, refl}
-use Rattle.lk_replay.proofs.Passed.{arrived, cut_short, goes_on, passes_none, passes_through, told}
+use Rattle.lk_replay.proofs.Passed.{all_went, cut_short, goes_on, passes_none, passes_through, told}
 use Rattle.lk_replay.proofs.stream.send_rest.Goals as goal
 
 pub loop-ending-init : goal.loop-ending-init
@@ -32,5 +32,5 @@ loop-ending-preserved g c = record {
 
 pub returns-in-Some-clause-written : goal.returns-in-Some-clause-written
 returns-in-Some-clause-written g c =
-    arrived _ _ _ _ (goes_on _ _ [] _ _ [] _ _ _ c.loop-ending.invariant.way
+    all_went _ _ _ _ (goes_on _ _ [] _ _ [] _ _ _ c.loop-ending.invariant.way
     c.fill-len.ensures.text (passes_through _ _ _ c.in_ok-send.ensures.written)) c.in-Some.ensures.1

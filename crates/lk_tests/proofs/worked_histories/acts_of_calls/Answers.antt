@@ -1,5 +1,5 @@
 use Rattle.std.proofs.Common.{◌≡◌, [], ◌∷◌, refl}
-use Rattle.lk_tests.specs.WorkedHistories.{handed_on, writers_in_turn}
+use Rattle.lk_tests.specs.WorkedHistories.{handover, writers_in_turn}
 use Rattle.lk_locks.proofs.CallLaws.{calls_act_once, acts_are_called}
 use Rattle.lk_locks.proofs.Places.{one_of}
 use Rattle.lk_tests.proofs.WorkedHistories.{mcs_legal, simple_legal, not_of_one, not_of_two}
@@ -10,7 +10,7 @@ use Rattle.lk_locks.specs.declared.kinds.Entry.TheVariants.{Called, Announced, A
 use Rattle.lk_tests.proofs.worked_histories.acts_of_calls.Goals as goal
 
 pub returns-clause-once : goal.returns-clause-once
-returns-clause-once c = calls_act_once Mcs 2 handed_on mcs_legal
+returns-clause-once c = calls_act_once Mcs 2 handover mcs_legal
 
 pub returns-clause-never : goal.returns-clause-never
 returns-clause-never c = λ h.
@@ -39,7 +39,7 @@ returns-clause-unannounced c = λ h.
     cc
 
 pub returns-clause-called : goal.returns-clause-called
-returns-clause-called c = acts_are_called Mcs 2 handed_on mcs_legal
+returns-clause-called c = acts_are_called Mcs 2 handover mcs_legal
 
 pub returns-clause-not_called : goal.returns-clause-not_called
 returns-clause-not_called c = λ h. nothing_done 0 Acquire [] (h 0 Acquire [] [] refl).0

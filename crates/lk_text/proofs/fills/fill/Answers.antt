@@ -1,4 +1,4 @@
--- What comes before a place, what fills it, and the rest.
+-- The text before a place, its value, and the rest.
 use Rattle.std.proofs.Common.{arith, rules, string_bytes}
 use Rattle.std.proofs.lemmas.Grind.{common_steps}
 use Rattle.std.proofs.lemmas.Str.Pattern.{split_parts}

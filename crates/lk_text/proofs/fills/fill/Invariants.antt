@@ -1,4 +1,4 @@
--- What is written, and what is left of the sentence, are the sentence.
+-- The text written so far and the rest of the sentence are the sentence.
 use Rattle.std.proofs.Common.{◌≡◌, ◌++◌, length, string_bytes, IsUtf8}
 use Rattle.lk_text.specs.Filled.{sentence_with, texts_of}
 use Rattle.lk_text.proofs.fills.fill.Given as goal

@@ -1,4 +1,4 @@
--- What is left of the text ends as the text does.
+-- The rest of the text ends as the text does.
 use Rattle.lk_text.specs.Lines.{bytes_left}
 use Rattle.lk_text.specs.invariants.{ReadsText}
 use Rattle.lk_text.proofs.follow.follow_input.Given as goal

@@ -3,8 +3,7 @@ use Rattle.std.proofs.lemmas.List.{length-map}
 use Rattle.clap.specs.Lexer.{usize_max}
 use Rattle.std.proofs.Common.{String, Global, length, map, string_bytes, ◌<◌, ◌≤◌, ◌^◌, rules, ◌≡◌}
 use Rattle.std.proofs.Common.{◌∙◌, ℕ, List, Option, Some, option_map, codes, ap, ap₂, sym, refl}
-use Rattle.std.proofs.Common.{subst}
-use Rattle.std.proofs.Common.{true, true≢false, arith, []}
+use Rattle.std.proofs.Common.{subst, true, true≢false, arith, []}
 use Rattle.std.specs.Prelude.{Err}
 use Rattle.clap.specs.Words.{App, Text, is_simple, subcommand_of, takes}
 use Rattle.clap.proofs.OnLiterals.{clap_on_literals}
@@ -44,7 +43,7 @@ returns-in-Err-clause-batch c = λ workers files line few many some plain.
 is_simple_program : is_simple program_app ≡ true
 is_simple_program = refl
 
--- what a parser with this command finds of this line
+-- a parser with this command finds this subcommand of this line
 found_in : {A X : Type 0} (app : App) (words line : List Text) (found : Option X)
     (sub : App → List Text → Option X) (x : X)
     → (is_simple app ≡ true → A × (found ≡ sub app words))
@@ -80,24 +79,8 @@ returns-in-Some-clause-batch c = λ workers files line few many some plain.
     c.batch_given.ensures.plain workers files
     (same_Some _ _ (sym c.in-Some.ensures.rows ∙ ap (option_map (λ p. p.1)) found)) few many some
 
-pub returns-in-Some-clause-unfit : goal.returns-in-Some-clause-unfit
-returns-in-Some-clause-unfit c = λ workers files line unfit some plain.
-    let found =
-    found_in _ _ _ _ subcommand_of _ c.in-Ok.ensures.matches c.in_ok-command.ensures line
-    (batch_found workers files some plain) in
-    c.batch_given.ensures.unfit workers files
-    (same_Some _ _ (sym c.in-Some.ensures.rows ∙ ap (option_map (λ p. p.1)) found)) unfit
-
 pub returns-clause-batch : goal.returns-clause-batch
 returns-clause-batch c = λ workers files line few many some plain.
-    let found =
-    found_in _ _ _ _ subcommand_of _ c.in-Ok.ensures.matches c.in_ok-command.ensures line
-    (batch_found workers files some plain) in
-    absurd (true≢false (sym (c.in-None.ensures.found.1
-    (first_of_pairs _ _ (out-ArgMatches c.in-Ok.matches).subcommand _ _ found))))
-
-pub returns-clause-unfit : goal.returns-clause-unfit
-returns-clause-unfit c = λ workers files line unfit some plain.
     let found =
     found_in _ _ _ _ subcommand_of _ c.in-Ok.ensures.matches c.in_ok-command.ensures line
     (batch_found workers files some plain) in

@@ -5,7 +5,8 @@ use Rattle.std.proofs.lemmas.Result.{err_from_is_err_and}
 use Rattle.std.specs.Io.KnownBytes.{Appends}
 use Rattle.lk_workers.specs.Batch.{batch_text_of}
 use Rattle.lockreplay.specs.Jobs.{status_of_reports}
-use Rattle.lockreplay.proofs.Sent.{bytes_of, cut_batch, same_reports}
+use Rattle.lk_workers.specs.invariants.Collected.{bytes_of}
+use Rattle.lockreplay.proofs.Sent.{cut_batch, same_reports}
 use Rattle.lockreplay.proofs.jobs.replay_files.Goals as goal
 
 pub returns : goal.returns

@@ -2,7 +2,7 @@
 use Rattle.std.proofs.Common.{◌+◌, drop}
 use Rattle.lk_replay.proofs.Passed.{IsUnderWay}
 use Rattle.lk_workers.specs.Batch.{numbered_from, batch_text_of}
-use Rattle.lockreplay.proofs.Sent.{bytes_of}
+use Rattle.lk_workers.specs.invariants.Collected.{bytes_of}
 use Rattle.lockreplay.proofs.sending.send_reports.Given as goal
 
 abbrev pub invariant-loop-place : goal.invariant-loop-place

@@ -8,13 +8,12 @@ unfolding line_start
 returns-clause-text c =
     rw (
       c.put.ensures.text,
-      c.put_block-at-3.ensures.text,
       c.put_block-at-2.ensures.text,
+      c.put_block-at.ensures.text,
       c.put-at-2.ensures.text,
       c.put_number-at.ensures.text,
       c.put-at.ensures.text,
-      c.put_block-at.ensures.text,
-      c.block-len.ensures.text,
+      c.put_count-at.ensures.text,
       c.move_block-len.ensures.text,
       c.outcome_block-len.ensures.text,
     ) (simp append_assoc)

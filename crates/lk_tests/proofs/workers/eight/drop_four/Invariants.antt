@@ -1,4 +1,4 @@
-use Rattle.lk_workers.specs.invariants.Rounds.{IsIdleOf}
+use Rattle.lk_workers.specs.invariants.Running.{IsIdleOf}
 use Rattle.lk_tests.proofs.workers.eight.drop_four.Given as goal
 
 abbrev pub invariant-loop : goal.invariant-loop

@@ -1,4 +1,4 @@
--- What is kept, and as many of the bytes as have room.
+-- The bytes kept so far, and as many more as have room.
 use Rattle.std.proofs.Common.{◌≡◌, ◌≤◌, ◌-◌, ◌++◌, length, take, min, ap, sym, ◌∙◌, arith}
 use Rattle.std.proofs.Common.{length-take-le}
 use Rattle.std.proofs.lemmas.Slice.{take-put_mid}

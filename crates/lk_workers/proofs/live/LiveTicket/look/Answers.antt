@@ -1,6 +1,6 @@
 use Rattle.std.proofs.Common.{rules, ap, refl, eq-eqb, ne_eqb, true, false}
 use Rattle.lk_workers.specs.Seats.{seat_with}
-use Rattle.lk_workers.proofs.SeatMoves.{look, looked}
+use Rattle.lk_workers.proofs.SeatMoves.{look, view_after_look}
 use Rattle.lk_workers.proofs.live.LiveTicket.look.Goals as goal
 
 pub load-serving-requires : goal.load-serving-requires
@@ -11,7 +11,7 @@ pub invariant_of-seat : goal.invariant_of-seat
 invariant_of-seat c = let t = c.load-serving.ensures.2 _ (ap (λ m. m.0) c.seat.invariant.0) in
     let i = c.seat.inside in
     let r = seat_with i.phase i.ticket i.left i.taken i.seen i.seat.me.0 in (
-      looked _ _ r _ _ true t.0 (ap (λ m. m.1) c.seat.invariant.0)
+      view_after_look _ _ r _ _ true t.0 (ap (λ m. m.1) c.seat.invariant.0)
           (eq-eqb _ _ c.if-served.true) refl,
       c.seat.invariant.1,
     )
@@ -21,8 +21,8 @@ invariant_of-seat-else-served c =
     let t = c.load-serving.ensures.2 _ (ap (λ m. m.0) c.seat.invariant.0) in
     let i = c.seat.inside in
     let r = seat_with i.phase i.ticket i.left i.taken i.seen i.seat.me.0 in (
-      looked _ _ r _ _ false t.0 (ap (λ m. m.1) c.seat.invariant.0) (ne_eqb _ _ c.if-served.false)
-          (search rules),
+      view_after_look _ _ r _ _ false t.0 (ap (λ m. m.1) c.seat.invariant.0)
+          (ne_eqb _ _ c.if-served.false) (search rules),
       c.seat.invariant.1,
     )
 

@@ -1,5 +1,5 @@
 -- All moves are left, on a new lock.
-use Rattle.std.proofs.Common.{◌∙◌, ◌≡◌, [], ap, arith}
+use Rattle.std.proofs.Common.{◌∙◌, ◌≡◌, [], ap, arith, refl}
 use Rattle.lk_locks.specs.State as lock
 use Rattle.lk_replay.proofs.Printed.{replay_printed}
 use Rattle.lk_replay.specs.Occupancy.{occupancy_of}
@@ -12,12 +12,12 @@ machine_is c = c.at_start.ensures.start ∙ ap lock.start_of c.shape.ensures
 pub returns-clause-text : goal.returns-clause-text
 returns-clause-text c =
     replay_printed c.args.schedule.now _ _ _ _ (c.new.ensures
-    ∙ ap (λ k. occupancy_of k []) c.kind.ensures) c.of.ensures (machine_is c)
+    ∙ ap (λ k. occupancy_of k []) c.kind.ensures) refl (machine_is c)
     c.moves.ensures.moves
 
 pub invariant_of-result : goal.invariant_of-result
 invariant_of-result c = (
-  omega (arith, c.of.ensures, c.moves.ensures.few),
+  omega (arith, c.moves.ensures.few),
   rw (
     c.new.ensures ∙ ap (λ k. occupancy_of k []) c.kind.ensures,
     machine_is c,

@@ -1,7 +1,7 @@
 -- The next move is accepted and printed, and the rest is left.
 use Rattle.std.proofs.Common.{None, ap, arith, sym, ◌≡◌, ◌∙◌}
 use Rattle.lk_locks.proofs.Machines.{accepted_next}
-use Rattle.lk_locks.proofs.Tracking.{entries_may_come, tracked_on}
+use Rattle.lk_locks.proofs.Keeping.{entries_may_come, tracked_on}
 use Rattle.lk_locks.specs.Steps.{refusal_of, refused_with}
 use Rattle.lk_replay.specs.Occupancy.{Occupancy}
 use Rattle.lk_replay.proofs.report.replay.Replay.print_next.Goals as goal
@@ -20,7 +20,7 @@ invariant_of-self-2 c =
     let line = c.in-Some.line.now in
     let accepted : refusal_of c.self.inside.machine line.thread line.action ≡ None =
     sym c.play.ensures.refused ∙ ap refused_with c.in-Ok.is in (
-      omega (arith, c.self.invariant.0, c.count_on.ensures, c.in-Some.ensures.cases.1),
+      omega (arith, c.self.invariant.0, c.in-Some.ensures.cases.1),
       tracked_on c.self.inside.machine _ c.self.inside.occupancy.sequential _
           _ _ _ c.self.invariant.1 accepted c.in-Ok.ensures.entries
           (accepted_next _ c.self.inside.machine line.thread line.action accepted

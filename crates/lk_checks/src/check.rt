@@ -1,0 +1,252 @@
+//! The job of checking files, by several threads if that is asked for. The reports come in the
+//! order of the files.
+
+ghost use Rattle.lk_text.specs.Verdicts.{AreChecked, EndsInput};
+ghost use Rattle.lk_checks.specs.invariants.{Adds};
+ghost use Rattle.lk_text.specs.Sources.{left_in};
+ghost use Rattle.std.specs.List.{All};
+ghost use Rattle.std.specs.Prelude.{◌≡◌, ◌++◌, ◌∷◌, [], IfOk, OnOk, length, vec_len};
+
+use lk_text::follow::{follow_file, follow_input, unread};
+use lk_text::formats::{COLORED, Format, PLAIN, put_counts, put_json, put_tap, put_text};
+use lk_text::progress::Progress;
+use lk_text::report::{Ending, Report};
+use lk_text::{Failure, STANDARD, Text, put_plan};
+use std::alloc::{AllocError, Global};
+use std::io::{Read, Write};
+use std::rt::Runtime;
+use std::thread::{Threads, map_vec};
+use std::{fs, io};
+
+/// A check that was asked for. A file `-` is standard input.
+#[derive(Debug, Drop)]
+pub struct CheckJob {
+    pub format: Format,
+    pub summary: bool,
+    /// Whether nothing is written.
+    pub quiet: bool,
+    /// Whether the text has the colors of a terminal.
+    pub colored: bool,
+    /// The number of threads that share the files.
+    pub workers: u8,
+    pub files: Vec<String>,
+}
+
+// Writes the report of a job's input of this number, from 1, and this name. There is no summary of
+// one that could not be read.
+fn put_report(text: &mut Text, job: &CheckJob, number: usize, name: &str, report: &Report) {
+    let counted = job.summary && report.ending != Ending::Unread;
+    let colors = if job.colored { COLORED } else { PLAIN };
+    match job.format {
+        _ if job.quiet => {}
+        Format::Text => {
+            put_text(text, name, report, colors);
+            if counted {
+                put_counts(text, name, report, colors);
+            }
+        }
+        Format::Tap => put_tap(text, number, name, report, counted),
+        Format::Json => put_json(text, name, report, counted),
+    }
+}
+
+// The reports of a job, in the order of its files.
+#[derive(Drop)]
+struct Reports<'a> {
+    job: &'a CheckJob,
+    // what waits to be written
+    text: Text,
+    endings: Vec<Ending>,
+}
+
+impl<'a> Reports<'a> {
+    fn new(alloc: Global, job: &'a CheckJob) -> Reports<'a>
+        ensures { result.endings.items ≡ [] }
+    {
+        let mut text = Text::new(alloc);
+        if job.format == Format::Tap && !job.quiet {
+            put_plan(&mut text, job.files.len());
+        }
+        let endings = Vec::new(alloc);
+        Reports { job, text, endings }
+    }
+
+    // Writes the report of the next file, of this name.
+    fn put<O: Write>(&mut self, output: &mut O, name: &str, report: &Report) -> Result<(), Failure>
+        ensures { OnOk result
+            (self.new.endings.items ≡ self.old.endings.items ++ report.now.ending ∷ []) }
+    {
+        let number = self.endings.len().saturating_add(1);
+        put_report(&mut self.text, self.job, number, name, report);
+        self.text.write_to(output)?;
+        self.endings.push(report.ending)?;
+        Ok(())
+    }
+}
+
+// Checks the file of this name. A terminal is `told` how far it is.
+fn check_file<R: Runtime>(
+    rt: &R,
+    alloc: Global,
+    name: &str,
+    told: bool,
+) -> Result<Report, AllocError>
+    ensures { IfOk result
+        (λ report. EndsInput (left_in R.File.remaining R.Reader.remaining) report.ending) }
+{
+    let mut progress = Progress::new(rt, told);
+    let report = follow_file(
+        rt,
+        alloc,
+        name,
+        &[],
+        |number, _, _| -> Result<(), AllocError> {
+            progress.line(name, number);
+            Ok(())
+        },
+    );
+    progress.end();
+    report
+}
+
+// Checks a file that was opened, or could not be.
+fn check_opened<I: Read + Drop>(alloc: Global, input: io::Result<I>) -> Result<Report, AllocError>
+    ensures { IfOk result (λ report. EndsInput I.remaining report.ending) }
+{
+    match input {
+        Ok(input) => follow_input(alloc, input, &[], |_, _, _| -> Result<(), AllocError> {
+            Ok(())
+        }),
+        Err(error) => Ok(unread(alloc, &error)),
+    }
+}
+
+// Checks files side by side, each by a thread of its own.
+fn check_side_by_side<R: Threads + Sync, I: Read + Send + Drop>(
+    rt: &R,
+    alloc: Global,
+    inputs: Vec<io::Result<I>>,
+) -> Result<Vec<Result<Report, AllocError>>, AllocError>
+    ensures one_each { IfOk result (λ reports. vec_len reports ≡ vec_len inputs) }
+    ensures each { IfOk result (λ reports. AreChecked I.remaining reports.items) }
+{
+    map_vec(
+        rt,
+        inputs,
+        &|input: io::Result<I>| check_opened(alloc, input),
+    )
+}
+
+// Opens the files of these names.
+fn open_each<R: Runtime>(
+    rt: &R,
+    alloc: Global,
+    names: &[String],
+) -> Result<Vec<io::Result<R::File>>, AllocError> {
+    let mut inputs = Vec::new(alloc);
+    for name in names {
+        inputs.push(fs::open(rt, name.as_str()))?;
+    }
+    Ok(inputs)
+}
+
+// Checks the files of a round side by side, and writes their reports.
+fn check_round<R: Runtime + Threads + Sync, O: Write>(
+    rt: &R,
+    alloc: Global,
+    names: &[String],
+    reports: &mut Reports<'_>,
+    output: &mut O,
+) -> Result<(), Failure>
+where
+    R::File: Send,
+    ensures { OnOk result (Adds (left_in R.File.remaining R.Reader.remaining) (length names.now)
+        reports.old.endings.items reports.new.endings.items) }
+{
+    let inputs = open_each(rt, alloc, names)?;
+    let mut checked = check_side_by_side(rt, alloc, inputs)?.into_iter();
+    for name in names {
+        let report = checked.next().unwrap_or(Err(AllocError))?;
+        reports.put(output, name, &report)?;
+    }
+    Ok(())
+}
+
+// Checks the files by rounds of as many as there are workers.
+fn check_rounds<R: Runtime + Threads + Sync, O: Write>(
+    rt: &R,
+    alloc: Global,
+    job: &CheckJob,
+    reports: &mut Reports<'_>,
+    output: &mut O,
+) -> Result<(), Failure>
+where
+    R::File: Send,
+    ensures { OnOk result (Adds (left_in R.File.remaining R.Reader.remaining)
+        (length job.now.files.items) reports.old.endings.items reports.new.endings.items) }
+{
+    let mut rest = job.files.as_slice();
+    while rest.len() > 0 {
+        let (names, others) = rest.split_at((job.workers as usize).max(1).min(rest.len()));
+        check_round(rt, alloc, names, reports, output)?;
+        rest = others;
+    }
+    Ok(())
+}
+
+// Checks the files one after another, and writes each report as soon as it is there.
+fn check_each<R: Runtime, O: Write>(
+    rt: &R,
+    alloc: Global,
+    files: &[String],
+    told: bool,
+    reports: &mut Reports<'_>,
+    output: &mut O,
+) -> Result<(), Failure>
+    ensures { OnOk result (Adds (left_in R.File.remaining R.Reader.remaining) (length files.now)
+        reports.old.endings.items reports.new.endings.items) }
+{
+    for name in files {
+        let report = check_file(rt, alloc, name, told)?;
+        reports.put(output, name, &report)?;
+    }
+    Ok(())
+}
+
+// Whether several threads share the files. They are checked one after another if one is standard
+// input.
+fn is_shared(job: &CheckJob) -> bool {
+    let is_given = job.files.iter().any(|name| name.as_str() == STANDARD);
+    job.workers > 1 && job.files.len() > 1 && !is_given
+}
+
+/// Checks the files, writes their reports, and gives their endings, in the order of the files.
+/// `told` if a terminal is told how far it is.
+///
+/// # Errors
+///
+/// The output failed, or a request for memory was refused. A file that fails is no error: that is
+/// reported.
+pub fn check_files<R: Runtime + Threads + Sync, O: Write>(
+    rt: &R,
+    alloc: Global,
+    job: &CheckJob,
+    told: bool,
+    output: &mut O,
+) -> Result<Vec<Ending>, Failure>
+where
+    R::File: Send,
+    ensures one_each { IfOk result
+        (λ endings. length endings.items ≡ length job.now.files.items) }
+    ensures each { IfOk result
+        (λ endings. All (EndsInput (left_in R.File.remaining R.Reader.remaining)) endings.items) }
+{
+    let mut reports = Reports::new(alloc, job);
+    if is_shared(job) {
+        check_rounds(rt, alloc, job, &mut reports, output)?;
+    } else {
+        check_each(rt, alloc, &job.files, told, &mut reports, output)?;
+    }
+    output.flush()?;
+    Ok(reports.endings)
+}

@@ -1,9 +1,0 @@
--- One ending more for each file so far, that of an input.
-use Rattle.lk_text.specs.Sources.{left_in}
-use Rattle.lk_jobs.specs.invariants.{Adds}
-use Rattle.lk_jobs.proofs.check.check_each.Given as goal
-
-abbrev pub invariant-loop-name : goal.invariant-loop-name
-invariant-loop-name g l =
-    Adds (left_in g.R.File.Read.remaining g.R.Reader.Read.remaining) l.name-index
-    l.initial.reports.endings.items l.reports.endings.items

@@ -1,0 +1,12 @@
+pub mod Types
+pub mod Changes
+pub mod Listed
+pub mod Altered
+pub mod Halves
+pub mod Steps
+pub mod Judged
+pub mod Makes
+pub mod Positions
+pub mod Choices
+pub mod Unchanged
+pub mod invariants

@@ -1,0 +1,18 @@
+//! The changes of the FIFO read-write lock, in the order of its code.
+
+use crate::{Change, Found, How, PhaseName, Written};
+
+pub static CHANGES: [Change; 11] = changes! {
+    TryRead: How::Find(Found::ClearFlag);
+    TryRead: How::LeaveOut(Written::All);
+    LeaveRead: How::LeaveOut(Written::All);
+    TryWrite: How::Find(Found::ClearFlag);
+    TryWrite: How::Find(Found::NoReader);
+    TryWrite: How::LeaveOut(Written::All);
+    // it sets the flag only when it enters
+    TryWrite: How::Wait;
+    AwaitReaders: How::Find(Found::NoReader);
+    LeaveWrite: How::LeaveOut(Written::All);
+    TryDowngrade: How::LeaveOut(Written::Counts);
+    TryDowngrade: How::LeaveOut(Written::Flag);
+};

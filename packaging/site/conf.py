@@ -1,0 +1,99 @@
+"""Sphinx's settings for the site (`make site`): the documents of the repository, with the page at
+its root, usable from disk.
+
+The table of contents is the index by reader of docs/README.md: each document at its first place
+there, and all others at the end. A link to the page leads to the copy at the root, and the lessons
+of examples/README.md are such links. Theme, search and dark mode are Furo's.
+"""
+import re
+from os.path import normpath
+from pathlib import Path
+from shutil import copyfile
+
+from pygments.lexers.special import TextLexer
+
+TOP = Path(__file__).resolve().parents[2]
+PAGE = "lockreplay.html"
+NORMALIZE = "normalize.css/normalize.css"
+# Packages of which the site has scripts or styles
+OF_OTHERS = ("furo", "python3-sphinx", "libjs-jquery", "libjs-underscore", "node-normalize.css")
+AS_THE_SYSTEM = """@media not print {
+  @media (prefers-color-scheme: dark) { body:not([data-theme="light"]) %s }
+}
+"""
+
+project = "lockreplay"
+version = release = (TOP / "VERSION").read_text(encoding="utf-8").strip()
+root_doc = "README"
+include_patterns = ["*.md", "docs/*.md", "[a-z]*/README.md", "examples/recording/README.md",
+                    "page/MODULE.md"]
+exclude_patterns = ["crates", "dist", "out"]
+extensions = ["myst_parser", "sphinx.ext.githubpages"]
+myst_heading_anchors = 4
+# A block of Rattle has clauses that Rust does not have.
+suppress_warnings = ["misc.highlighting_failure"]
+
+html_theme = "furo"
+html_title = f"lockreplay {release}"
+html_extra_path = [str(TOP / "page" / PAGE)]
+html_copy_source = html_show_copyright = html_show_sphinx = html_use_index = False
+# A summary is fetched, and a page from disk may fetch nothing.
+html_show_search_summary = False
+templates_path = ["."]
+html_sidebars = {"**": [*(f"sidebar/{part}.html" for part in ("brand", "search", "scroll-start")),
+                        "start.html", "sidebar/navigation.html", "sidebar/scroll-end.html"]}
+
+
+def contents(documents):
+    """The table of contents: a list for each reader."""
+    rows = re.findall(r"^\| (?!You |-)(.+?) \| (.*) \|$",
+                      (TOP / "docs" / "README.md").read_text(encoding="utf-8"), re.MULTILINE)
+    left = sorted(documents - {root_doc})
+    for reader, links in [*rows, ("want all", "".join(f"](../{name}.md)" for name in left))]:
+        named = [normpath(f"docs/{it}") for it in re.findall(r"\]\(([\w./-]+)\.md\b", links)]
+        listed = [name for name in dict.fromkeys(named) if name in left]
+        left = [name for name in left if name not in listed]
+        yield "\n".join(["", "```{toctree}", ":hidden:", f":caption: You {reader}",
+                         *(f"/{name}" for name in listed), "```", ""])
+
+
+def read(app, document, source):
+    """The text of a document as it is on the site."""
+    text, up = source[0], "../" * document.count("/")
+    if document == "examples/README":
+        text = re.sub(r"^\| (.+?) \| `([\w-]+)` \|", rf"| [\1](page/{PAGE}#lesson=\2) | `\2` |",
+                      text, flags=re.MULTILINE)
+    if document == root_doc:
+        text += "".join(contents(app.env.found_docs))
+    source[0] = re.sub(rf"\[([^\]]+)\]\([./]*page/{PAGE}(#\S+)?\)",
+                       lambda it: f'<a href="{up}{PAGE}{it[2] or ""}">{it[1]}</a>', text)
+
+
+def mend(path, change):
+    path.write_text(change(path.read_text(encoding="utf-8")), encoding="utf-8")
+
+
+def finish(app, _):
+    """A host shows index.html first. Debian's Furo is mended: it names two parts as no browser
+    loads them from disk, by a path of Debian's web server and as a module, and it has lost the rule
+    by which the system's choice of dark colours counts.
+    """
+    site = Path(app.outdir)
+    copyfile(site / f"{root_doc}.html", site / "index.html")
+    for package in OF_OTHERS:
+        copyfile(f"/usr/share/doc/{package}/copyright", site / "_static" / f"{package}.copyright")
+    normalize = (Path("/usr/share/javascript") / NORMALIZE).read_text(encoding="utf-8")
+    gumshoe = site / "_static" / "scripts" / "gumshoe-patched.js"
+    mend(gumshoe.with_name("furo.js"), lambda text: text.replace(
+        f'import Gumshoe from "./{gumshoe.name}";', gumshoe.read_text(encoding="utf-8")))
+    mend(site / "_static" / "styles" / "furo.css", lambda text: text.replace(
+        f"@import url(/javascript/{NORMALIZE});", normalize) + AS_THE_SYSTEM % re.search(
+            r'body\[data-theme="dark"\] (\{[^}]*\})', text)[1])
+
+
+def setup(app):
+    # The languages of docs/LOCKS.md are those of its locks.
+    for lock in ("ticket", "mcs", "rw-simple", "rw-fifo"):
+        app.add_lexer(lock, TextLexer)
+    app.connect("source-read", read)
+    app.connect("build-finished", finish)

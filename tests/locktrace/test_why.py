@@ -1,0 +1,61 @@
+"""`locktrace why`: its verdicts and its runs beside a search over the second replayer."""
+import re
+
+import pytest
+
+from changed_locks import AS_IT_IS, CHANGES, Searched
+
+VERDICT = re.compile(r"(?P<illegal>[\d,]+) moves?, and thread \d .+"
+                     r"|(?P<stuck>[\d,]+) moves? to where a call can never end: .+"
+                     r"|harmless: all (?P<harmless>[\d,]+) states? were searched")
+ROUNDS = 2  # if the program is told of none
+
+
+def read(text):
+    """A verdict: its kind, and its number of moves or states."""
+    found = VERDICT.fullmatch(text)
+    return found and (found.lastgroup, int(found[found.lastgroup].replace(",", "")))
+
+
+def parts_of(output):
+    """The heading, and by the name of each change the verdict with the lines after it."""
+    heading, *parts = re.split(r"\n(?! )", output.removesuffix("\n"))
+    return heading, dict(part.split(": ", 1) for part in parts)
+
+
+@pytest.mark.parametrize("threads", [2, 3])
+@pytest.mark.parametrize("lock", CHANGES)
+def test_verdicts(tracer, lock, threads):
+    output, *more = tracer.run("why", lock, threads)
+    heading, verdicts = parts_of(output)
+    assert more == ["", 0]
+    assert heading == f"{lock}, {threads} threads with {ROUNDS} rounds each"
+    assert list(verdicts) == [AS_IT_IS, *CHANGES[lock]]
+    assert {change: read(text) for change, text in verdicts.items()} \
+        == {change: Searched(lock, threads, ROUNDS, change).verdict() for change in verdicts}
+
+
+def followed(lock, run):
+    """The state to which a run leads; None if its last move does harm."""
+    state = lock.start()
+    for line in run:
+        move, moves = re.sub(r"\(\d+\)", "", line.strip()), dict(lock.moves(state))
+        assert move in moves
+        state = moves[move]
+    return state
+
+
+@pytest.mark.parametrize("lock, change", [(lock, change) for lock, changes in CHANGES.items()
+                                          for change in [AS_IT_IS, *changes]])
+def test_run(tracer, lock, change):
+    """A run has as many moves as its line says, and goes wrong in that way. There may be other
+    runs of this length."""
+    output, *more = tracer.run("why", lock, 2, "--runs")
+    assert more == ["", 0]
+    told, *run = parts_of(output)[1][change].split("\n")
+    kind, number = read(told)
+    space = Searched(lock, 2, ROUNDS, change)
+    end = followed(space.lock, run)
+    assert len(run) == (0 if kind == "harmless" else number)
+    assert (end is None) == (kind == "illegal")
+    assert (end in space.ending()) == (kind == "harmless")

@@ -1,0 +1,122 @@
+"""The site that `make site` writes: its links and anchors, what it loads, its search, its themes.
+
+It is looked at from disk, as somebody has it who was sent the folder.
+"""
+import re
+from html.parser import HTMLParser
+
+import pytest
+
+from installs import make
+from recorders import once
+from tree import EXAMPLES, output
+
+# What a browser loads by itself: all but the links that a reader follows.
+LOADING = {("script", "src"), ("img", "src"), ("link", "href"), ("iframe", "src"),
+           ("source", "srcset"), ("object", "data")}
+CHROMIUM = ("chromium", "--headless", "--no-sandbox", "--disable-gpu", "--virtual-time-budget=9000")
+THEMES = """<link rel="stylesheet" href="file://{site}/_static/styles/furo.css"><body><script>
+onload = () => document.body.append(...["auto", "dark", "light"].map((theme) => {{
+  document.body.dataset.theme = theme;
+  return `${{theme}}=${{getComputedStyle(document.body).backgroundColor}};`;
+}}));
+</script>"""
+PLAIN = "const [, file] = process.argv; new vm.Script(fs.readFileSync(file, 'utf8'))"
+
+
+class Document(HTMLParser):
+    """The anchors of a document, and where its elements lead."""
+
+    def __init__(self, path):
+        super().__init__()
+        self.path, self.anchors, self.leads = path, {""}, []
+        self.feed(path.read_text(encoding="utf-8"))
+
+    def handle_starttag(self, tag, attrs):
+        named = dict(attrs)
+        self.anchors |= {named.get("id"), named.get("name")}
+        self.leads += [(tag, name, named[name]) for name in ("href", "src", "srcset", "data")
+                       if named.get(name)]
+
+
+@pytest.fixture(scope="session")
+def site(shared):
+    folder = shared / "site"
+    once(folder, lambda: make("site", f"SITE={folder}"))
+    return folder
+
+
+@pytest.fixture(scope="session")
+def documents(site):
+    """The documents of the site by their paths. The page has tests of its own."""
+    paths = set(site.rglob("*.html")) - {site / "lockreplay.html"}
+    return {path: Document(path) for path in paths}
+
+
+def fault_of(document, lead, site, documents):
+    """What is wrong with a link from one document to another, or to the page, if anything."""
+    path, _, anchor = lead.partition("#")
+    file = (document.path.parent / path.partition("?")[0]).resolve() if path else document.path
+    if not file.is_file() or not file.is_relative_to(site):
+        return f"there is no {path}"
+    if file == site / "lockreplay.html":
+        lesson = re.match(r"lesson=([\w-]+)", anchor)
+        is_there = (EXAMPLES / f"{lesson[1]}.schedule").is_file() if lesson else not anchor
+        return None if is_there else f"there is no lesson {anchor}"
+    is_there = anchor in documents[file].anchors if file in documents else not anchor
+    return None if is_there else f"{path} has no {anchor}"
+
+
+def test_links(site, documents):
+    faults = [f"{document.path.relative_to(site)}: {fault}" for document in documents.values()
+              for _, _, lead in document.leads if not re.match(r"[a-z]+:", lead)
+              if (fault := fault_of(document, lead, site, documents))]
+    assert len(documents) > 25 and faults == []
+
+
+def test_nothing_from_elsewhere(site, documents):
+    loaded = [lead for document in documents.values() for tag, name, lead in document.leads
+              if (tag, name) in LOADING]
+    styles = [path.read_text(encoding="utf-8") for path in site.rglob("*.css")]
+    loaded += [path for text in styles for path in re.findall(r"url\(['\"]?([^)'\"]+)", text)]
+    loaded += [path for text in styles for path in re.findall(r"@import\s+['\"]([^'\"]+)", text)]
+    assert len(loaded) > 100
+    assert [it for it in loaded if re.match(r"/|(?!data:)[a-z]+:", it)] == []
+
+
+def test_one_click(documents, site):
+    """Each document leads to the page, the lessons and the plans, and the lessons to the page."""
+    due = {site / "lockreplay.html#", site / "examples/README.html#schedules-to-learn-from",
+           site / "docs/GUIDE.html#ten-minutes-the-ticket-lock"}
+    for path, document in documents.items():
+        leads = (f"{path.name}{lead}" if lead[0] == "#" else lead for _, _, lead in document.leads)
+        assert due <= {(path.parent / lead).resolve() for lead in leads}, path
+    lessons = {lead for _, _, lead in documents[site / "examples" / "README.html"].leads}
+    assert "../lockreplay.html#lesson=mcs-late-link" in lessons
+
+
+def test_search(site):
+    """A word that one document has, and a word that none has, in a browser that reads from disk."""
+    address = f"file://{site}/search.html?q="
+    found = output(*CHROMIUM, "--dump-dom", f"{address}planted", stderr=None)
+    assert 'href="docs/PLANTED.html' in found.partition('id="search-results"')[2]
+    none = output(*CHROMIUM, "--dump-dom", f"{address}nosuchwordhere", stderr=None)
+    assert "did not match any documents" in none
+
+
+def test_scripts_are_plain(site):
+    """A module, or what it imports, is not loaded from disk. Furo's script switches the themes."""
+    scripts = sorted(site.rglob("*.js"))
+    assert site / "_static" / "scripts" / "furo.js" in scripts
+    for script in scripts:
+        assert output("node", "--eval", PLAIN, script) == "", script
+
+
+@pytest.mark.parametrize("system, same", [("0", "dark"), ("1", "light")], ids=["dark", "light"])
+def test_themes(site, tmp_path, system, same):
+    """Without a choice of the reader the colours are those that the system asks for."""
+    (tmp_path / "themes.html").write_text(THEMES.format(site=site))
+    shown = output(*CHROMIUM, f"--blink-settings=preferredColorScheme={system}", "--dump-dom",
+                   f"file://{tmp_path}/themes.html", stderr=None)
+    colours = dict(re.findall(r"(\w+)=(rgb[^;]*);", shown))
+    assert colours["auto"] == colours[same] and colours["dark"] != colours["light"]

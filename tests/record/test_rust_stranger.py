@@ -1,0 +1,90 @@
+"""A crate of somebody who has cargo, a C compiler and the package of the Rust crate, and no kit.
+
+The crate is that of the package's README, right or with a mistake in it; its test names the step.
+"""
+import re
+import tarfile
+
+import pytest
+
+from tree import TOP, VERSION, environment, output, ran
+
+pytestmark = [pytest.mark.slow, pytest.mark.xdist_group("cargo")]
+
+CRATE = TOP / "record" / "rust"
+TOML, LOCK, TEST = re.findall(r"```(?:toml|rust)\n(.*?)```", (CRATE / "README.md").read_text(),
+                              re.DOTALL)
+STORE = "self.now_serving.store(served.wrapping_add(1), SeqCst);"
+# A text of the lock, what it is in its place, and what is said of the step.
+MISTAKES = {
+    "addition of two operations": (
+        "self.next_ticket.fetch_add(1, SeqCst);",
+        "self.next_ticket.load(SeqCst); self.next_ticket.store(ticket + 1, SeqCst);",
+        "run 1: refused at line 4 of the trace, src/lib.rs:19, '0 read next_ticket found 0': "
+        "WrongStep: "),
+    "no wait": (
+        "SeqCst) != ticket {", "SeqCst) > ticket {",
+        " release': Busy: "),  # of the one that did not wait
+    "nobody is served": (STORE, "let _ = served;", "run 1: thread 0 has ended inside a call\n"),
+    "the ticket after the next is served": (
+        STORE, STORE.replace("add(1)", "add(2)"),
+        ", '0 write now_serving left 2': LeftOther: "),
+}
+
+
+def cargo(*words, folder):
+    """What Debian's cargo says, which is as old as any that the crate is for."""
+    return ran("/usr/bin/cargo", *words, "--offline", cwd=folder, timeout=600, env=environment(
+        PATH="/usr/bin:/bin", RUSTC="/usr/bin/rustc", RUSTFLAGS="-D warnings",
+        RUSTDOC="/usr/bin/rustdoc", CARGO_HOME=str(folder.parent / "cargo"),
+        CARGO_INCREMENTAL="0", CARGO_TARGET_DIR=str(folder.parent / "target")))
+
+
+@pytest.fixture(scope="module")
+def package(tmp_path_factory):
+    """The unpacked package."""
+    folder = tmp_path_factory.mktemp("package")
+    output(TOP / "packaging" / "crate.sh", folder / "crate")
+    made = cargo("package", "--no-verify", "--allow-dirty", folder=folder / "crate")
+    assert made.returncode == 0, made.stderr
+    name = f"lockreplay-record-{VERSION}"
+    with tarfile.open(folder / "target" / "package" / f"{name}.crate") as archive:
+        archive.extractall(folder)
+    return folder / name
+
+
+def test_package(package):
+    """It has all that its build, its user and its licences ask for, as files of their own."""
+    files = {str(file.relative_to(package)) for file in package.rglob("*") if file.is_file()}
+    assert files >= {"README.md", "LICENSE-APACHE", "LICENSE-MIT", "build.rs", "locktrace.c",
+                     "src/lib.rs"}
+    assert (package / "locktrace.c").read_text() == (TOP / "record/locktrace.c").read_text()
+
+
+@pytest.fixture
+def tested(package):
+    """The test of a crate with this lock, beside the package: its status, and what is said."""
+    def run(lock):
+        crate = package.parent / "stranger"
+        (crate / "src").mkdir(parents=True, exist_ok=True)
+        manifest = '[package]\nname = "stranger"\nversion = "0.1.0"\nedition = "2021"\n\n'
+        (crate / "Cargo.toml").write_text(
+            manifest + TOML.replace('"lockreplay-record"', f'"../{package.name}"'))
+        (crate / "src" / "lib.rs").write_text(f"{lock}\n#[cfg(test)]\n{TEST}")
+        done = cargo("test", folder=crate)
+        return done.returncode, done.stdout + done.stderr
+    return run
+
+
+def test_right_lock(tested):
+    status, said = tested(LOCK)
+    assert status == 0 and "test ticket ... ok" in said, said
+
+
+@pytest.mark.parametrize("name", MISTAKES)
+def test_mistake(tested, name):
+    old, new, step = MISTAKES[name]
+    assert LOCK.count(old) == 1
+    status, said = tested(LOCK.replace(old, new))
+    assert status != 0 and "test ticket ... FAILED" in said, said
+    assert step in said, said
