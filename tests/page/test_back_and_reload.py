@@ -195,6 +195,19 @@ def test_what_is_kept_has_its_place(page):
     shows(page, MINE, 2)
 
 
+def test_what_is_kept_has_its_last_place(page):
+    """Also if the reader went on after it was kept."""
+    mine_at(page, 1)
+    page.go(2)
+    page.until("addressEnds", "&move=2")
+    page.go(3)
+    page.lesson("ticket-hand-over", 5)
+    page.press("Escape", "o")
+    assert "at move 3" in page.text("#lessons .kept")
+    page.click("[data-kept]")
+    shows(page, MINE, 3)
+
+
 def test_the_last_twelve_are_kept(page):
     """At the start they are listed, the newest first."""
     page.open(LESSON)

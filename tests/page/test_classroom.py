@@ -43,6 +43,22 @@ def test_a_reload_keeps_the_answers(page):
     assert page.text(".score") == score and "(0 right, 0 wrong)" not in score
 
 
+def test_a_name_is_asked_for_once(page):
+    """It stays with the next answer, and after a reload."""
+    page.open(f"{LATE_LINK}&move=0")
+    page.press("q", "End")
+    page.js("answer", "-")
+    page.js("focus", "#quiz-name")
+    page.press(*"Ada", "Tab")
+    page.js("blur")
+    page.press("End")
+    page.js("answer", "-")
+    assert page.js("value", "#quiz-name") == "Ada"
+    page.js("leave")
+    page.reload()
+    assert page.js("value", "#quiz-name") == "Ada"
+
+
 def test_another_language_keeps_the_answers(page):
     page.open(f"{LATE_LINK}&move=0")
     page.press("q", "End")

@@ -5,7 +5,9 @@ import { byId } from '../lib/elements.js';
 import { write } from '../lib/markup.js';
 import { askedLanguage, language } from '../texts/language.js';
 import { texts } from '../texts/texts.js';
-import { keepSchedule, keptSchedule, keptSchedules, newName } from '../model/kept_schedules.js';
+import {
+  keepPlace, keepSchedule, keptSchedule, keptSchedules, newName,
+} from '../model/kept_schedules.js';
 import { endOf, fragmentOf, readFragment } from '../model/link.js';
 import { readLooks } from '../model/looks.js';
 import { tell, toClipboard } from '../view/notice.js';
@@ -130,10 +132,14 @@ export class Address {
     return fragmentOf(session) ?? `#kept=${this.keptName}${endOf(session.place)}`;
   }
 
-  // Notes a schedule of one's own, to be kept when there is time, if that is not done yet.
+  // Notes a schedule of one's own, to be kept when there is time. Of one that is kept, the place.
   note() {
     const { held, place, lesson, remarks } = this.page.session;
-    if (lesson || held === this.noted) return;
+    if (lesson) return;
+    if (held === this.noted && !this.unkept.has(this.keptName)) {
+      keepPlace(this.keptName, place);
+      return;
+    }
     this.noted = held;
     this.unkept.set(this.keptName, [held, place, remarks.title]);
   }

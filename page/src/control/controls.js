@@ -100,6 +100,9 @@ function quiz(page) {
     byId(id).addEventListener('click', (event) => {
       if (targetOf(event).dataset.saveQuiz) page.modes.saveQuiz();
     });
+    byId(id).addEventListener('change', (event) => {
+      if (targetOf(event).id === 'quiz-name') page.modes.nameQuiz();
+    });
     byId(id).addEventListener('submit', (event) => {
       event.preventDefault();
       page.modes.checkQuiz(event.target);

@@ -39,9 +39,15 @@ export class Modes {
 
   askFocus() { focusIn(document, '#quiz-form input'); }
 
+  // Whose answers these are, which is asked for once.
+  nameQuiz() {
+    this.page.quiz.name = inputOf('quiz-name').value.trim();
+    this.page.address.writeSoon();
+  }
+
   saveQuiz() {
     const { quiz } = this.page;
-    quiz.name = inputOf('quiz-name').value.trim();
+    this.nameQuiz();
     saveAs(texts.quiz.fileName, new TextEncoder().encode(quiz.report(location.href)));
   }
 

@@ -46,6 +46,15 @@ export function keptSchedule(name) {
   return found ? { text: fromBase64(coded), place: found.place } : null;
 }
 
+// Where the reader is in a schedule that is kept.
+export function keepPlace(name, place) {
+  const list = keptSchedules();
+  const found = list.find((one) => one.name === name);
+  if (!found || found.place === place) return;
+  found.place = place;
+  store(LIST, JSON.stringify(list));
+}
+
 export function keepSchedule(name, text, place, title) {
   const coded = toBase64(text);
   const size = coded.length;
