@@ -20,7 +20,8 @@ async function taken(what, parts) {
   return new TextDecoder().decode(await caught(() => click(`[data-take=${what}]`)));
 }
 
-// The letters of each text of a picture that stands alone, and its bands under the move.
+// The letters of each text of a picture that stands alone, its bands under the move, and the texts
+// that are not inside it.
 async function alone(parts) {
   const frame = document.createElement('iframe');
   document.body.append(frame);
@@ -29,8 +30,11 @@ async function alone(parts) {
   const families = inFrame('text')
     .map((one) => frame.contentWindow.getComputedStyle(one).fontFamily.split(',')[0]);
   const bands = inFrame('.here-column').map((one) => [rect(one).top, rect(one).bottom]);
+  const whole = rect(inFrame('svg')[0]);
+  const outside = inFrame('text').filter((one) => !inside(rect(one), whole))
+    .map((one) => one.textContent);
   frame.remove();
-  return { families: [...new Set(families)].sort(), bands };
+  return { families: [...new Set(families)].sort(), bands, outside };
 }
 
 // The colour of the ground of a picture, as the browser draws it.
@@ -43,7 +47,7 @@ async function groundOf(parts) {
   return `rgb(${pen.getImageData(3, 3, 1, 1).data.join()})`;
 }
 
-// The kinds of the chunks of an animated picture, and its width as the browser finds it.
+// What an animated picture consists of, and its width as the browser finds it.
 async function animation(from, to) {
   click('#show-take');
   byId('take-from').value = from;
@@ -52,16 +56,19 @@ async function animation(from, to) {
   const image = new Image();
   image.src = `data:image/png;base64,${btoa(lettersOf(bytes))}`;
   await image.decode();
-  return { kinds: kindsOf(bytes), width: image.naturalWidth };
+  return { ...chunksOf(bytes), width: image.naturalWidth };
 }
 
-function kindsOf(bytes) {
+// The kind of each chunk, and how long each picture is shown.
+function chunksOf(bytes) {
   const view = new DataView(bytes.buffer);
-  const kinds = [];
+  const [kinds, seconds] = [[], []];
   for (let at = 8; at < bytes.length; at += view.getUint32(at) + 12) {
-    kinds.push(String.fromCharCode(...bytes.subarray(at + 4, at + 8)));
+    const kind = String.fromCharCode(...bytes.subarray(at + 4, at + 8));
+    kinds.push(kind);
+    if (kind === 'fcTL') seconds.push(view.getUint16(at + 28) / view.getUint16(at + 30));
   }
-  return kinds;
+  return { kinds, seconds };
 }
 
 const asks = () => byId('take-answer').checkVisibility();

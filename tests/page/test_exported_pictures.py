@@ -51,6 +51,14 @@ def test_the_band_has_no_gap(page):
     assert below <= above
 
 
+@pytest.mark.parametrize("width", [1024, 1440])
+def test_marks_are_in_the_picture(page, width):
+    """In as many rows as they need, each of which begins at the left."""
+    page.resize(width, 800)
+    page.open(LATE_LINK)
+    assert page.js("alone", ["legend"])["outside"] == []
+
+
 def test_the_theme(page):
     """It is that of the page, whatever the system has."""
     grounds = []
@@ -89,6 +97,7 @@ def test_an_animation(page):
     kinds = shown["kinds"]
     assert kinds.count("fcTL") == 4 and kinds[:3] == ["IHDR", "acTL", "fcTL"], kinds
     assert kinds.count("fdAT") >= 3 and kinds[-1] == "IEND" and shown["width"] > 1000
+    assert shown["seconds"] == [1.2, 1.2, 1.2, 3], "the last one stays for longer"
 
 
 def test_dashes_for_latex(page):
@@ -97,6 +106,14 @@ def test_dashes_for_latex(page):
     lines = page.js("taken", "tikz", []).splitlines()
     dashed = [line for line in lines if "dash pattern=on 3pt off 2.3pt" in line]
     assert len(dashed) == 2 and all("circle" in line for line in dashed), dashed
+
+
+def test_signs_of_latex(page):
+    """Each sign that has a meaning in LaTeX is written as itself."""
+    page.open()
+    page.show("#! title R&D, 5 % of #1_a, $2, {b}^c~d\\\nlock ticket threads 1\n0 acquire\n", 1)
+    assert "{R\\&D, 5 \\% of \\#1\\_a, \\$2, \\{b\\}\\^{}c\\~{}d\\textbackslash{}};" in (
+        page.js("taken", "tikz", ["title"]))
 
 
 @pytest.mark.skipif(not shutil.which("pdflatex"), reason="needs texlive-latex-base and pgf")
