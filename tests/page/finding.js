@@ -17,4 +17,5 @@ const next = () => all('#next-kinds-list li').map((row) => [
   row.textContent.replace(row.firstChild.textContent, '').trim(), row.firstChild.textContent]);
 const nextOf = (least) => next().length >= least && next();
 
+const answerEnds = (end) => text('#find-answer').endsWith(end);
 const answerBegins = (begun) => text('#find-answer').startsWith(begun);

@@ -26,3 +26,6 @@ const cut = (name) => atEachPlace(name, cutNow);
 const signs = () => Object.fromEntries(all('#legend > span').filter((one) => (
   one.querySelector('.span'))).map((one) => [one.querySelector('.span').classList[1],
   plain(one.textContent)]));
+
+// Before the page's script: the browser wants these languages.
+const want = (languages) => Object.defineProperty(navigator, 'languages', { value: languages });

@@ -151,6 +151,9 @@ def test_it_speaks_german(page):
     page.open("#lang=de&lesson=ticket-hand-over&move=0")
     ask(page, lock="ticket", sketch="0 write\n0 add")
     page.becomes(KEIN_LAUF, "text", "#find-answer")
+    page.press("Escape")
+    ask(page, lock="mcs", threads="3", sketch=BOTH_LOCKED)
+    page.until("answerEnds", "Alle 1.018 Zustände sind durchsucht.")
 
 
 def test_what_is_not_decided(page):
@@ -202,3 +205,13 @@ def test_what_is_near_in_a_lesson(page):
     page.press("u")
     assert page.shown()["place"] == 8
     what_is_next(page, AFTER_THE_SWAP)
+
+
+def test_what_is_near_is_that_of_the_move(page):
+    """Before the first move of a lesson it is what a new lock reaches."""
+    page.open("#lesson=mcs-late-link&move=8")
+    page.press("g")
+    page.click("#next-kinds summary")
+    what_is_next(page, AFTER_THE_SWAP)
+    page.go(0)
+    what_is_next(page, {name: int(moves) for _, name, moves, *_ in rows_of("kinds.txt", "mcs")})

@@ -72,6 +72,15 @@ def test_by_the_address_and_back(page):
     page.becomes("#lesson=mcs-late-link&move=10&lang=en", "address")
 
 
+@pytest.mark.parametrize("wanted, language", [
+    (["de-AT"], "de"), (["fr", "de"], "de"), (["en-GB", "de"], "en"), (["fr"], "en")])
+def test_the_language_of_the_browser(page, wanted, language):
+    """The first that the page has of those that the browser wants, in whatever country."""
+    page.before("want", wanted)
+    page.open("#lesson=mcs-late-link&move=9")
+    assert page.js("language") == language
+
+
 @pytest.mark.parametrize("language, name", [("en", "English"), ("de", "Deutsch")])
 def test_the_language_is_pressed(page, language, name):
     """At the start, and in the dialog that says who the page is."""
