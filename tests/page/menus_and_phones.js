@@ -54,10 +54,12 @@ function withFingers() {
   window.matchMedia = (asked) => matchMedia(asked.replace('(pointer: coarse)', 'all'));
 }
 
-function swipe(by) {
+function swipe(by, fingers = 1) {
   const node = byId('lanes');
-  const touch = (x) => new Touch({ identifier: 1, target: node, clientX: x, clientY: 300 });
-  const begin = { touches: [touch(200)], changedTouches: [touch(200)], bubbles: true };
+  const touch = (x, finger = 0) => (
+    new Touch({ identifier: finger, target: node, clientX: x, clientY: 300 }));
+  const touches = Array.from({ length: fingers }, (_, finger) => touch(200 + 60 * finger, finger));
+  const begin = { touches, changedTouches: touches, bubbles: true };
   node.dispatchEvent(new TouchEvent('touchstart', begin));
   const end = { changedTouches: [touch(200 + by)], bubbles: true };
   node.dispatchEvent(new TouchEvent('touchend', end));

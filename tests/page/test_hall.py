@@ -49,6 +49,12 @@ def test_two_parts_are_chosen(page):
     assert page.js("parts") == ["code", "now"]
 
 
+def test_a_link_to_more_than_two_parts(page):
+    """In a hall the first two of them are shown."""
+    page.open(f"{LATE_LINK}&hall&show=time,memory,code,now")
+    assert page.js("parts") == ["time", "memory"]
+
+
 @pytest.mark.parametrize("mode", ["", "g", "e", "q"])
 def test_parts_are_chosen(page, mode):
     """Elsewhere as many as the reader wants."""

@@ -9,6 +9,17 @@ lock mcs threads 2
 0 acquire
 0 write next left 0
 0 swap tail found 0 left 1
+1 acquire
+1 write next left 0
+1 swap tail found 1
+0 release
+0 read next found 0
+0 cas tail failed
+1 write locked left 1
+1 write next of 0 left 2
+0 read next found 2
+0 write locked of 1 left 0
+1 read locked found 0
 """
 
 
@@ -43,9 +54,27 @@ def test_a_trace(page):
     """It is shown as the schedule that it has, and that is said."""
     page.open(LESSON)
     page.js("dropFiles", [["run.trace", TRACE]])
-    held = page.shown(moves=3)["held"]
+    held = page.shown(moves=14)["held"]
     assert "This is a trace" in page.text("#notice")
-    assert held == "# A trace\nlock mcs threads 2\n0 acquire\n0 write\n0 swap\n"
+    head, moves = TRACE.splitlines()[:2], TRACE.splitlines()[2:]
+    assert held.splitlines() == head + [" ".join(line.split()[:2]) for line in moves]
+
+
+SECTIONS = """lock rw-simple threads 2
+0 rlock
+0 section 3 entered
+1 wlock
+1 section waits
+1 section 1 waits
+"""
+
+
+def test_a_trace_of_sections(page):
+    """They have a count, an outcome or both."""
+    page.open(LESSON)
+    page.js("dropFiles", [["run.trace", SECTIONS]])
+    held = page.shown(moves=5)["held"]
+    assert held.splitlines()[1:] == ["0 rlock", "0 section", "1 wlock", "1 section", "1 section"]
 
 
 def test_a_long_title(page):
@@ -112,6 +141,14 @@ def test_a_finger(page):
     page.js("swipe", 120)
     assert page.js("place") == 10
     assert page.js("small") == []
+
+
+def test_two_fingers(page):
+    """They make the page larger or smaller, and are no step."""
+    page.resize(390, 844)
+    page.open("#lesson=mcs-late-link&move=10")
+    page.js("swipe", -120, 2)
+    assert page.js("place") == 10
 
 
 @pytest.mark.parametrize("width, height", [(683, 384), (844, 390)])
