@@ -14,6 +14,12 @@ function atMove() {
 }
 
 
+// What is written in the picture of memory, and what each line of code is marked with.
+const memoryAt = (moves) => moves.map((move) => {
+  go(move);
+  return [texts('#memory-picture text'), texts('#code-lines .code-line')];
+});
+
 const banner = () => byId('banner').checkVisibility();
 const answerIsOpen = () => document.querySelector('#now .question details')?.open ?? null;
 

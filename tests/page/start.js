@@ -30,3 +30,9 @@ function explained(part, term) {
   box.style.pointerEvents = '';
   return [!box.hidden && box.textContent, inside(rect(box), screen) && above === box];
 }
+
+// Before the page's script: its clocks go ten times as fast.
+function hasten() {
+  const { setInterval } = window;
+  window.setInterval = (act, wait) => setInterval(act, wait / 10);
+}

@@ -58,6 +58,16 @@ def test_without_the_machine(page, name):
     check_lesson(page, name, True)
 
 
+@pytest.mark.parametrize("name", ["ticket-wraps-at-2-bits", "mcs-late-link", "fifo-downgrade"])
+def test_memory_without_the_machine(page, name):
+    """Before the first move, after some, and at the end it is what the machine has."""
+    page.open(f"#lesson={name}")
+    pictures = page.js("memoryAt", [0, 5, 99])
+    page.before("withoutMachine")
+    page.open(f"#lesson={name}")
+    assert page.js("banner") and page.js("memoryAt", [0, 5, 99]) == pictures
+
+
 def test_without_the_machine_nothing_is_played(page):
     page.before("withoutMachine")
     page.open("#lesson=mcs-late-link&move=0")
@@ -137,6 +147,8 @@ def test_who_has_polled_in_vain(page):
     page.show("lock rw-simple threads 3\n0 rlock\n0 section\n1 wlock\n1 section\n2 rlock\n", 5)
     assert page.js("texts", "#memory-picture .wants + .note") == ["failed poll"]
     assert page.js("texts", "#memory-picture .wants:has(+ .note) title") == ["wants to write"]
+    page.go(3)
+    assert page.js("texts", "#memory-picture .wants + .note") == [], "it has not polled yet"
 
 
 @cases("lesson, move, records", {

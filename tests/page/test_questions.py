@@ -98,3 +98,13 @@ def test_a_step_stops_once(page, look, key):
     assert page.shown()["place"] == 9, "an answer that was seen lets one go on"
     page.press(key, "ArrowLeft", key)
     assert page.shown()["place"] == 8 and page.js("waiting")[1] == 1, "at the next visit again"
+
+
+def test_the_end_waits_for_the_answer(page):
+    """What one learns would say it, if the last move has a question."""
+    page.open()
+    page.show(f"#! learn Who comes first.\n{OWN}", 5)
+    ended = ("count", "#now .last")
+    assert page.js(*ended) == 0
+    page.press("a")
+    assert page.js(*ended) == 1

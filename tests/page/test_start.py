@@ -114,3 +114,12 @@ def test_terms_of_the_start_are_explained(page):
     page.open()
     said, is_seen = page.js("explained", "#lessons", "holder")
     assert said and "entered a lock and not left it" in said and is_seen, said
+
+
+def test_a_card_plays_again(page):
+    """The one that has the focus; after its last move its lesson begins anew."""
+    page.before("hasten")
+    page.open()
+    for said in ["Ticket 1 has its turn; the next is 2.",
+                 "No ticket is in use: the next one is 0."]:
+        page.becomes(said, "attribute", "[data-live=ticket] svg", "aria-label")
