@@ -9,6 +9,10 @@ const offered = () => document.querySelector('#verdict [data-mend]')?.dataset.me
 const markup = () => [count('img, h1 b, main b b, i, main h1, #paper b, main script, main style'),
   window.broken ?? null, byId('title').textContent];
 
+// From where to where on the screen the band of a wrong line goes, and its number.
+const bandAndNumber = () => ['#band .fault', '#gutter .fault']
+  .map((one) => rect(document.querySelector(one))).map(({ top, bottom }) => [top, bottom]);
+
 const drawPaper = () => dispatchEvent(new Event('beforeprint'));
 const allText = () => ['main', '#verdict']
   .map((one) => document.querySelector(one).textContent).join('');

@@ -56,6 +56,15 @@ def test_a_paste_that_is_no_schedule(page):
     assert "no schedule" in page.js("notice")
 
 
+def test_a_paste_without_a_text(page):
+    """As of a picture: it does not empty a schedule of one's own."""
+    page.open(LESSON)
+    page.show(MINE)
+    page.js("paste", "")
+    assert page.shown(mode="own")["text"] == MINE.decode("latin-1")
+    assert "no schedule" in page.js("notice")
+
+
 def test_a_text_that_is_dropped(page):
     page.open(LESSON)
     text = MINE.replace(b"\xe9", b"e")
@@ -121,6 +130,17 @@ def test_damaged_links(page, fragment, part):
     assert page.js("address") == fragment
     page.lesson("ticket-hand-over", 2)
     page.becomes("#lesson=ticket-hand-over&move=2", "address")
+    assert page.js("damaged") == ""
+
+
+def test_an_edit_after_a_damaged_link(page):
+    """What was made of its schedule is in the address, and nothing is damaged any more."""
+    page.open("#schedule=bG9jayBtY3MgdGhyZWFkcyAyCjAgYWNxdWlyZQo")
+    assert "has no end" in page.js("damaged")
+    text = "lock mcs threads 2\n1 acquire\n"
+    page.js("write", text)
+    coded = base64.urlsafe_b64encode(text.encode()).decode().rstrip("=")
+    page.until("addressBegins", f"#schedule={coded}&")
     assert page.js("damaged") == ""
 
 

@@ -86,6 +86,14 @@ def test_what_is_said(page):
             assert page.text("#position") == f"1 of {count}", text
 
 
+def test_the_line_that_is_wrong_has_a_band(page):
+    """As tall as the line, beside its number."""
+    page.open()
+    page.js("open", f"{CALLED}0 addd\n0 read\n")
+    band, number = page.js("bandAndNumber")
+    assert max(abs(one - other) for one, other in zip(band, number)) <= 1, (band, number)
+
+
 def test_what_is_offered_is_written(page):
     page.open()
     page.js("open", "lock MCS threads 2\n0 acquire\n0 writ\n")

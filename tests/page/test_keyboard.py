@@ -56,6 +56,18 @@ def test_speed(page):
         assert page.js("value", "#speed") == speed, key
 
 
+def test_speed_while_moves_run(page):
+    """The clock that goes is that of the new speed."""
+    page.before("keepClocks")
+    page.open(f"{LATE_LINK}0")
+    page.press(",", "Space")
+    assert page.js("clocks") == [1800]
+    page.press(".", ".")
+    assert page.js("clocks") == [450]
+    page.press("Space")
+    assert page.js("clocks") == []
+
+
 def test_choosing_a_lesson(page):
     page.open(f"{LATE_LINK}0")
     page.press("o")
@@ -109,6 +121,7 @@ def test_quiz(page):
     page.press(ANSWERS[kind], "Enter")
     page.shown(position=f"{move} of 9")
     assert page.js("count", "#quiz-form") == 0
+    assert page.js("focused") == "forward", "Enter goes on"
 
 
 # A word of what each key does, and of what German says of it.
