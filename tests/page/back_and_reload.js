@@ -9,6 +9,9 @@ function shows(letters, place) {
 const notice = () => text('#notice');
 const keptNames = () => all('[data-kept]').map((one) => one.dataset.kept);
 const keptAt = (move) => location.hash.match(`^#kept=(\\w+)&move=${move}$`)?.[1];
+const forgetTexts = () => Object.keys(localStorage)
+  .filter((key) => key.startsWith('lockreplay.kept.'))
+  .forEach((key) => localStorage.removeItem(key));
 const damaged = () => (byId('damaged').hidden ? '' : text('#damaged'));
 const goTo = (fragment) => { location.hash = fragment; };
 const href = () => location.href;

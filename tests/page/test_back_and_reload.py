@@ -228,6 +228,17 @@ def test_what_is_kept_has_its_last_place(page):
     shows(page, MINE, 3)
 
 
+def test_what_is_no_longer_kept(page):
+    """Another tab may have taken its text: that is said, and what is shown stays."""
+    mine_at(page, 2)
+    page.lesson("ticket-hand-over", 5)
+    page.press("Escape", "o")
+    page.js("forgetTexts")
+    page.click("[data-kept]")
+    assert page.js("notice") == "This browser no longer keeps this schedule."
+    page.shown(lesson="ticket-hand-over", place=5)
+
+
 def test_the_last_twelve_are_kept(page):
     """At the start they are listed, the newest first."""
     page.open(LESSON)

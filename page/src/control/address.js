@@ -155,10 +155,13 @@ export class Address {
     return keptSchedules();
   }
 
+  // Of one that is listed the text may be gone: there was no room for it, or another tab took it.
   openKept(name) {
-    const { text, place } = keptSchedule(name);
-    this.page.openOwn(text, place);
+    const found = keptSchedule(name);
+    if (!found) return tell(T.gone);
+    this.page.openOwn(found.text, found.place);
     this.keptName = name;
+    return undefined;
   }
 
   write(fragment) {

@@ -134,6 +134,7 @@ export const german = {
       nothing: 'Dieser Link nennt keinen Ablauf. Die Adresse bleibt.',
       cut: 'Diesem Link fehlt das Ende. Vielleicht fehlt ein Teil seines Ablaufs.',
       noLesson: (name) => `Es gibt keine Lektion „${name}“. Die Adresse bleibt.`,
+      gone: 'Dieser Browser hat diesen Ablauf nicht mehr.',
       notKept: 'Dieser Link nennt einen Ablauf, der in einem anderen Browser liegt oder nicht mehr '
         + 'da ist. Öffne stattdessen seine Datei.',
     },

@@ -116,6 +116,7 @@ const english = {
     nothing: 'This link names no schedule. The address is unchanged.',
     cut: 'This link has no end. Perhaps a part of its schedule is missing.',
     noLesson: (name) => `There is no lesson “${name}”. The address is unchanged.`,
+    gone: 'This browser no longer keeps this schedule.',
     notKept: 'This link names a schedule that is kept in another browser, or no longer. '
       + 'Open its file instead.',
   },
