@@ -34,8 +34,9 @@ function keepWindows() {
 }
 
 const presented = () => window.opened && plain(window.opened.document.body.textContent);
-const pressThere = (name) => {
-  window.opened.dispatchEvent(new KeyboardEvent('keydown', { key: name }));
+const pressThere = (name, held) => {
+  window.opened.dispatchEvent(new KeyboardEvent('keydown', { key: name, [held]: true }));
 };
+const languageThere = () => window.opened.document.documentElement.lang;
 const themeThere = () => window.opened.document.documentElement.dataset.theme;
 const closeThere = () => window.opened.close();

@@ -110,3 +110,18 @@ def test_a_second_window(page):
     page.press("d")
     assert page.js("themeThere") == page.js("theme") != ""
     page.js("closeThere")
+
+
+@pytest.mark.parametrize("held", ["ctrlKey", "metaKey", "altKey"])
+def test_copying_in_the_second_window(page, held):
+    """Its reader copies a text there, and the hall is not shown a comparison."""
+    page.before("keepWindows")
+    page.open("#lesson=fifo-second-writer&move=6&lang=de")
+    page.press("2")
+    page.until("presented")
+    assert page.js("languageThere") == "de"
+    page.js("pressThere", "c", held)
+    assert not page.js("step")["compares"]
+    page.js("pressThere", "c")
+    assert page.js("step")["compares"]
+    page.js("closeThere")

@@ -29,9 +29,12 @@ export class Presenter {
     there.title = T.title;
     there.head.append(...[document.querySelector('style').cloneNode(true)]);
     there.body.className = 'presenter';
-    // Its keys are those of the page.
-    this.window.onkeydown = ({ key }) => document.body.dispatchEvent(
-      new KeyboardEvent('keydown', { key, bubbles: true, cancelable: true }));
+    there.documentElement.lang = document.documentElement.lang;
+    // Its keys are those of the page; what is held with them makes others of them.
+    this.window.onkeydown = ({ key, ctrlKey, metaKey, altKey }) => document.body.dispatchEvent(
+      new KeyboardEvent('keydown', {
+        key, ctrlKey, metaKey, altKey, bubbles: true, cancelable: true,
+      }));
     this.draw();
   }
 
