@@ -1,9 +1,9 @@
 /* What recording costs one thread: nanoseconds for an acquire and a release, and for a bare note.
 
-       recording ROUNDS
+       recording ROUNDS [FOLDER]
 
    Prints three figures: a ticket lock with its 6 notes, an MCS lock with its 7, and a note by
-   itself. Without a mode it has the locks alone. */
+   itself. Without a mode it has the locks alone, and with a folder the notes are in a file. */
 #include <stdatomic.h>
 #include <stddef.h>
 #include <stdio.h>
@@ -58,10 +58,10 @@ static void bare_round(void) { LR_CALL(acquire); }
 
 typedef void (*one_round)(void);
 
-static double nanoseconds(one_round work, long rounds)
+static double nanoseconds(one_round work, long rounds, const char *folder)
 {
     struct timespec from, to;
-    lr_run *run = lr_open("mcs", 1, 64, (size_t)rounds * 8, 1, NULL);
+    lr_run *run = lr_open("mcs", 1, 64, (size_t)rounds * 8, 1, folder);
     lr_log *log = lr_log_of(run, 0);
     lr_begin(log);
     timespec_get(&from, TIME_UTC);
@@ -75,10 +75,11 @@ static double nanoseconds(one_round work, long rounds)
 
 int main(int count, char **words)
 {
-    long rounds = count == 2 ? atol(words[1]) : 0;
+    long rounds = count == 2 || count == 3 ? atol(words[1]) : 0;
+    const char *folder = count == 3 ? words[2] : NULL;
     if (rounds < 1) return 2;
-    printf("%.2f", nanoseconds(ticket_round, rounds));
-    printf(" %.2f", nanoseconds(mcs_round, rounds));
-    printf(" %.2f\n", nanoseconds(bare_round, rounds));
+    printf("%.2f", nanoseconds(ticket_round, rounds, folder));
+    printf(" %.2f", nanoseconds(mcs_round, rounds, folder));
+    printf(" %.2f\n", nanoseconds(bare_round, rounds, folder));
     return 0;
 }

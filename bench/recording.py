@@ -4,7 +4,8 @@
     recording.py LOCKTRACE LIBRARY [--before COMMIT] [--check]
 
 Builds `recording.c` without a mode and with VALUES, as it is in this tree and as it was at a
-commit, with the header of each, and lets them take turns: figures are nanoseconds for one acquire
+commit, with the header of each, and lets them take turns; `file` has its notes in a file, in the
+folder for what is not kept. Figures are nanoseconds for one acquire
 and release of one thread, medians of ROUNDS. What a note costs is how much longer a round with
 notes takes than the one without, shared by its notes, again the median. Then, for the MCS lock in
 C and each example of record/rust, 1,000 runs of a search of two threads with two rounds each and at
@@ -57,16 +58,18 @@ def built(folder, name, tree, mode):
     return program
 
 
-def figures(program):
-    return [float(word) for word in ran(program, LOOPS).split()]
+def figures(*words):
+    program, *folder = words
+    return [float(word) for word in ran(program, LOOPS, *folder).split()]
 
 
 def notes(folder, before):
     """Prints medians of each build, and answers what a note of this tree's header costs."""
-    builds = {"off": built(folder, "off", TOP, "OFF"), "now": built(folder, "now", TOP, "VALUES")}
+    now = built(folder, "now", TOP, "VALUES")
+    builds = {"off": [built(folder, "off", TOP, "OFF")], "now": [now], "file": [now, folder]}
     if before:
-        builds["before"] = built(folder, "before", tree_of(before, folder / "old"), "VALUES")
-    rounds = [{name: figures(program) for name, program in builds.items()} for _ in range(ROUNDS)]
+        builds["before"] = [built(folder, "before", tree_of(before, folder / "old"), "VALUES")]
+    rounds = [{name: figures(*words) for name, words in builds.items()} for _ in range(ROUNDS)]
     costs = {name: [] for name in builds}
     for place, (figure, count) in enumerate(FIGURES.items()):
         for name in builds:
@@ -75,7 +78,7 @@ def notes(folder, before):
         print(figure, " ".join(
             f"{name} {statistics.median(it[name][place] for it in rounds):.1f} ns, a note "
             f"{costs[name][place]:.2f} ns" for name in builds))
-    return costs["now"]
+    return costs["now"] + costs["file"]
 
 
 def commands(folder, locktrace, library):

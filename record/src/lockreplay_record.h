@@ -40,7 +40,9 @@
                      <stdatomic.h>, __atomic_, __sync_ and lr::atomic<T>. `count++` of an _Atomic
                      variable, volatile accesses and assembler have none
      LR_CHECK        with SEED and FOLLOW: each run is checked as with EXPLORE
-     LR_NOISE        with VALUES: threads are held up at one note in eight, or in LR_NOISE
+     LR_MAPPED=0     with VALUES: a run's notes are in memory alone. Else, on Linux, they are in the
+                    file run.notes of its folder while it goes on
+    LR_NOISE        with VALUES: threads are held up at one note in eight, or in LR_NOISE
      LR_PCT=d        with SEED: few changes of the turn, at drawn places; LR_STEPS=k
      LR_SPURIOUS=n   with SEED: one turn in n wakes a thread of LR_WAIT that nobody signalled; else
                      one in 8 does with an even seed. EXPLORE wakes such a thread in the place of a
@@ -87,11 +89,14 @@
 
    The lock is ticket, mcs, rw-simple or rw-fifo; threads 1 to 64; bits 2 to 64, the width of the
    lock's counters (64 if nothing wraps), with fewer threads than such a counter has values. Each
-   log has room for so many moves. `lr_open` makes the folder; NULL as the folder saves nothing. If
-   the program crashes or is killed, what was noted until then is saved all the same. `lr_await`
-   waits until no move has come for so many seconds; `lr_said(run)` has why it gave up. All that
-   goes wrong is said on standard error: `lr_open` then gives NULL, `lr_save` an errno (ENOBUFS if
-   a log was full), and a call that may not be made here ends the program with status 2. */
+   log has room for so many moves. `lr_open` makes the folder, without what an earlier run left
+   there; NULL as the folder saves nothing. If the program crashes or is killed, another process
+   saves what was noted until then. If that is killed as well, the notes are in run.notes:
+   `lr_recover("folder")` waits for the end of the run, and then makes its logs unless they are
+   there. `lr_await` waits until no move has come for so many seconds; `lr_said(run)` has why it
+   gave up. All that goes wrong is said on standard error: `lr_open` then gives NULL, `lr_save` and
+   `lr_recover` an errno (ENOBUFS if a log was full), and a call that may not be made here ends the
+   program with status 2. */
 #ifndef LOCKREPLAY_RECORD_H
 #define LOCKREPLAY_RECORD_H
 
@@ -121,10 +126,13 @@
 #include "monitor.h"
 #include "notes.h"
 #if LR_RECORDS
+#include "folder.h"
+#include "mapped.h"
 #include "watch.h"
 #include "open.h"
 #include "await.h"
 #include "save.h"
+#include "recover.h"
 #include "check.h"
 #endif
 #include "driver.h"

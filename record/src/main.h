@@ -3,6 +3,7 @@
        PROGRAM THREADS ROUNDS PREEMPTIONS FOLDER [RUNS]    EXPLORE, at most so many runs
        PROGRAM THREADS ROUNDS again TRACE                  EXPLORE: makes a saved run again
        PROGRAM THREADS ROUNDS SEED FOLDER [SECONDS]        SEED, VALUES, OFF
+       PROGRAM recover FOLDER                              VALUES: `lr_recover(FOLDER)`
        PROGRAM SCHEDULES FOLDER                            FOLLOW: the schedules of a folder
 
    With one thread at a time a run is checked if the program can do it. SECONDS (60) is how long no
@@ -110,6 +111,9 @@ static inline int lr_main_run(const lr_driver *driver, unsigned threads, unsigne
 
 static inline int lr_main(const lr_driver *driver, int count, char **words)
 {
+#if LR_MAPPED
+    if (count == 3 && !strcmp(words[1], "recover")) return lr_recover(words[2]) ? 3 : 0;
+#endif
     unsigned threads = count < 5 || count > 6 ? 0 : (unsigned)atoi(words[1]);
     if (threads < 1 || threads > 64) {
         fprintf(stderr, "usage: %s THREADS ROUNDS SEED FOLDER [SECONDS]\n", words[0]);

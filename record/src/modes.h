@@ -53,6 +53,14 @@
 #if defined LR_ATOMICS && !(LR_SEEDED || LR_EXPLORES || defined LR_NOISE)
 #error "LR_ATOMICS is for SEED, EXPLORE, and VALUES with LR_NOISE: points before atomic operations"
 #endif
+#if defined LR_MAPPED && !LR_FREE
+#error "LR_MAPPED is for LR_MODE=VALUES: with 0 a run's notes are in memory alone"
+#endif
+#if !defined LR_MAPPED && LR_FREE && defined __linux__
+#define LR_MAPPED 1
+#elif !defined LR_MAPPED
+#define LR_MAPPED 0
+#endif
 
 /* At which number the lock's counters begin. */
 #ifndef LR_START

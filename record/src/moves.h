@@ -21,6 +21,7 @@ enum {
     LR_PLACE_next_ticket, LR_PLACE_now_serving, LR_PLACE_tail, LR_PLACE_next, LR_PLACE_locked,
     /* clang-format on */
     /* end */
+    LR_PLACES
 };
 /* A step on a word that no lock has it on is an error when it is compiled. */
 enum {
@@ -42,4 +43,5 @@ enum {
     LR_OUTCOME_moved, LR_OUTCOME_waits, LR_OUTCOME_entered, LR_OUTCOME_left,
     /* clang-format on */
     /* end */
+    LR_PARTS
 };

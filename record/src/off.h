@@ -39,5 +39,6 @@ static inline unsigned lr_await(lr_run *run, unsigned seconds)
 }
 
 static inline const char *lr_said(const lr_run *run) { return (void)run, ""; }
+static inline int lr_recover(const char *folder) { return (void)folder, 0; }
 static inline int lr_save(lr_run *run) { return (void)run, 0; }
 static inline void lr_close(lr_run *run) { (void)run; }

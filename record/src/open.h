@@ -42,6 +42,8 @@ static inline void lr_close(lr_run *run)
 {
     if (!run) return;
     lr_leave_unwatched(run);
+    lr_remove_notes(run);
+    lr_close_notes(run);
     for (unsigned t = 0; t < run->threads; t++) sem_destroy(&run->logs[t].turn.comes);
     pthread_cond_destroy(&run->changed);
     pthread_mutex_destroy(&run->mutex);
@@ -74,34 +76,17 @@ static inline void lr_open_log(lr_run *run, unsigned thread, size_t moves)
     sem_init(&log->turn.comes, 0, 0);
 }
 
-/* Memory that another process shares: each page of the logs is touched before the run. */
-static inline lr_run *lr_memory_of(unsigned threads, size_t moves)
-{
-    size_t all = threads * (moves + 2), size = sizeof(lr_run) + all * (sizeof(lr_move) + 1);
-    int zero = open("/dev/zero", O_RDWR);
-    void *memory = mmap(NULL, size, PROT_READ | PROT_WRITE, MAP_SHARED, zero, 0);
-    if (zero >= 0) close(zero);
-    if (memory == MAP_FAILED) {
-        lr_say("no memory for %zu moves of each of %u threads: %s", moves, threads,
-               strerror(errno));
-        return NULL;
-    }
-    lr_run *run = (lr_run *)memory;
-    run->size = size;
-    run->moves = (lr_move *)(run + 1);
-    run->order = (unsigned char *)(run->moves + all);
-    memset(run->moves, 1, all * sizeof(lr_move));
-    return run;
-}
-
 static inline lr_run *lr_open(const char *lock, unsigned threads, unsigned bits, size_t moves,
                               uint64_t seed, const char *folder)
 {
     if (lr_is_wrong(lock, threads, bits, moves) || lr_folder_fault(folder)) return NULL;
-    lr_run *run = lr_memory_of(threads, moves);
+    /* Until this run is saved its folder has no logs that would pass for its own. */
+    if (lr_remove_earlier(folder, 0)) return NULL;
+    lr_run *run = lr_memory_of(threads, moves, folder);
     if (!run) return NULL;
     run->mode = LR_CHOSEN;
-    run->lock = lock;
+    snprintf(run->name, sizeof run->name, "%s", lock);
+    run->lock = run->name;
     run->folder = folder;
     run->threads = threads;
     run->bits = bits;
@@ -118,6 +103,7 @@ static inline lr_run *lr_open(const char *lock, unsigned threads, unsigned bits,
 #ifdef LR_PCT
     lr_draw_priorities(run);
 #endif
+    lr_make_stamp(run->stamp);
     lr_watch(run);
     return run;
 }

@@ -18,7 +18,8 @@
 #include <unistd.h>
 
 enum { LR_THREADS = 64, LR_OWN = 256, LR_NOBODY = 256, LR_APART = 128, LR_SAID = 1024 };
-enum { LR_FILES = 256 };
+enum { LR_FILES = 256, LR_STAMP = 64, LR_NAME = 16 };
+#define LR_NOTES "run.notes"
 
 /* A note costs what its bytes cost, so a move has two words. From the lowest bit on the second one
    has a word, its place and its part (8 bits each), the thread whose record it is or LR_OWN (16);
@@ -91,6 +92,9 @@ typedef struct lr_choice {
 
 /* It has the same fields in each mode, and the mode with which it was opened. */
 typedef struct lr_run {
+    char stamp[LR_STAMP]; /* with LR_MAPPED: what this layout is, once the run is open */
+    char name[LR_NAME];   /* of the lock */
+    int notes;            /* the file that this is in, or -1 */
     int mode;
     const struct lr_driver *driver;
     const char *lock, *folder;

@@ -138,7 +138,7 @@ static inline void lr_print_trace(lr_text *text, const lr_run *run)
 static inline int lr_save_file(const lr_run *run, const char *path, unsigned thread,
                                void (*print)(lr_text *, const lr_run *, unsigned))
 {
-    char part[4096 + 8];
+    char part[LR_PATH + 8];
     snprintf(part, sizeof part, "%s.part", path);
     lr_text text = {fopen(part, "w"), NULL, 0, 0, 0};
     int fault = text.file ? 0 : errno;
@@ -170,41 +170,16 @@ static inline int lr_save_trace(const lr_run *run, const char *path)
     return lr_save_file(run, path, 0, lr_print_whole_trace);
 }
 
-/* The path of a thread's log in the run's folder, or of the trace if the thread is LR_NOBODY. */
-static inline int lr_path_of(char *path, const lr_run *run, unsigned thread)
-{
-    int length = thread == LR_NOBODY
-                     ? snprintf(path, 4096, "%s/run.trace", run->folder)
-                     : snprintf(path, 4096, "%s/thread-%u.log", run->folder, thread);
-    if (length > 0 && length < 4096) return 0;
-    lr_say("%s: %s", run->folder, strerror(ENAMETOOLONG));
-    return ENAMETOOLONG;
-}
-
-/* Takes away what an earlier run of more threads, or in another mode, left. */
-static inline int lr_remove_earlier(const lr_run *run)
-{
-    char path[4096];
-    int fault = 0;
-    for (unsigned t = run->threads; t <= LR_THREADS && !fault; t++) {
-        fault = lr_path_of(path, run, t < LR_THREADS ? t : (unsigned)LR_NOBODY);
-        if (fault || !remove(path) || errno == ENOENT) continue;
-        fault = errno;
-        lr_say("%s: %s", path, strerror(fault));
-    }
-    return fault;
-}
-
 static inline int lr_save_files(lr_run *run)
 {
-    char path[4096];
-    int fault = lr_remove_earlier(run);
+    char path[LR_PATH];
+    int fault = lr_remove_earlier(run->folder, run->threads);
     for (unsigned t = 0; t < run->threads && !fault; t++) {
-        fault = lr_path_of(path, run, t);
+        fault = lr_path_of(path, run->folder, t);
         if (!fault) fault = lr_save_file(run, path, t, lr_print_whole_log);
     }
     if (!LR_TURNS || fault) return fault;
-    fault = lr_path_of(path, run, LR_NOBODY);
+    fault = lr_path_of(path, run->folder, LR_NOBODY);
     return fault ? fault : lr_save_trace(run, path);
 }
 
@@ -227,6 +202,8 @@ static inline int lr_save(lr_run *run)
 {
     if (!run->folder) return 0;
     int fault = lr_save_files(run);
+    if (!fault) lr_remove_notes(run);
+    lr_close_notes(run);
     lr_leave_unwatched(run);
     return fault ? fault : lr_full_fault(run);
 }

@@ -5,17 +5,6 @@
    then. It has no part in the run, so a note costs nothing more. It is a grandchild, which the
    program need not wait for, in a session of its own, which no interrupt of a terminal ends. */
 
-/* Makes the folder, if it is not there. Says what is wrong with it. */
-static inline int lr_folder_fault(const char *folder)
-{
-    if (!folder || !mkdir(folder, 0777)) return 0;
-    int fault = errno;
-    struct stat found;
-    if (!stat(folder, &found)) fault = S_ISDIR(found.st_mode) ? 0 : ENOTDIR;
-    if (fault) lr_say("%s: %s", folder, strerror(fault));
-    return fault;
-}
-
 static inline int lr_save_files(lr_run *run);
 
 /* What the other process does: it ends in silence if a byte comes. */
@@ -30,9 +19,10 @@ static inline void lr_keep_watch(lr_run *run, int from)
     while (got < 0 && errno == EINTR);
     if (got > 0) _Exit(0);
     run->is_crashed = 1;
-    if (!lr_save_files(run))
-        lr_say("the program ended before its run was saved: its moves until then are in %s",
-               run->folder);
+    if (!lr_save_files(run)) {
+        lr_remove_notes(run);
+        lr_say_kept(run->folder);
+    }
     _Exit(0);
 }
 

@@ -1,4 +1,5 @@
 /* A ticket lock of atomics that note themselves; thread 1 does BODY in its fourth round, inside. */
+#include <assert.h>
 #include <pthread.h>
 #include <sched.h>
 #include <signal.h>

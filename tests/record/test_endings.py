@@ -17,7 +17,7 @@ pytestmark = pytest.mark.slow
 LEFT = "lockreplay_record: the program ended before its run was saved: its moves until then are in "
 # What thread 1 does, and the signal or the status with which its program ends.
 ENDS = {"abort()": -signal.SIGABRT, "raise(SIGKILL)": -signal.SIGKILL, "exit(0)": 0, "exit(7)": 7,
-        "_Exit(0)": 0, "raise(SIGSEGV)": -signal.SIGSEGV}
+        "_Exit(0)": 0, "raise(SIGSEGV)": -signal.SIGSEGV, "assert(0)": -signal.SIGABRT}
 
 
 @pytest.fixture
@@ -38,7 +38,8 @@ def test_crash(built, judge, mode, body):
     """What was noted until then is saved, whole and right."""
     program, logs = built(mode, body)
     done = ran(program, 2, 9, 1, logs)
-    assert (done.stderr, done.returncode) == (f"{LEFT}{logs}\n", ENDS[body])
+    said = re.sub(r"^endings: .* Assertion `0' failed\.\n", "", done.stderr)
+    assert (said, done.returncode) == (f"{LEFT}{logs}\n", ENDS[body])
     texts = {path.name: path.read_text() for path in logs.iterdir()}
     assert sorted(texts) == ["run.trace"][mode == "VALUES":] + ["thread-0.log", "thread-1.log"]
     assert texts["thread-1.log"].count("acquire") == 4
@@ -63,7 +64,7 @@ def test_threads_that_stand_still(built):
     done = ran(program, 2, 9, 1, logs, 1)
     assert re.match(r"lockreplay_record: [12] of 2 threads have not ended, and made no move for 1 "
                     r"s: (thread 0 \(.*\), )?thread 1 \('read now_serving found \d+' at "
-                    r"endings.c:15\)\n$", done.stderr)
+                    r"endings.c:16\)\n$", done.stderr)
     assert done.returncode == 1
     assert (logs / "thread-1.log").read_text().endswith("# thread 1 has not ended\n")
 

@@ -1,0 +1,50 @@
+/* What a run has in its folder: the logs of its threads, its trace, and its notes while it runs. */
+
+enum { LR_PATH = 4096 };
+
+/* Makes the folder, if it is not there. Says what is wrong with it. */
+static inline int lr_folder_fault(const char *folder)
+{
+    if (!folder || !mkdir(folder, 0777)) return 0;
+    int fault = errno;
+    struct stat found;
+    if (!stat(folder, &found)) fault = S_ISDIR(found.st_mode) ? 0 : ENOTDIR;
+    if (fault) lr_say("%s: %s", folder, strerror(fault));
+    return fault;
+}
+
+/* The path of a file of a folder. */
+static inline int lr_path_in(char *path, const char *folder, const char *name)
+{
+    int length = snprintf(path, LR_PATH, "%s/%s", folder, name);
+    if (length > 0 && length < LR_PATH) return 0;
+    lr_say("%s: %s", folder, strerror(ENAMETOOLONG));
+    return ENAMETOOLONG;
+}
+
+/* The path of a thread's log, or of the trace if the thread is LR_NOBODY. */
+static inline int lr_path_of(char *path, const char *folder, unsigned thread)
+{
+    char name[32] = "run.trace";
+    if (thread != LR_NOBODY) snprintf(name, sizeof name, "thread-%u.log", thread);
+    return lr_path_in(path, folder, name);
+}
+
+/* Takes away what an earlier run left, its trace and its logs from a thread on. */
+static inline int lr_remove_earlier(const char *folder, unsigned from)
+{
+    char path[LR_PATH];
+    int fault = 0;
+    for (unsigned t = from; folder && t <= LR_THREADS && !fault; t++) {
+        fault = lr_path_of(path, folder, t < LR_THREADS ? t : (unsigned)LR_NOBODY);
+        if (fault || !remove(path) || errno == ENOENT) continue;
+        fault = errno;
+        lr_say("%s: %s", path, strerror(fault));
+    }
+    return fault;
+}
+
+static inline void lr_say_kept(const char *folder)
+{
+    lr_say("the program ended before its run was saved: its moves until then are in %s", folder);
+}
