@@ -1,0 +1,44 @@
+"""What a note of the header in C costs a thread that runs as it likes, in memory and in a file.
+
+`bench/recording.py` measures it in nanoseconds, which a quiet machine is needed for. Here it is
+compared with the round of a ticket lock, whose four operations take about 12 ns where a note may
+take the 3 ns of docs/GUIDE.md. The shortest of many rounds is one that nothing held up.
+"""
+import pytest
+
+from recorders import WARNINGS
+from tree import TOP, output
+
+pytestmark = pytest.mark.slow
+
+FIGURES = {"ticket": 6, "mcs": 7, "bare": 1}  # how many notes a round has
+LOOPS, ROUNDS, MOST = 20000, 200, 0.25
+
+
+@pytest.fixture
+def build(tmp_path):
+    def built(mode):
+        assert output("gcc", "-std=c11", "-O2", *WARNINGS, "-pthread", f"-DLR_MODE={mode}",
+                      "-I", TOP / "record", "-o", tmp_path / mode,
+                      TOP / "bench" / "recording.c") == ""
+        return tmp_path / mode
+    return built
+
+
+def shorter(best, *words):
+    """The shortest rounds until now, after another one."""
+    return [min(pair) for pair in zip(best, map(float, output(*words).split()))]
+
+
+@pytest.mark.parametrize("is_file", [False, True], ids=["memory", "file"])
+def test_note(build, tmp_path, is_file):
+    off, on = build("OFF"), build("VALUES")
+    folder = [tmp_path / "logs"] if is_file else []
+    without = with_notes = [float("inf")] * len(FIGURES)
+    for _ in range(ROUNDS):
+        without, with_notes = shorter(without, off, LOOPS), shorter(with_notes, on, LOOPS, *folder)
+        costs = [(more - less) / count / without[0]
+                 for less, more, count in zip(without, with_notes, FIGURES.values())]
+        if max(costs) <= MOST:
+            return
+    pytest.fail(f"a note takes {costs} of a ticket lock's round of {without[0]} ns")
