@@ -82,12 +82,15 @@ def recover(program, logs):
 
 
 def test_killed(build, ordered, tmp_path):
-    """The process that keeps watch makes the logs, and takes the notes away."""
+    """The process that keeps watch makes the logs, which may be after the end of the program: to
+    recover them waits for it."""
     program, logs = build(GOES_ON), tmp_path / "logs"
     with started(program, logs) as process:
         process.kill()
+        process.wait()
+        assert recover(program, logs) == ("", 0)
+        assert len(ordered(logs)[1]) > 20
         assert process.communicate()[1] == f"{KEPT}{logs}\n"
-    assert len(ordered(logs)[1]) > 20
     assert recover(program, logs) == ("", 0)
 
 
