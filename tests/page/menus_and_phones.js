@@ -8,6 +8,17 @@ function dropFiles(files) {
   bring('drop', 'dataTransfer', data);
 }
 
+// Before the page's script: the browser keeps so many schedules and no more.
+function leaveRoom(room) {
+  const { setItem } = Storage.prototype;
+  Storage.prototype.setItem = function set(key, text) {
+    const isFull = Object.keys(this).filter((one) => one.startsWith('lockreplay.kept.')).length
+      >= room;
+    if (isFull && key.startsWith('lockreplay.kept.')) throw new DOMException('', 'QuotaError');
+    setItem.call(this, key, text);
+  };
+}
+
 const fitsAcross = () => [document.documentElement, byId('lessons')]
   .every((one) => one.scrollWidth <= one.clientWidth + 1);
 const instead = () => [byId('text').placeholder, byId('text').wrap];

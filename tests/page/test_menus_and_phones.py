@@ -50,6 +50,32 @@ def test_several_files(page):
     assert "Second" in page.text("#lessons .kept")
 
 
+def test_twenty_files(page):
+    """All of them are kept, and listed."""
+    page.open(LESSON)
+    page.js("dropFiles", [[f"{at}.txt", f"#! title Number {at}.\n{ONE}"] for at in range(20)])
+    assert "19 other files are kept" in page.until("text", "#notice")
+    page.press("Escape", "o")
+    assert page.js("texts", "#lessons .kept summary") == ["8 more"]
+    page.click("#lessons .kept summary")
+    page.click("#lessons .kept details button:last-of-type")
+    assert page.text("#title") == "Number 19."
+
+
+@pytest.mark.parametrize("room, said", [
+    (8, "Of the 19 other files the first 7 are kept, and listed with the lessons. The browser has "
+        "no room for more."),
+    (0, "The 19 other files are not kept. The browser has no room for more.")])
+def test_files_without_room(page, room, said):
+    """It is said how many are kept, and those are listed. The one that is shown is the newest."""
+    page.before("leaveRoom", room)
+    page.open(LESSON)
+    page.js("dropFiles", [[f"{at}.txt", f"#! title Number {at}.\n{ONE}"] for at in range(20)])
+    assert page.until("text", "#notice") == f"0.txt is shown. {said}"
+    page.press("Escape", "o")
+    assert len(page.js("texts", "#lessons [data-kept]")) == room
+
+
 def test_a_trace(page):
     """It is shown as the schedule that it has, and that is said."""
     page.open(LESSON)

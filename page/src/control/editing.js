@@ -4,6 +4,7 @@ import { bytesOf, lettersOf } from '../lib/bytes.js';
 import { bytesOfFile, saveAs } from '../lib/files.js';
 import { MOST_BYTES } from '../machine/codes.js';
 import { texts } from '../texts/texts.js';
+import { isKept } from '../model/kept_schedules.js';
 import { withoutValues } from '../model/trace_text.js';
 import { Editor } from '../view/editor.js';
 import { tell, toClipboard } from '../view/notice.js';
@@ -14,13 +15,19 @@ export class Editing {
     this.editor = new Editor((text, line) => this.edited(text, line), (line) => this.caretAt(line));
   }
 
-  // Of several files the first is shown. The others are kept, and listed with the lessons.
+  // Of several files the first is shown. Of the others as many as have room are kept, and listed
+  // with the lessons.
   async openFiles([first, ...others]) {
+    const { address, session } = this.page;
+    const opened = [];
     try {
       for (const file of [...others.reverse(), first]) {
         this.openText(await bytesOfFile(file, MOST_BYTES));
+        opened.push(session.held);
       }
-      if (others.length) tell(texts.own.several(first.name, others.length));
+      address.keep();
+      const kept = opened.slice(0, -1).filter(isKept).length;
+      if (others.length) tell(texts.own.several(first.name, others.length, kept));
     } catch {
       tell(texts.couldNotRead);
     }

@@ -6,6 +6,7 @@ import { html, show } from '../lib/markup.js';
 import { language, LANGUAGE_NAMES } from '../texts/language.js';
 import { texts } from '../texts/texts.js';
 import { doneLessons } from '../model/done_lessons.js';
+import { MOST_KEPT } from '../model/kept_schedules.js';
 import { remarksOf } from '../model/remarks.js';
 import { LOCKS } from '../locks/locks.js';
 import { withTerms } from '../view/terms.js';
@@ -18,6 +19,8 @@ export const FIRST_LESSON = 'ticket-hand-over';
 const T = texts.lessons;
 // Seconds for a move and for a question.
 const PACE = { move: 8, question: 30 };
+// How many of the kept schedules are not folded.
+const KEPT_AT_ONCE = 12;
 
 // Lessons with what one learns in them, how many moves they have and how long they take.
 /** @param {Run} run */
@@ -50,7 +53,10 @@ function keptView(kept) {
   if (!kept.length) return null;
   const one = ({ name, title, place }) => html`<button type="button" data-kept="${name}">
     ${title || texts.untitled} <span class="soft">${T.keptMove(place)}</span></button>`;
-  return html`<section class="kept"><h3>${T.kept}</h3>${kept.map(one)}</section>`;
+  const rest = kept.slice(KEPT_AT_ONCE);
+  return html`<section class="kept"><h3>${T.kept(MOST_KEPT)}</h3>${
+    kept.slice(0, KEPT_AT_ONCE).map(one)}${rest.length > 0 && html`<details><summary>${
+    texts.folded(rest.length)}</summary><div>${rest.map(one)}</div></details>`}</section>`;
 }
 
 const WAYS = ['own', 'play', 'find', 'plans'];

@@ -1,10 +1,10 @@
-// Schedules of one's own, kept in the browser's storage: the last few, each under a name of its
-// own, and a list of them. Without storage, or without room there, nothing is kept.
+// Schedules of one's own, kept in the browser's storage: the last ones, each under a name of
+// its own, and a list of them. Without storage, or without room there, nothing is kept.
 
 import { fromBase64, toBase64 } from '../lib/bytes.js';
 
 const LIST = 'lockreplay.kept';
-const MOST = 12;
+export const MOST_KEPT = 100;
 // Browsers give a site some five million letters.
 const MOST_LETTERS = 3000000;
 
@@ -21,12 +21,14 @@ function stored(key) {
   }
 }
 
+// False if there is no storage, or no room.
 function store(key, text) {
   try {
     if (text === null) localStorage.removeItem(key);
     else localStorage.setItem(key, text);
+    return true;
   } catch {
-    // No storage, or no room.
+    return false;
   }
 }
 
@@ -55,17 +57,24 @@ export function keepPlace(name, place) {
   store(LIST, JSON.stringify(list));
 }
 
+const has = ({ name, size }, coded) => size === coded.length && stored(keyOf(name)) === coded;
+
+export function isKept(text) {
+  const coded = toBase64(text);
+  return keptSchedules().some((one) => has(one, coded));
+}
+
 export function keepSchedule(name, text, place, title) {
   const coded = toBase64(text);
   const size = coded.length;
-  const same = (one) => one.name === name
-    || (one.size === size && stored(keyOf(one.name)) === coded);
+  const same = (one) => one.name === name || has(one, coded);
   let room = MOST_LETTERS;
   const before = keptSchedules();
   const list = [{ name, place, title, size }, ...before.filter((one) => !same(one))]
-    .slice(0, MOST).filter((one) => { room -= one.size; return room > 0; });
+    .slice(0, MOST_KEPT).filter((one) => { room -= one.size; return room > 0; });
   const names = list.map((one) => one.name);
   before.filter((one) => !names.includes(one.name)).forEach((one) => store(keyOf(one.name), null));
-  store(keyOf(name), coded);
+  // What is oldest makes room.
+  while (list.length && !store(keyOf(name), coded)) store(keyOf(list.pop().name), null);
   store(LIST, JSON.stringify(list));
 }

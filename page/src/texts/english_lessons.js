@@ -25,7 +25,8 @@ export const lessons = {
   groups: {
     refused: 'Refused moves', fault: 'Texts that are not schedules',
   },
-  kept: 'Kept in this browser', keptMove: (place) => `at move ${place}`,
+  kept: (most) => `Kept in this browser, the last ${most} at most`,
+  keptMove: (place) => `at move ${place}`,
 };
 
 export const hall = { noFullScreen: 'The browser did not allow the full screen.' };

@@ -218,7 +218,8 @@ export const german = {
       ended: 'Ende. Du hast gesehen:', next: (title) => `Weiter: ${title}`,
       noMore: 'Das war der letzte Zug.',
       groups: { refused: 'Abgelehnte Züge', fault: 'Texte, die keine Abläufe sind' },
-      kept: 'In diesem Browser aufgehoben', keptMove: (place) => `bei Zug ${place}`,
+      kept: (most) => `In diesem Browser aufgehoben, höchstens die letzten ${most}`,
+      keptMove: (place) => `bei Zug ${place}`,
     },
     own: {
       title: 'Der Ablauf',
@@ -226,9 +227,13 @@ export const german = {
         + 'fallen.',
       open: 'Öffnen', save: 'Speichern', copy: 'Kopieren', clear: 'Neu',
       copied: 'Der Ablauf ist kopiert.',
-      several: (name, others) => `${name} ist zu sehen. ${others === 1
-        ? 'Die andere Datei ist aufgehoben und steht'
-        : `Die ${others} anderen Dateien sind aufgehoben und stehen`} bei den Lektionen.`,
+      several: (name, others, kept) => {
+        const rest = kept === others ? '' : ' Für mehr hat der Browser keinen Platz.';
+        const those = others === 1 ? 'Die andere Datei ist' : `Die ${others} anderen Dateien sind`;
+        return `${name} ist zu sehen. ${kept === others || !kept ? those
+          : `Von den ${others} anderen Dateien sind die ersten ${kept}`} ${
+          kept ? 'aufgehoben, unter „Lektionen“' : 'nicht aufgehoben'}.${rest}`;
+      },
       trace: 'Das ist eine Spur. Sie ist als Ablauf zu sehen, ohne Wörter und Werte.',
       notCopied: 'Der Browser hat es nicht erlaubt. Wähle den Text aus und kopiere ihn.',
       label: 'Text des Ablaufs',

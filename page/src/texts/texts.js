@@ -195,8 +195,13 @@ const english = {
     hint: 'Type or paste a schedule, open a file, or drop one anywhere on the page.',
     open: 'Open', save: 'Save', copy: 'Copy', clear: 'New',
     copied: 'The schedule is copied.',
-    several: (name, others) => `${name} is shown. ${others === 1 ? 'The other file is'
-      : `The ${others} other files are`} kept, and listed with the lessons.`,
+    several: (name, others, kept) => {
+      const rest = kept === others ? '' : ' The browser has no room for more.';
+      const those = others === 1 ? 'The other file is' : `The ${others} other files are`;
+      return `${name} is shown. ${kept === others || !kept ? those
+        : `Of the ${others} other files the first ${kept} are`} ${
+        kept ? 'kept, and listed with the lessons' : 'not kept'}.${rest}`;
+    },
     trace: 'This is a trace. It is shown as a schedule, without its words and values.',
     notCopied: 'The browser did not allow it. Select the text and copy it.',
     label: 'Text of the schedule',
