@@ -72,3 +72,23 @@ function chunksOf(bytes) {
 }
 
 const asks = () => byId('take-answer').checkVisibility();
+
+// Says which moves are wanted, and gives what is said to that.
+function askMoves(from, to) {
+  for (const [id, move] of [['take-from', from], ['take-to', to]]) {
+    byId(id).value = move;
+    byId(id).dispatchEvent(new Event('input', { bubbles: true }));
+  }
+  const box = byId('take-cut');
+  return box.checkVisibility() ? plain(box.textContent) : '';
+}
+
+// Saves these moves, and gives what is said then.
+async function noticed(what, from, to) {
+  byId('take').close();
+  byId('notice').textContent = '';
+  click('#show-take');
+  askMoves(from, to);
+  await caught(() => click(`[data-take=${what}]`));
+  return text('#notice');
+}

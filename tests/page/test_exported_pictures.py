@@ -128,3 +128,19 @@ def test_for_latex(page, lesson, move, tmp_path):
     said = subprocess.run(["pdftotext", "state.pdf", "-"], cwd=tmp_path, check=True, text=True,
                           capture_output=True).stdout
     assert "acquire" in said or "rlock" in said
+
+
+@pytest.mark.parametrize("language, said", [
+    ("en", "Only the first 40 of 65 are drawn, up to move 49."),
+    ("de", "Nur die ersten 40 von 65 werden gezeichnet, bis Zug 49.")])
+def test_more_moves_than_are_drawn(page, language, said):
+    """It is said where one asks for them, and again when they are saved."""
+    page.open(f"{LATE_LINK}&lang={language}")
+    page.show("lock mcs threads 2\n0 acquire\n0 write\n0 swap\n1 acquire\n1 write\n1 swap\n"
+              "1 write\n1 write\n" + "1 read\n" * 92)
+    page.js("click", "#show-take")
+    assert page.js("askMoves", 10, 49) == ""
+    assert page.js("askMoves", 74, 10) == said
+    for what in ["strip", "animated"]:
+        assert page.js("noticed", what, 10, 74) == said
+        assert page.js("noticed", what, 10, 12) == ""

@@ -48,10 +48,28 @@ const wantedNow = () => Object.fromEntries(
     .map(({ name, checked }) => [name, checked]));
 
 // From which move to which one, as the dialog says it.
-function stretchNow({ session: { run: { count } } }) {
-  const [from, to] = ['take-from', 'take-to'].map((id) => (
+function askedNow({ session: { run: { count } } }) {
+  const [one, other] = ['take-from', 'take-to'].map((id) => (
     Math.min(count, Math.max(0, Math.trunc(Number(inputOf(id).value)) || 0))));
-  return from <= to ? [from, Math.min(to, from + MOST - 1)] : [to, Math.min(from, to + MOST - 1)];
+  return [Math.min(one, other), Math.max(one, other)];
+}
+
+function stretchNow(page) {
+  const [from, to] = askedNow(page);
+  return [from, Math.min(to, from + MOST - 1)];
+}
+
+// That not all of these moves are drawn, if that is so.
+function cutNow(page) {
+  const [from, to] = askedNow(page);
+  const count = to - from + 1;
+  return count > MOST ? T.cut(MOST, count, from + MOST - 1) : '';
+}
+
+function sayCut(page) {
+  const box = byId('take-cut');
+  box.textContent = cutNow(page);
+  box.hidden = !box.textContent;
 }
 
 // The state for a paper: drawn for a moment where it is not seen.
@@ -90,6 +108,11 @@ export function frameOf(address) {
     + `height="${FRAME.height}"></iframe>`;
 }
 
+function saveMoves(page, ending, bytes, type) {
+  saveAs(nameOf(page.session, ending), bytes, type);
+  if (cutNow(page)) tell(cutNow(page));
+}
+
 // What each export does.
 export function exportsOf(page) {
   const { session, address } = page;
@@ -98,9 +121,9 @@ export function exportsOf(page) {
     png: () => pngOf(page).then((bytes) => saveAs(nameOf(session, 'png'), bytes, 'image/png'))
       .catch(() => tell(T.noPicture)),
     tikz: () => saveAs(nameOf(session, 'tex'), encoded(tikzPicture(page))),
-    strip: () => saveAs(nameOf(session, 'strip.svg'), encoded(stripOf(page).text), 'image/svg+xml'),
+    strip: () => saveMoves(page, 'strip.svg', encoded(stripOf(page).text), 'image/svg+xml'),
     animated: () => animatedOf(page)
-      .then((bytes) => saveAs(nameOf(session, 'moves.png'), bytes, 'image/png'))
+      .then((bytes) => saveMoves(page, 'moves.png', bytes, 'image/png'))
       .catch(() => tell(T.noPicture)),
     report: () => saveAs(nameOf(session, 'report'), encoded(reportOf(session.run))),
     schedule: () => page.editing.save(),
@@ -122,10 +145,12 @@ export function exportDialog(page) {
     dialog.close();
     does[take]();
   });
+  dialog.addEventListener('input', () => sayCut(page));
   return () => {
     const { move, run: { count } } = page.session;
     inputOf('take-from').value = String(Math.max(0, move - 3));
     inputOf('take-to').value = String(Math.min(count, Math.max(3, move)));
+    sayCut(page);
     byId('take-answer').hidden = !isAsked(page.session.view({ answered: page.answered }));
     dialog.showModal();
     focusIn(dialog, '[data-take]');

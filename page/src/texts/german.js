@@ -105,6 +105,8 @@ export const german = {
       tikz: 'Dieser Zustand für LaTeX (TikZ)', from: 'Von Zug', to: 'bis Zug',
       strip: 'Der Speicher nach jedem dieser Züge (SVG)',
       animated: 'Diese Züge als bewegtes Bild (APNG)',
+      cut: (most, count, to) => `Nur die ersten ${most} von ${count} werden gezeichnet, bis Zug ${
+        to}.`,
       title: 'Exportieren', svg: 'Dieser Zustand als Bild (SVG)',
       png: 'Dieser Zustand als Bild (PNG)', report: 'Der ganze Bericht', schedule: 'Der Ablauf',
       frame: 'Rahmen für eine Folie kopieren', frameCopied: 'Der Rahmen ist kopiert.',

@@ -89,6 +89,7 @@ const english = {
     tikz: 'This state for LaTeX (TikZ)',
     from: 'From move', to: 'to move', strip: 'Memory after each of these moves (SVG)',
     animated: 'These moves as an animated picture (APNG)',
+    cut: (most, count, to) => `Only the first ${most} of ${count} are drawn, up to move ${to}.`,
     title: 'Export', svg: 'This state as a picture (SVG)',
     png: 'This state as a picture (PNG)', report: 'The whole report', schedule: 'The schedule',
     frame: 'Copy a frame for a slide', frameCopied: 'The frame is copied.',
