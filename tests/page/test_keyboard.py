@@ -131,7 +131,7 @@ KEYS = {
     "O": ("lessons", "Lektionen"), "E": ("your own", "eigener Ablauf"), "G": ("play:", "spielen:"),
     "W": ("every move", "jeder Zug"), "Q": ("quiz", "Quiz"), "C": ("compare", "vergleichen"),
     "L": ("link", "Link"), "P": ("print", "drucken"), "H": ("hall mode", "Saalmodus"),
-    "S": ("full screen", "ganze Bildschirm"), "M": ("find a moment", "Moment suchen"),
+    "S": ("full screen", "Vollbild"), "M": ("find a moment", "Situation suchen"),
     "V": ("view", "Ansicht"), "F": ("later moves", "spätere Züge"), "T": ("export", "exportieren"),
     "D": ("dark or light", "dunkel oder hell"), "?": ("these keys", "diese Tasten"),
 }

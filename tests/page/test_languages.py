@@ -1,6 +1,7 @@
 """The page in German: every sentence is there, none has a hole, pictures have room for its words,
 and reports stay as they are."""
 import json
+import re
 
 import pytest
 
@@ -110,3 +111,40 @@ def test_how_threads_stand(page):
         assert page.text(selector) == text, link
     page.open("#lesson=fifo-downgrade&move=0&lang=de")
     assert page.js("signs") == SIGNS
+
+
+# Words that German had besides the one for the same thing: Record, Zähler, drinnen, Reihenfolge,
+# Kopfzeile (a queue has a Kopf, its head), Trace, wieder bei 0.
+OTHER_WORDS = re.compile(
+    r"Eintrag|Zählung|\bdrin\b|[Ii]n (der|dieser|welcher) Folge\b|\bKopf (ist|erlaubt|beginnt)"
+    r"|ist eine Spur|laufen um|als nächster|(?<![Dd]as )(?<![Ii]hr )\bflag (ist|war|setzt|gesetzt)")
+
+
+def test_one_word_for_each_thing(page):
+    """In all that German says, which is in the page's body."""
+    page.open(GERMAN)
+    said = page.text("body").replace("' + '", "")
+    assert "flag gesetzt" in said and TRANSLATIONS["The late link"] in said
+    assert not OTHER_WORDS.findall(said)
+
+
+def test_titles_of_what_is_refused(page):
+    """They are German, but for the fault's own name."""
+    page.open("#lang=de")
+    page.click(".refusals summary")
+    said = page.text(".refusals")
+    for part in ["Busy: ein Aufruf", "WrongStep: ein read, wo", "BadThreads: 65 Threads"]:
+        assert part in said
+
+
+def test_the_card_of_mcs(page):
+    page.open("#lang=de")
+    assert "jeder neue Record wird mit dem letzten verknüpft" in page.text("[data-lock=mcs]")
+
+
+def test_comments_on_other_moves(page):
+    """That they are not in a link either is said in German too."""
+    page.open(GERMAN)
+    page.press("e")
+    page.js("write", (EXAMPLES / "mcs-late-link.schedule").read_text().replace("1 swap", "1 read"))
+    assert "weder gezeigt noch gespeichert, auch nicht im Link" in page.text("#verdict")

@@ -17,27 +17,27 @@ export const german = {
     untitled: 'Eigener Ablauf',
     branchOf: (title, move) => `${title}: anders nach Zug ${move}`,
     modes: {
-      lessons: 'Lektionen', own: 'Eigener', play: 'Spielen', quiz: 'Quiz', compare: 'Vergleich',
+      lessons: 'Lektionen', own: 'Eigenes', play: 'Spielen', quiz: 'Quiz', compare: 'Vergleich',
       hall: 'Saal', view: 'Ansicht',
     },
     compare: {
       label: 'Der Ablauf, mit dem verglichen wird', title: (title) => `Verglichen mit: ${title}`,
       first: (move) => `Erster Unterschied: Zug ${move}`, same: 'Kein Unterschied',
       here: 'hier:', there: 'dort:', hereMemory: 'Speicher hier', thereMemory: 'Speicher dort',
-      nothing: 'Es gibt nichts zu vergleichen. Zweige zuerst ab, beim Spielen oder im Text.',
+      nothing: 'Es gibt nichts zu vergleichen. Ändere zuerst etwas, beim Spielen oder im Text.',
       choose: 'Vergleichen mit',
       needs: 'Zwei Abläufe einer Sperre stehen übereinander, mit dem ersten Zug, in dem sie sich '
         + 'unterscheiden. Mache den zweiten aus diesem, oder wähle ihn.',
       ways: {
         play: ['Spielen', 'einen anderen nächsten Zug wählen'],
-        own: ['Eigener', 'den Text ändern oder einen öffnen'],
+        own: ['Eigenes', 'den Text ändern oder einen öffnen'],
       },
     },
     tools: {
       copyLink: 'Link', print: 'Drucken', dark: 'Dunkel', light: 'Hell', keys: 'Tasten',
       first: 'Erster Zug', back: 'Ein Zug zurück', forward: 'Ein Zug vor', last: 'Letzter Zug',
       run: 'Die Züge nacheinander abspielen', pause: 'Anhalten', slider: 'Zug',
-      close: 'Schließen', take: 'Exportieren', find: 'Suchen', plans: 'Lehren', more: 'Mehr',
+      close: 'Schließen', take: 'Exportieren', find: 'Suchen', plans: 'Unterricht', more: 'Mehr',
       leave: 'Saalmodus verlassen',
       speed: 'Tempo, in dem die Züge abgespielt werden',
     },
@@ -59,7 +59,7 @@ export const german = {
       fails: 'auf dem Regler: ein cas scheitert, oder ein Zug ist abgelehnt',
       fold: 'Threads, die nicht gezeichnet sind, und wie viele',
     },
-    hall: { noFullScreen: 'Der Browser hat den ganzen Bildschirm nicht erlaubt.' },
+    hall: { noFullScreen: 'Der Browser hat das Vollbild nicht erlaubt.' },
     plans: {
       title: 'Unterrichtspläne',
       hint: 'Zehn Minuten je Sperre, im Saalmodus. N geht zum nächsten Schritt, A zeigt die '
@@ -68,7 +68,7 @@ export const german = {
       place: (title, move) => `${title}, ${move}`,
       step: (at, count) => `Schritt ${at} von ${count}`,
       homework: 'Hausaufgabe:', sheet: 'Übungsblatt', next: 'Weiter N', last: 'Letzter Schritt',
-      back: 'Der Schritt davor', left: 'Übrige Minuten',
+      back: 'Ein Schritt zurück', left: 'Verbleibende Minuten',
     },
     presenter: {
       title: 'lockreplay: für den Vortrag', now: 'Dieser Zug', next: 'Der nächste Zug',
@@ -76,13 +76,13 @@ export const german = {
       blocked: 'Der Browser hat kein zweites Fenster erlaubt.',
     },
     find: {
-      title: 'Einen Moment suchen',
-      hint: 'Die bewiesene Suche geht alle Läufe einer neuen Sperre durch und nimmt einen '
-        + 'kürzesten, der hat, was du suchst.',
+      title: 'Eine Situation suchen',
+      hint: 'Die bewiesene Suche geht alle Läufe einer neuen Sperre durch und zeigt einen '
+        + 'kürzesten, in dem vorkommt, was du suchst.',
       kind: 'Welcher Zug', own: 'wie die Zeilen unten sagen',
-      sketch: 'Zeilen, die der Lauf in dieser Folge hat, mit anderen Zügen dazwischen. * ist '
-        + 'irgendein Thread.',
-      roundsEach: 'wie oft jeder Thread die Sperre nimmt', search: 'Suchen',
+      sketch: 'Zeilen, die der Lauf in dieser Reihenfolge hat, mit anderen Zügen dazwischen. * '
+        + 'ist ein beliebiger Thread.',
+      roundsEach: 'wie oft jeder Thread die Sperre nehmen darf', search: 'Suchen',
       searching: 'Die Suche läuft …',
       rounds: (count) => (count === 1 ? 'einmal' : `${count}-mal`),
       comment: (threads, rounds) => `Ein kürzester Lauf mit diesen Zeilen, mit ${threads}, von `
@@ -100,11 +100,11 @@ export const german = {
         + 'brauchen breitere Wörter.',
     },
     take: {
-      heading: 'mit Titel', legend: 'mit Zeichen', code: 'mit Code',
+      heading: 'mit Titel', legend: 'mit Zeichenerklärung', code: 'mit Code',
       answer: 'mit dem, wonach die offene Frage fragt',
       tikz: 'Dieser Zustand für LaTeX (TikZ)', from: 'Von Zug', to: 'bis Zug',
       strip: 'Der Speicher nach jedem dieser Züge (SVG)',
-      animated: 'Diese Züge als bewegtes Bild (APNG)',
+      animated: 'Diese Züge als animiertes Bild (APNG)',
       cut: (most, count, to) => `Nur die ersten ${most} von ${count} werden gezeichnet, bis Zug ${
         to}.`,
       title: 'Exportieren', svg: 'Dieser Zustand als Bild (SVG)',
@@ -128,8 +128,8 @@ export const german = {
     },
     links: {
       copied: 'Der Link ist kopiert.', inBar: 'Der Link steht in der Adresszeile.',
-      fromDisk: 'Er nennt diese Datei auf deiner Platte. Zum Teilen gehört die Seite auf einen '
-        + 'Webserver.',
+      fromDisk: 'Er führt zu dieser Datei auf deinem Rechner. Zum Teilen gehört die Seite auf '
+        + 'einen Webserver.',
       tooLong: 'Dieser Ablauf ist zu lang für einen Link. Er wird als Datei gespeichert, die die '
         + 'Seite öffnet.',
       damaged: 'Dieser Link ist beschädigt, sein Ablauf ist nicht lesbar. Die Adresse bleibt.',
@@ -151,10 +151,10 @@ export const german = {
     wrote: (word, left, found) => `${word} = ${left} (war ${found})`,
     legend: {
       call: 'ruft auf', vain: 'wartet: vergebliche Abfrage', enters: 'tritt ein',
-      leaves: 'hat verlassen', moves: 'der Aufruf geht weiter', blank: 'auszufüllen',
+      leaves: 'ist draußen', moves: 'der Aufruf geht weiter', blank: 'auszufüllen',
       fails: 'cas scheitert', inCall: 'in einem Aufruf', queue: 'in der Schlange', holds: 'hält',
       reads: 'liest', writes: 'schreibt', unlinked: 'in der Schlange, nicht verknüpft',
-      ended: 'der Schreibzugriff, der ein Warten beendet hat',
+      ended: 'das write, das ein Warten beendet hat',
     },
     marks: {
       fails: 'scheitert', done: 'getan', unlinked: 'in der Schlange, nicht verknüpft',
@@ -179,7 +179,8 @@ export const german = {
     plain: {
       called: 'ein Aufruf beginnt', moved: 'der Aufruf geht weiter',
       waits: 'eine vergebliche Abfrage',
-      entered: 'der Thread hält von hier an', left: 'der Thread hält nicht mehr',
+      entered: 'von hier an hält der Thread die Sperre',
+      left: 'der Thread hält die Sperre nicht mehr',
       fails: 'das compare-and-swap scheitert',
     },
     facts: { wrote: 'Schrieb', holds: 'Hält', queue: 'Schlange', report: 'Bericht' },
@@ -197,22 +198,23 @@ export const german = {
     lessons: {
       title: 'Lektionen',
       what: [
-        'Diese Seite spielt vier Sperren der Lehrbücher, einen atomaren Schritt nach dem anderen: '
-          + 'wer die Sperre hält, wer wartet und was im Speicher steht.',
+        'Diese Seite spielt vier Sperren aus Lehrbüchern durch, einen atomaren Schritt nach dem '
+          + 'anderen, und zeigt, wer die Sperre hält, wer wartet und was im Speicher steht.',
         'Wähle eine Lektion und drücke →; über jeden Zug entscheidet eine bewiesene Maschine.',
       ],
       teaches: {
         ticket: 'Wer zuerst ein Ticket zieht, tritt zuerst ein. Die leichteste: fang hier an.',
-        mcs: 'Jeder Thread fragt ein eigenes Wort ab; eine Schlange hängt hinter dem Ende.',
+        mcs: 'Jeder Thread fragt ein eigenes Wort ab; jeder neue Record wird mit dem letzten '
+          + 'verknüpft.',
         'rw-simple': 'Leser teilen sich die Sperre, ein Schreiber hat sie allein und kann '
           + 'verhungern.',
         'rw-fifo': 'Ein Schreiber kündigt sich an, und spätere Leser warten hinter ihm.',
       },
       ways: {
-        own: ['Eigener', 'Einen Ablauf schreiben, öffnen oder fallen lassen.'],
-        play: ['Spielen', 'Wählen, wer als nächster zieht.'],
-        find: ['Einen Moment suchen', 'Einen kürzesten Lauf mit einem Zug suchen.'],
-        plans: ['Lehren', 'Vier Unterrichtspläne von zehn Minuten.'],
+        own: ['Eigenes', 'Einen Ablauf schreiben, öffnen oder hierher ziehen.'],
+        play: ['Spielen', 'Wählen, wer den nächsten Zug macht.'],
+        find: ['Eine Situation suchen', 'Einen kürzesten Lauf mit einem Zug suchen.'],
+        plans: ['Unterricht', 'Vier Unterrichtspläne von zehn Minuten.'],
       },
       size: (moves, minutes) => `${moves} Züge, etwa ${minutes} min`,
       done: 'fertig',
@@ -225,8 +227,7 @@ export const german = {
     },
     own: {
       title: 'Der Ablauf',
-      hint: 'Tippe oder füge einen Ablauf ein, öffne eine Datei, oder lass sie auf die Seite '
-        + 'fallen.',
+      hint: 'Tippe oder füge einen Ablauf ein, öffne eine Datei, oder ziehe sie auf die Seite.',
       open: 'Öffnen', save: 'Speichern', copy: 'Kopieren', clear: 'Neu',
       copied: 'Der Ablauf ist kopiert.',
       several: (name, others, kept) => {
@@ -236,16 +237,16 @@ export const german = {
           : `Von den ${others} anderen Dateien sind die ersten ${kept}`} ${
           kept ? 'aufgehoben, unter „Lektionen“' : 'nicht aufgehoben'}.${rest}`;
       },
-      trace: 'Das ist eine Spur. Sie ist als Ablauf zu sehen, ohne Wörter und Werte.',
+      trace: 'Das ist ein Trace. Er ist als Ablauf zu sehen, ohne Wörter und Werte.',
       notCopied: 'Der Browser hat es nicht erlaubt. Wähle den Text aus und kopiere ihn.',
       label: 'Text des Ablaufs',
       ends: (count) => (count === 1
         ? 'Der eine Zug ist angenommen.' : `Alle ${count} Züge sind angenommen.`),
-      noMoves: 'Der Kopf ist angenommen. Noch kein Zug.',
+      noMoves: 'Die Kopfzeile ist angenommen. Noch kein Zug.',
       line: (number) => `Zeile ${number}`,
       large: (bytes) => `${grouped(bytes)} Bytes: zu viel, um es hier zu ändern.`,
-      begins: 'Ein Ablauf beginnt mit einem Kopf. Jede weitere Zeile ist ein Zug: die Nummer eines '
-        + 'Threads, und ein Aufruf oder ein Schritt.',
+      begins: 'Ein Ablauf beginnt mit einer Kopfzeile. Jede weitere Zeile ist ein Zug: die Nummer '
+        + 'eines Threads, und ein Aufruf oder ein Schritt.',
       forms: (locks, [least, most]) => `Sperren: ${locks}. Threads: ${least} bis ${most}. Danach `
         + 'kann die Breite der Wörter kommen, wie in „bits 2“.',
       stepThrough: (count) => (count === 1
@@ -253,14 +254,15 @@ export const german = {
       fix: (line) => `„${line}“ schreiben`,
       removeReturns: 'Alle Wagenrückläufe entfernen',
       stale: (count) => (count === 1
-        ? 'Eine Kommentarzeile gehört zu anderen Zügen. Sie wird nicht gezeigt und gespeichert.'
-        : `${count} Kommentarzeilen gehören zu anderen Zügen. Sie werden nicht gezeigt und `
-          + 'gespeichert.'),
+        ? 'Eine Kommentarzeile gehört zu anderen Zügen. Sie wird weder gezeigt noch gespeichert, '
+          + 'auch nicht im Link.'
+        : `${count} Kommentarzeilen gehören zu anderen Zügen. Sie werden weder gezeigt noch `
+          + 'gespeichert, auch nicht im Link.'),
       keep: 'Behalten',
     },
     play: {
       title: 'Spielen',
-      hint: 'Wähle, wer als nächster zieht. Die Maschine spielt, was du wählst.',
+      hint: 'Wähle, wer den nächsten Zug macht. Die Maschine spielt, was du wählst.',
       branch: (move) => `Was du hier wählst, ist der nächste Zug nach Zug ${move}.`,
       every: 'Jeder Zug, auch die, die abgelehnt werden',
       undo: 'Rückgängig', next: 'nächster', may: 'darf aufrufen',
@@ -276,13 +278,13 @@ export const german = {
     quiz: {
       title: 'Was geschieht als Nächstes?',
       next: (move, who, word) => `Zug ${move}: ${who}, ${word}`,
-      outcome: 'Was ist sein Ergebnis?', holders: 'Wer hält dann?',
+      outcome: 'Was ist sein Ergebnis?', holders: 'Wer hält dann die Sperre?',
       queue: 'Wer ist dann in der Schlange?',
       goOn: (move) => `Weiter mit →: Vor Zug ${move} wird gefragt, was kommt. Eine falsche Antwort `
         + 'kostet einen Punkt. Q beendet das Quiz.',
       noneLeft: 'In diesem Ablauf ist keine Frage mehr offen. Q beendet das Quiz.',
       hint: {
-        holders: 'Nummern oder Namen: - für niemand, 0 für einen, r0,2 für Leser, w1 für einen '
+        holders: 'Nummern oder Namen: - für niemand, 0 für Thread 0, r0,2 für Leser, w1 für einen '
           + 'Schreiber.',
         queue: 'Nummern oder Namen der Reihe nach: - für niemand, 0,2 für Thread 0, dann 2.',
       },
@@ -296,21 +298,25 @@ export const german = {
       lastWrong: 'Das war der letzte Zug. Falsch waren:',
       outcomes: {
         moved: 'moved: der Aufruf geht weiter', waits: 'waits: vergebliche Abfrage',
-        entered: 'entered: der Thread hält', left: 'left: er hält nicht mehr',
+        entered: 'entered: der Thread hält sie', left: 'left: er hält sie nicht mehr',
       },
       why: {
-        moved: 'Das Ergebnis ist „moved“: Der Aufruf geht weiter, und es halten dieselben.',
-        waits: 'Das Ergebnis ist „waits“: Die Abfrage war vergeblich, und der Thread fragt wieder.',
+        moved: 'Das Ergebnis ist „moved“: Der Aufruf geht weiter, und es halten dieselben '
+          + 'Threads die Sperre.',
+        waits: 'Das Ergebnis ist „waits“: Die Abfrage war vergeblich, und der Thread fragt '
+          + 'wieder ab.',
         entered: 'Das Ergebnis ist „entered“: Von diesem Zug an hält der Thread die Sperre.',
-        left: 'Das Ergebnis ist „left“: Von diesem Zug an hält der Thread so nicht mehr.',
+        left: 'Das Ergebnis ist „left“: Von diesem Zug an hält der Thread die Sperre nicht mehr '
+          + 'so.',
       },
-      whyQueue: 'In der Schlange steht, wer einen Platz hat und noch nicht ging, der älteste vorn.',
+      whyQueue: 'In der Schlange ist, wer dort einen Platz genommen hat und noch nicht gegangen '
+        + 'ist, der Älteste zuerst.',
     },
     noMachine: 'Dieser Browser hat keinen WebAssembly-Speicher mit 64 Bit, also läuft die Maschine '
       + 'hier nicht. Die Lektionen werden gezeigt, wie die Maschine sie gespielt hat; ein eigener '
       + 'Ablauf braucht einen neueren Browser.',
     notStored: 'In diesem Browser lassen sich nur die Lektionen zeigen.',
-    couldNotRead: 'Die Datei war nicht zu lesen.',
+    couldNotRead: 'Die Datei ließ sich nicht lesen.',
     print: {
       code: 'Code', after: (move) => (move ? `nach Zug ${move}` : 'vor dem ersten Zug'),
       questions: 'Fragen', table: 'Züge', move: 'Zug', thread: 'Thread',
@@ -319,8 +325,8 @@ export const german = {
       name: 'Name:', date: 'Datum:', blankMemory: 'Speicher zum Ausfüllen',
       memoryAfter: (move) => `Speicher nach Zug ${move}`,
       task: 'Zeichne jedes Zeichen nach seinem Ergebnis, und fülle die Tabelle aus: das Ergebnis '
-        + '(called, moved, waits, entered oder left), wer hält, und wer in der Schlange ist, der '
-        + 'Älteste zuerst.',
+        + '(called, moved, waits, entered oder left), wer die Sperre hält, und wer in der '
+        + 'Schlange ist, der Älteste zuerst.',
     },
     refused: {
       NoSuchThread: 'Es gibt keinen {thread}: Die Sperre hat {threads}, von 0 bis {last}.',
@@ -348,20 +354,20 @@ export const german = {
       blankStart: 'Am Anfang der Zeile ist ein Leerzeichen.',
       twoBlanks: 'Es sind zwei Leerzeichen hintereinander.',
       tab: 'Da ist ein Tabulator. Zwischen Wörtern ist ein Leerzeichen.',
-      mark: 'Die Zeile beginnt mit einer Bytereihenfolge-Marke.',
+      mark: 'Die Zeile beginnt mit einem Byte-Order-Mark (BOM).',
       utf16: 'Der Text ist UTF-16. Speichere ihn als UTF-8 oder als reines ASCII.',
       returnsAlone: 'Die Zeilen enden nur mit Wagenrückläufen (CR). Richtig ist Zeilenvorschub.',
       noBreak: 'Da ist ein geschütztes Leerzeichen. Richtig ist ein einfaches.',
       unseen: 'Da ist ein unsichtbares Zeichen, {code}.',
-      stranger: '„{letter}“ ist kein Zeichen von ASCII, sondern {code}.',
+      stranger: '„{letter}“ ist kein ASCII-Zeichen, sondern {code}.',
       TooLong: `Der Text hat mehr als ${grouped(MOST_BYTES)} Bytes. Mehr darf ein Ablauf nicht `
         + 'haben.',
       TooManyMoves: `Das wäre Zug ${grouped(MOST_MOVES + 1)}. Ein Ablauf hat höchstens ${
         grouped(MOST_MOVES)}.`,
-      NoHeader: 'Es gibt keinen Kopf: Jede Zeile ist leer oder beginnt mit #.',
+      NoHeader: 'Es gibt keine Kopfzeile: Jede Zeile ist leer oder beginnt mit #.',
       header: 'lock NAME threads N, oder lock NAME threads N bits B',
-      headerShape: 'Das ist kein Kopf. Ein Ablauf beginnt mit einem.',
-      noLockWord: 'Ein Kopf beginnt mit „lock“.', unknownLock: 'Unbekannte Sperre {found}.',
+      headerShape: 'Das ist keine Kopfzeile. Ein Ablauf beginnt mit einer.',
+      noLockWord: 'Eine Kopfzeile beginnt mit „lock“.', unknownLock: 'Unbekannte Sperre {found}.',
       noThreadsWord: 'Nach dem Namen der Sperre kommt „threads“.',
       noBitsWord: 'Nach der Zahl der Threads darf nur „bits“ kommen.',
       badBits: '„{found}“ ist keine Zahl von Bits.', range: 'eine Zahl von {least} bis {most}',

@@ -25,18 +25,18 @@ export const germanKinds = {
     'acquire: entered': '{who} findet das eigene Ticket, {found}, in now_serving und tritt ein',
     'acquire: poll before its turn': '{who} fragt ab und wartet: now_serving ist {found}, das '
       + 'eigene Ticket {number}',
-    'release: read the ticket served': '{who} liest now_serving, um es weiterzugeben: Es ist '
-      + '{found}',
+    'release: read the ticket served': '{who} liest now_serving, um die Sperre weiterzugeben: Es '
+      + 'ist {found}',
     'release: served the next ticket': '{who} schreibt {left} in now_serving und hat die Sperre '
       + 'verlassen',
   },
   mcs: {
     ...QUEUE_CALLS,
     'acquire: cleared its next': '{who} schreibt nil in das eigene next',
-    'acquire: entered without waiting': '{who} tauscht tail gegen den eigenen Eintrag; es war '
-      + 'nil: {who} tritt ein',
+    'acquire: entered without waiting': '{who} tauscht tail gegen den eigenen Record und '
+      + 'findet nil: {who} tritt ein',
     'acquire: joined the queue': '{who} tauscht tail aus und findet {finds}; von hier an ist '
-      + '{who} in der Schlange, doch kein Wort im Eintrag von {finds} sagt es',
+      + '{who} in der Schlange, doch kein Wort im Record von {finds} sagt es',
     'acquire: set its locked': '{who} setzt das eigene locked auf 1, vor dem Link',
     'acquire: linked itself': '{who} schreibt den Link: next von {other} zeigt jetzt auf {who}',
     'acquire: poll of a missing grant': '{who} fragt das eigene locked ab und wartet: Es ist noch '
@@ -56,27 +56,27 @@ export const germanKinds = {
   },
   'rw-simple': {
     ...CALLS, ...FLAG,
-    'rlock: entered': '{who} findet keinen Schreiber und zählt sich: readers ist nun {readers}',
-    'runlock: left': '{who} zählt sich aus und hat die Sperre verlassen: readers ist nun '
+    'rlock: entered': '{who} findet keinen Schreiber und trägt sich ein: readers ist nun {readers}',
+    'runlock: left': '{who} trägt sich aus und hat die Sperre verlassen: readers ist nun '
       + '{readers}',
-    'wlock: entered': '{who} findet keinen Leser und das flag frei, setzt das flag und schreibt',
+    'wlock: entered': '{who} findet keinen Leser und das flag gelöscht, setzt es und schreibt',
     'wlock: poll of a taken lock': '{who} fragt ab und wartet: readers ist {readers}, und das '
       + 'flag ist {flag}; beide müssen 0 sein',
     'downgrade: entered': '{who} wird in einem Abschnitt zum Leser: readers ist nun {readers}, '
-      + 'und das flag ist frei',
+      + 'und das flag ist gelöscht',
   },
   'rw-fifo': {
     ...CALLS, ...FLAG,
-    'rlock: entered': '{who} findet das flag frei und zählt sich: readAcquires ist nun '
+    'rlock: entered': '{who} findet das flag gelöscht und trägt sich ein: readAcquires ist nun '
       + '{readAcquires}',
-    'runlock: left': '{who} zählt sich aus und hat die Sperre verlassen: readReleases ist nun '
+    'runlock: left': '{who} trägt sich aus und hat die Sperre verlassen: readReleases ist nun '
       + '{readReleases}',
     'wlock: entered without waiting': '{who} setzt das flag, findet die Zähler gleich und '
       + 'schreibt',
     'wlock: poll of a taken lock': '{who} fragt ab und wartet: Das flag ist gesetzt; {who} ist '
       + 'nicht in der Schlange',
     'downgrade: entered': '{who} wird in einem Abschnitt zum Leser: readAcquires ist nun '
-      + '{readAcquires}, und das flag ist frei',
+      + '{readAcquires}, und das flag ist gelöscht',
     'wlock: announced itself': '{who} setzt das flag und ist damit angekündigt: Vor {who} kommt '
       + 'kein Leser mehr hinein; die Zähler sind {readAcquires} und {readReleases}, also wartet '
       + '{who} auf die Leser',
