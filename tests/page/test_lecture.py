@@ -12,9 +12,9 @@ GUIDE = (TOP / "docs" / "GUIDE.md").read_text("utf-8")
 LESSONS = {"ticket": "ticket-", "mcs": "mcs-", "rw-simple": "simple-", "rw-fifo": "fifo-"}
 
 
-def begin(page, lock):
+def begin(page, lock, language="en"):
     """By key and click, as a lecturer does it."""
-    page.open("#lesson=ticket-hand-over&move=0")
+    page.open(f"#lesson=ticket-hand-over&move=0&lang={language}")
     page.press("n")
     assert page.js("isOpen")
     page.click(f'#plans [data-plan="{lock}"][data-step="0"]')
@@ -47,6 +47,50 @@ def test_a_plan_step_by_step(page, plan, width, height):
     page.press("Escape")
     shown = page.js("step")
     assert not shown["hall"] and not shown["step"], shown
+
+
+@pytest.mark.parametrize("plan", PLANS, ids=list(LESSONS))
+def test_a_plan_in_german(page, plan):
+    """Its words are longer, and on the least screen none is cut, of controls neither."""
+    page.resize(1024, 768)
+    begin(page, plan["lock"], "de")
+    for at in range(1, len(plan["steps"]) + 1):
+        for _ in range(2):
+            shown = page.js("step")
+            assert shown["isSeen"] and not shown["cut"], (at, shown)
+            page.press("a")
+        page.press("n")
+
+
+def test_what_a_question_asks_for_is_not_beside_it(page):
+    """Neither the next step of a thread nor, if it is asked for, that a writer is announced."""
+    for lock, answer in [("mcs", "holds"), ("rw-fifo", "announced")]:
+        page.resize(1024, 768)
+        begin(page, lock)
+        assert page.js("step")["discs"] == 0 and "announced" not in page.text("#memory-picture")
+        page.press("a")
+        assert page.js("step")["discs"] and answer in page.text("#memory-picture")
+
+
+def test_memory_of_the_last_step_of_mcs(page):
+    """All of it is seen: three records, and a variable of one's own."""
+    page.resize(1024, 768)
+    begin(page, "mcs")
+    page.press(*"nnnn")
+    assert page.js("step")["parts"] == ["memory"] and "own variable" in page.js("seenOfMemory")
+
+
+@pytest.mark.parametrize("lock, further", [("mcs", 3), ("rw-fifo", 1)])
+@pytest.mark.parametrize("width, height", [(1024, 768), (1366, 768)])
+def test_a_step_that_compares(page, lock, further, width, height):
+    """Letters of its memory have 2 % of the screen's height, and a word its room above a lane."""
+    page.resize(width, height)
+    begin(page, lock)
+    page.press(*"n" * further)
+    for _ in range(2):
+        least, between = page.js("compared")
+        assert least >= 0.0199 and between > 0.05, (least, between)
+        page.press("a")
 
 
 def test_the_clock(page):

@@ -39,17 +39,25 @@ const RECORD = {
   narrowest: 123, widest: 156, height: 108, gap: 52, wideGap: 74, top: 86, row: 170, last: 172,
   left: 19, edge: 14,
 };
+// Beside another run's memory in a hall.
+const LOW = { top: 64, last: 150 };
 // Up to so many records stay in one row, even if a picture of two rows would be larger.
 const BESIDE = 4;
 const MOST_NAMED = 8;
 // Records and the tail's box grow for names that threads were given, up to so much.
 const WIDEST = 240;
-const HEAD = { left: 14, right: 13, between: 9 };
+const HEAD = { left: 14, right: 13, between: 6 };
 const FIELD = { left: 71, right: 11 };
 const TAIL_BOX = { left: 70, width: 86, widest: 170 };
 
+/** @param {View} view */
+const isLow = ({ compares }) => compares && looks.hall;
+/** @param {View} view */
+const topOf = (view) => (isLow(view) ? LOW.top : RECORD.top);
+
 // Between records there is room for "no link".
-const gapNow = () => (looks.hall ? RECORD.wideGap : RECORD.gap);
+const gapNow = () => (looks.hall
+  ? Math.min(RECORD.wideGap, 26 + widthOf(T.noLink, 'small')) : RECORD.gap);
 
 function valueText(word, value, { run, names }) {
   if (run.owned.at(word)?.field === 'locked') return String(value);
@@ -102,7 +110,7 @@ function layOut(view, state) {
   const room = view.width - 2 * RECORD.left;
   const most = Math.max(1, Math.floor((room + gapNow()) / (RECORD.narrowest + gapNow())));
   const { shown, hidden } = order(view, state, most);
-  const fitting = Math.max(1, Math.floor((view.height - RECORD.top + RECORD.edge) / RECORD.row));
+  const fitting = Math.max(1, Math.floor((view.height - topOf(view) + RECORD.edge) / RECORD.row));
   const moving = movingThread(view);
   const all = folding(shown, (one) => one === moving, view.tight ? most * fitting : Infinity);
   const inRow = Math.min(most, Math.max(1, all.length));
@@ -112,7 +120,7 @@ function layOut(view, state) {
   const entries = all.map(({ one, folded }, i) => {
     const row = Math.floor(i / inRow);
     const place = {
-      x: RECORD.left + (i % inRow) * (width + gap), y: RECORD.top + row * RECORD.row, row,
+      x: RECORD.left + (i % inRow) * (width + gap), y: topOf(view) + row * RECORD.row, row,
     };
     (folded ?? [one]).forEach((thread) => places.set(thread, place));
     return { one, folded, place };
@@ -142,9 +150,9 @@ function ownVariable(view, state, thread, width) {
     <rect class="own" x=".5" width="${width - 1}" height="28" rx="8"/>
     <text class="mono value" x="${width / 2}" y="19"
       text-anchor="middle">${fitted(held, width - BOX_EDGES, 'word')}</text>
-    <text class="note" x="${width / 2}" y="45"
+    ${!isLow(view) && html`<text class="note" x="${width / 2}" y="45"
       text-anchor="middle">${
-  firstFitting([whose, texts.variable], roomOfLabel(width), 'small')}</text>
+  firstFitting([whose, texts.variable], roomOfLabel(width), 'small')}</text>`}
   </g>`;
 }
 
@@ -258,7 +266,8 @@ function caption(view, state) {
 function draw(view, state) {
   const layout = layOut(view, state);
   const { width } = layout;
-  const height = RECORD.top + (layout.rows - 1) * RECORD.row + RECORD.last;
+  const { last } = isLow(view) ? LOW : RECORD;
+  const height = topOf(view) + (layout.rows - 1) * RECORD.row + last;
   const text = isCovered(view, 'memory') ? T.memory : caption(view, state).text;
   const drawn = picture(view, height, text, html`${tail(view, state, layout)}
     ${layout.entries.map((entry) => (entry.folded ? foldedRecords(view, entry, width)

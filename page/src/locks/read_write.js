@@ -73,10 +73,17 @@ function pollFailed(view, thread) {
   return last > 0 && view.run.records.outcome(last) === OUTCOME.waits;
 }
 
+// What a caller wants. That it is announced is not said if a question asks for that.
+/** @param {View} view @param {State} state */
+function wantedBy(view, state, thread) {
+  const phase = PHASES[state.phase(thread)];
+  return wants[phase === 'AwaitReaders' && isCovered(view, 'standing') ? 'TryWrite' : phase];
+}
+
 // A caller's row: what it wants, and below it whether its poll failed.
 /** @param {View} view @param {State} state */
 function callerRow(view, state, thread, x, at) {
-  const wanted = wants[PHASES[state.phase(thread)]];
+  const wanted = wantedBy(view, state, thread);
   const failed = pollFailed(view, thread);
   return html`${token(x + 13, at, view, thread)}
     <text class="wants" x="${x + 36}" y="${at + (failed ? -1 : 5)}"><title>${wanted}</title>${

@@ -31,11 +31,11 @@ function draw(view, state) {
     useOf(view.run, view.marked, wordNamed(NAME, name)), name);
   const beside = view.width >= BESIDE;
   const roomWidth = Math.min(272, beside ? view.width * 0.44 : view.width - 48);
-  const inside = 104 + roomHeight(view, state, roomWidth);
+  const inside = 92 + roomHeight(view, state, roomWidth);
   const [x, y] = beside ? [roomWidth + 64, 24] : [24, inside + 12];
   const height = Math.max(inside + 12, monitorEnd(view, state, y));
   return picture(view, height, caption(view, state).text, html`${box(READERS, 24)}${box(FLAG, 152)}
-    ${room(view, state, 24, 104, roomWidth)}${monitor(view, state, x, y)}`);
+    ${room(view, state, 24, 92, roomWidth)}${monitor(view, state, x, y)}`);
 }
 
 const caption = readersCaption(NAME);

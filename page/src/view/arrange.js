@@ -24,8 +24,8 @@ const LANES = {
   wide: 0.29, medium: 0.245, tall: 0.2, low: 0.2, phone: 0.145, row: 0.29, column: 0.24,
 };
 const COMPARED = 0.17;
-// In a hall they are as low as can be, since two memories are below.
-const COMPARED_LANE = { height: 26, foot: 6, most: 5 };
+// In a hall a few have room for their words, and more are as low as can be.
+const COMPARED_LANE = { height: 26, foot: 6, most: 5, tallest: 37, few: 96 };
 // Above memory on a projector, and above another part.
 const ABOVE = { memory: 0.2, other: 0.24 };
 const LOW = { wide: { height: 800, share: 0.26 }, medium: { height: 600, share: 0.2 } };
@@ -52,8 +52,9 @@ function arrangementOf(width, height, parts, isPlain, run) {
 }
 
 function comparedHeight(height, threads) {
-  const { height: lane, foot, most } = COMPARED_LANE;
-  if (looks.hall) return lane * Math.min(most, threads) + foot;
+  const { height: lane, foot, most, tallest, few } = COMPARED_LANE;
+  const least = lane * Math.min(most, threads);
+  if (looks.hall) return Math.max(least, Math.min(few, tallest * threads)) + foot;
   return Math.max(LANES_LEAST, height * COMPARED);
 }
 

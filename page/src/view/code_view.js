@@ -1,7 +1,9 @@
-// The lock's code, with the line of the move just made and the line that each thread does next.
+// The lock's code, with the line of the move just made and the line that each thread does next,
+// unless a question is open: it may ask for that.
 
 import { html } from '../lib/markup.js';
 import { MOVES, PHASES } from '../machine/codes.js';
+import { isAsked } from '../model/remarks.js';
 import { movingThread, standingIn } from '../locks/shapes.js';
 
 /** @typedef {import('../machine/machine.js').AnyState} State */
@@ -68,7 +70,7 @@ export function codeView(view, state, lines) {
   const made = madeLine(view, state);
   return html`${lines.map((line, i) => {
     const first = line.phase !== undefined && line.phase !== lines[i - 1]?.phase;
-    const threads = first ? threadsAt(state, line.phase, view.run.threads) : [];
+    const threads = first && !isAsked(view) ? threadsAt(state, line.phase, view.run.threads) : [];
     return codeLine(view, line, wasMade(line, made), threads);
   })}`;
 }

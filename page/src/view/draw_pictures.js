@@ -86,7 +86,7 @@ const NEAREST_LINES = 21;
 // and at last more room for them.
 const FITS = ['', '1', '1 2', '1 2 3', '1 2 3 4', '1 2 3 4 5'];
 // In a hall no letters are smaller.
-const FITS_IN_A_HALL = ['', 'hall'];
+const FITS_IN_A_HALL = ['', 'hall', 'hall less'];
 
 function fitNow() {
   const box = byId('now');

@@ -14,7 +14,7 @@ import { lockOf } from '../locks/locks.js';
 // beside a name there.
 const GUTTER = { least: 122, share: 0.16 };
 export const NAME_EDGES = { left: 20, right: 10 };
-const COLUMN = { compared: 22, narrowest: 16, least: 44, most: 66, widest: 120 };
+const COLUMN = { compared: 19, narrowest: 16, least: 44, most: 66, widest: 120 };
 export const LANE = { tallest: 85, lowest: 38, compared: 26, foot: 6 };
 // Of more threads than these only those that move are drawn.
 const MANY_THREADS = 8;
