@@ -239,11 +239,11 @@ def test_what_is_no_longer_kept(page):
     page.shown(lesson="ticket-hand-over", place=5)
 
 
-def test_the_last_twelve_are_kept(page):
+def test_the_last_hundred_are_kept(page):
     """At the start they are listed, the newest first."""
     page.open(LESSON)
-    for threads in range(1, 16):
-        page.show(f"#! title of {threads}\nlock ticket threads {threads}\n")
+    for number in range(1, 104):
+        page.show(f"#! title of {number}\nlock ticket threads 1\n")
     page.press("Escape", "o")
     titles = [text.split(" at move ")[0] for text in page.js("texts", "[data-kept]")]
-    assert titles == [f"of {threads}" for threads in range(15, 3, -1)], titles
+    assert titles == [f"of {number}" for number in range(103, 3, -1)], titles
