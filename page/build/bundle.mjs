@@ -13,28 +13,30 @@ const EXPORT = /^export (async function|function|class|const) (\w+)/gm;
 const COMMENT = /^(?: *\/\/.*| *\/\*\*(?:.*\*\/|.*\n(?: *\*.*\n)*? *\*\/))?\n/gm;
 const INDENT = /^ +/gm;
 
-const variable = (file) => `m_${file.replace('.js', '').replaceAll('/', '_')}`;
 const path = (file, named) => posix.join(posix.dirname(file), named);
 
-function wrapped(file, source) {
+// A module as a variable's value. `variables` has those of the modules that it needs.
+function wrapped(file, source, variables) {
   const names = [...source.matchAll(EXPORT)].map(([, , name]) => name);
   const body = source.replace(COMMENT, '').replace(INDENT, '')
-    .replace(IMPORT, (_, list, from) => `const {${list} } = ${variable(path(file, from))};\n`)
+    .replace(IMPORT, (_, list, from) => `const {${list} } = ${variables.get(path(file, from))};\n`)
     .replace(EXPORT, '$1 $2');
   const other = body.match(/^(import|export) .*/m);
   if (other) throw new Error(`${file}: of another form: ${other[0]}`);
-  return `const ${variable(file)} = (() => {\n${body}return { ${names.join(', ')} };\n})();\n`;
+  const variable = variables.get(file);
+  return `const ${variable} = (() => {\n${body}return { ${names.join(', ')} };\n})();\n`;
 }
 
 export function bundle(folder, first) {
-  const done = new Map();
+  const [done, variables] = [[], new Map()];
   const add = (file, above) => {
     if (above.includes(file)) throw new Error(`modules in a circle: ${[...above, file].join(' ')}`);
-    if (done.has(file)) return;
+    if (variables.has(file)) return;
     const source = readFileSync(join(folder, file), 'utf8');
     for (const [, , needed] of source.matchAll(IMPORT)) add(path(file, needed), [...above, file]);
-    done.set(file, wrapped(file, source));
+    variables.set(file, `m${variables.size}`);
+    done.push(wrapped(file, source, variables));
   };
   add(first, []);
-  return `'use strict';\n${[...done.values()].join('')}const { start } = ${variable(first)};`;
+  return `'use strict';\n${done.join('')}const { start } = ${variables.get(first)};`;
 }

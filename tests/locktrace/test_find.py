@@ -36,6 +36,9 @@ NOWHERE = [
       "0 runlock"],
      "no run of 2 threads with 1 round each has '0 rlock', then '0 section entered', "
      "then '1 wlock', then '1 section entered', then '0 runlock': all 60 states were searched\n"),
+    (["mcs", "2", "not 1 write", "0 cas failed"],
+     "no run of 2 threads with 1 round each has 'not 1 write', then '0 cas failed': "
+     "all 76 states were searched\n"),
 ]
 
 LINE = "not a line of a sketch (BadLine)"
@@ -60,6 +63,11 @@ FAULTS = [
     ("* section done", "  column 11: 'done', expected the end, the section's count, or moved, "
                        "waits, entered or left\n"),
     ("* acquire now", "  column 11: 'now', expected the end\n"),
+    ("not * caz failed", f"  column 7: 'caz', expected {STEPS}; did you mean 'cas'?\n"),
+    ("not 1 cas tail fund", "  column 16: 'fund', expected the end, 'found', 'left', 'done' or "
+                            "'failed'; did you mean 'found'?\n"),
+    ("not", "  column 1: 'not', expected '*', or a thread's number, from 0 to 255\n"),
+    ("not not 1 cas", "  column 5: 'not', expected '*', or a thread's number, from 0 to 255\n"),
 ]
 
 # A line that no run of an MCS lock of two threads has, and why.
@@ -69,7 +77,12 @@ NEVER = [
     ("1 wlock", "the lock has no such operation or step (WrongLock)"),
     ("2 acquire", "no such thread (NoSuchThread)"),
     ("255 read next found 0", "no such thread (NoSuchThread)"),
+    ("not * add", "the lock has no such operation or step (WrongLock)"),
+    ("not 2", "no such thread (NoSuchThread)"),
 ]
+
+# What is said of a `not` that is the last line.
+OPEN_NOT = "'not' holds up to the next line, and there is none (NoNextLine)\n"
 
 # The words after `space`, and what is said of them: they name no lock.
 NO_LOCKS = [
@@ -114,6 +127,25 @@ def test_line_that_is_none(tracer, line, said):
         "", f"locktrace: '{line}': {LINE}\n{said}", 2)
     assert tracer.run("find", "-", stdin=f"lock mcs threads 2\n\n{line}\n") == (
         "", f"-:3: {LINE}\n{said}", 4)
+
+
+def test_not_without_a_next_line(tracer):
+    assert tracer.run("find", "mcs", "2", "* cas", "not 1 swap") == (
+        "", f"locktrace: 'not 1 swap': {OPEN_NOT}", 2)
+    assert tracer.run("find", "-", stdin="lock mcs threads 2\n* cas\nnot 1\n# so\n") == (
+        "", f"-:5: {OPEN_NOT}", 4)
+
+
+def test_not_in_a_schedule(tracer):
+    """A schedule says before which of its lines it holds."""
+    output, *more = tracer.run("find", "mcs", "2", "0 read next found 0", "not * cas failed",
+                               "not 1 read", "0 write locked of 1")
+    assert more == ["", 0]
+    assert output.startswith(
+        "# A shortest run of 2 threads with 1 round each that has these lines, in this order:\n"
+        "# line 16: 0 read next found 0\n# before line 20: not * cas failed\n"
+        "# before line 20: not 1 read\n# line 20: 0 write locked of 1\nlock mcs threads 2\n")
+    assert len(search_rows.moves_of(output)) == 14
 
 
 @cases("text, said", {
@@ -193,8 +225,11 @@ def test_sketch(tracer, lockreplay, sketch):
     run = search_rows.moves_of(output)
     assert measured(searched(sketch.space), sketch.lines, run) == sketch.measure
     assert ran(lockreplay, "replay", input=output).stdout.endswith(f"\nend {sketch.length}\n")
-    said = re.findall(r"^# line (\d+): (.*)$", output, re.MULTILINE)
-    assert [line for _, line in said] == sketch.lines
-    for number, line in said:
+    said = re.findall(r"^# (before line|line) (\d+): (.*)$", output, re.MULTILINE)
+    assert [line for _, _, line in said] == sketch.lines
+    for how, number, line in said:
         made = output.splitlines()[int(number) - 1].split()
-        assert [line.split()[0] in ("*", made[0]), line.split()[1]] == [True, made[1]]
+        if how == "line":
+            assert [line.split()[0] in ("*", made[0]), line.split()[1]] == [True, made[1]]
+        else:
+            assert line.startswith("not ")

@@ -37,7 +37,8 @@ class Sketch(NamedTuple):
     @property
     def measure(self):
         """What `measured` has to find of a shortest run."""
-        return self.length, self.length, len(self.lines), self.length
+        occur = sum(not line.startswith("not ") for line in self.lines)
+        return self.length, self.length, occur, self.length
 
 
 def rows(name):

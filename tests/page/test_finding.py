@@ -105,6 +105,14 @@ def test_outcomes_of_two_lines(page):
     assert page.shown()["place"] == 9
 
 
+def test_moves_that_must_not_come(page):
+    """Thread 1 links itself by its fifth move, before thread 0 looks for it by its own fifth."""
+    page.open(HAND_OVER)
+    ask(page, lock="mcs", threads="2", sketch="not * read waits\n0 read next found 2")
+    page.becomes("not * read waits; 0 read next found 2", "text", "#title")
+    assert page.shown()["place"] == 10
+
+
 def test_the_example_in_the_box(page):
     """It is a line that the lock has, and is searched for if nothing else is written."""
     page.open("#lesson=mcs-late-link&move=3")
@@ -132,6 +140,8 @@ BOTH_LOCKED = "0 write locked of 1\n1 write locked of 0"
                f"{NONE_OF_2} 325 states were searched."),
     "a line": ({"lock": "ticket", "threads": "2", "rounds": "1", "sketch": "0 add\n0 lost"},
                NO_LINE),
+    "a last not": ({"lock": "ticket", "threads": "2", "sketch": "0 add\nnot 1\n"},
+                   "“not” holds up to the next line, and there is none."),
     "an outcome that no step has": (
         {"lock": "mcs", "threads": "2", "rounds": "1", "sketch": "* write waits"},
         "No run of 2 threads, each of which takes the lock at most once, has these lines: all 76 "

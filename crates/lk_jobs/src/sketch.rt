@@ -1,18 +1,18 @@
 //! A sketch of a run, read line by line from a file or from the words of a command: a header, and
-//! lines of a trace in which parts are open.
+//! lines of a trace in which parts are open, some after `not`.
 
-ghost use Rattle.std.specs.Prelude.{◌≡◌, ◌≤◌, IfSome, Some, length, vec_len};
+ghost use Rattle.std.specs.Prelude.{◌≡◌, IfSome, Some, length};
 ghost use Rattle.lk_locks.specs.State.{State};
 ghost use Rattle.lk_locks.specs.Steps.{refusal_of};
 ghost use Rattle.lk_text.specs.Texts.{Grows};
 
 use lk_lines::{Status, is_skipped, number_of};
 use lk_locks::{Refusal, Shape, belongs};
-use lk_search::{Admitted, Rounds, SketchFault, admit};
+use lk_search::{Admitted, Rounds, SketchFault, admit, is_barring};
 use lk_text::follow::unread;
 use lk_text::formats::{PLAIN, put_text};
 use lk_text::{Text, Value, open, put_wrong, take_lines, wrong_in_header};
-use lk_trace::{TextFault, TraceLine, read_header, unreadable_sketch_line};
+use lk_trace::{Due, TextFault, TraceLine, read_header, unreadable_sketch_line};
 use std::alloc::{AllocError, Global};
 use std::fmt::InlineText;
 use std::io::{Error, Read};
@@ -27,9 +27,6 @@ pub enum Place {
     /// A header, and lines.
     Words(Vec<String>),
 }
-
-// The most lines of a sketch.
-const MOST_LINES: usize = 255;
 
 // How a comment begins that says something of the search, and the one that says how many rounds a
 // thread has.
@@ -56,6 +53,9 @@ pub enum LineFault {
     /// Each lock of the header's shape refuses this move, whatever was done before.
     #[error("no run has this line: {} ({})", .0.message(), .0.name())]
     Never(Refusal),
+    /// It begins with `not`, and is the last.
+    #[error("'not' holds up to the next line, and there is none (NoNextLine)")]
+    Endless,
 }
 
 // Why each lock of this shape refuses the move of a line, whatever was done before.
@@ -73,6 +73,14 @@ fn always_refused(header: Shape, line: &TraceLine) -> Option<Refusal>
     None
 }
 
+/// A line of a sketch, as it was written.
+#[derive(Drop)]
+pub struct SketchLine {
+    pub text: String,
+    /// Whether it says which moves must not occur.
+    pub bars: bool,
+}
+
 /// A sketch of which some lines were read.
 #[derive(Drop)]
 pub struct Sketch {
@@ -80,11 +88,12 @@ pub struct Sketch {
     pub header: Option<Shape>,
     /// How many rounds each thread has, if the sketch says it.
     pub rounds: Option<Rounds>,
-    /// The lines that are to occur, in their order.
-    pub lines: Vec<String>,
-    /// The moves that each line admits.
+    /// The lines, in their order.
+    pub lines: Vec<SketchLine>,
+    /// How many of these are to occur.
+    pub count: u8,
+    /// The moves that each line admits or bars.
     pub admitted: Vec<Admitted>,
-    ghost few: { vec_len lines ≤ 255 },
 }
 
 impl Sketch {
@@ -94,15 +103,14 @@ impl Sketch {
             header: None,
             rounds: None,
             lines: Vec::new(alloc),
+            count: 0,
             admitted: Vec::new(alloc),
         }
     }
 
-    /// The number of lines that are to occur.
-    pub fn count(&self) -> u16
-        ensures { result ≡ vec_len self.now.lines }
-    {
-        self.lines.len() as u16
+    // Whether the last line holds up to a next one.
+    fn is_open(&self) -> bool {
+        self.lines.last().is_some_and(|line| line.bars)
     }
 
     // Reads a comment. One that begins as a remark has to be one.
@@ -131,32 +139,38 @@ impl Sketch {
         }
     }
 
-    // Why no run has a line of which these are admitted, if that is so. All of them are the same
-    // move, by one thread or by each.
+    // Why no run has any of the moves from this one on, which the last line admits or bars.
     fn never(&self, header: Shape, first: usize) -> Option<LineFault> {
-        let admitted = self.admitted.get(first)?;
-        always_refused(header, &admitted.trace).map(LineFault::Never)
+        let mut why = None;
+        for admitted in self.admitted.get(first..)? {
+            why = Some(always_refused(header, &admitted.trace)?);
+        }
+        why.map(LineFault::Never)
     }
 
-    // Reads a line that is to occur on a lock of this shape.
+    // Reads a line for a lock of this shape.
     fn take_line(
         &mut self,
         alloc: Global,
         header: Shape,
         line: &[u8],
     ) -> Result<Option<LineFault>, AllocError> {
-        if self.lines.len() >= MOST_LINES {
+        let bars = is_barring(line);
+        if self.count == u8::MAX && !bars {
             return Ok(Some(LineFault::Unread(SketchFault::TooManyLines)));
         }
-        let number = self.lines.len() as u8;
         let Ok(text) = str::from_utf8(line) else {
             return Ok(Some(LineFault::Unread(SketchFault::BadLine)));
         };
         let (kind, threads, first) = (header.kind(), header.threads(), self.admitted.len());
-        if !admit(&mut self.admitted, kind, threads, number, line)? {
+        if !admit(&mut self.admitted, kind, threads, self.count, line)? {
             return Ok(Some(LineFault::Unread(SketchFault::BadLine)));
         }
-        self.lines.push(String::from_str(alloc, text)?)?;
+        let text = String::from_str(alloc, text)?;
+        self.lines.push(SketchLine { text, bars })?;
+        if !bars {
+            self.count += 1;
+        }
         Ok(self.never(header, first))
     }
 
@@ -188,6 +202,15 @@ const AT_LINE: &str = "{name}:{line}: {fault}\n";
 
 const AT_WORD: &str = "locktrace: '{name}': {fault}\n";
 
+// The column at which a line stops being one of a sketch, and what could be there.
+fn wrong_in_line(line: &[u8]) -> Option<(usize, Due)> {
+    let Some(part) = line.strip_prefix(b"not ".as_slice()) else {
+        return unreadable_sketch_line(line);
+    };
+    let (column, due) = unreadable_sketch_line(part)?;
+    Some((column.saturating_add(4), due))
+}
+
 // Writes what is wrong with a line: the fault, the column, what is there and what could be there.
 fn put_fault(text: &mut Text, alloc: Global, line: &[u8], fault: LineFault)
     ensures { Grows text.old text.new }
@@ -195,7 +218,7 @@ fn put_fault(text: &mut Text, alloc: Global, line: &[u8], fault: LineFault)
     let wrong = match fault {
         LineFault::Unread(SketchFault::Header(TextFault::NoHeader)) => return,
         LineFault::Unread(SketchFault::Header(_)) => wrong_in_header(line),
-        LineFault::Unread(SketchFault::BadLine) => unreadable_sketch_line(line),
+        LineFault::Unread(SketchFault::BadLine) => wrong_in_line(line),
         _ => return,
     };
     text.put("  ");
@@ -231,10 +254,11 @@ pub type Taken = Result<(Sketch, Shape), Status>;
 
 // A sketch that was read to its end.
 fn whole(sketch: Sketch, alloc: Global, place: (&str, u64), errors: &mut Text) -> Taken {
-    if let Some(header) = sketch.header {
-        return Ok((sketch, header));
-    }
-    let fault = LineFault::Unread(SketchFault::Header(TextFault::NoHeader));
+    let fault = match sketch.header {
+        Some(_) if sketch.is_open() => LineFault::Endless,
+        Some(header) => return Ok((sketch, header)),
+        None => LineFault::Unread(SketchFault::Header(TextFault::NoHeader)),
+    };
     put_named(errors, alloc, place, b"".as_slice(), fault);
     Err(Status::Faulty)
 }
@@ -263,14 +287,15 @@ fn read_input<R: Read + Drop>(
 
 /// Reads the sketch whose lines are words of a command.
 pub fn read_words(alloc: Global, words: &[String], errors: &mut Text) -> Result<Taken, AllocError> {
-    let mut sketch = Sketch::new(alloc);
+    let (mut sketch, mut last) = (Sketch::new(alloc), "");
     for word in words {
+        last = word.as_str();
         if let Some(fault) = sketch.line(alloc, word.as_bytes())? {
             put_named(errors, alloc, (word.as_str(), 0), word.as_bytes(), fault);
             return Ok(Err(Status::Misused));
         }
     }
-    Ok(whole(sketch, alloc, ("locktrace", 1), errors))
+    Ok(whole(sketch, alloc, (last, 0), errors).map_err(|_| Status::Misused))
 }
 
 /// Reads a sketch. What is wrong with it is written to `errors`.

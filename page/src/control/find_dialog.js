@@ -15,6 +15,8 @@ import { lockOptions, newHeader } from '../view/choices_view.js';
 
 const T = texts.find;
 
+const linesOf = (sketch) => sketch.split('\n').filter((line) => line.trim());
+
 const withCommas = (number) => number.toLocaleString(language);
 
 // Why there is no run to show.
@@ -31,11 +33,14 @@ function refusal({ answer, count }, { threads, rounds }) {
   }[answer]();
 }
 
+// Whether the last line of a sketch bars moves before a next one.
+const endsInNot = (sketch) => linesOf(sketch).pop()?.startsWith('not ');
+
 // The schedule with what was looked for, as comments.
 function scheduleOf(header, moves, { title, sketch, threads, rounds }) {
   const comments = [
     `#! title ${title}`, `# ${T.comment(texts.threads(threads), T.rounds(rounds))}`,
-    ...sketch.split('\n').filter((line) => line.trim()).map((line) => `#   ${line}`),
+    ...linesOf(sketch).map((line) => `#   ${line}`),
   ];
   return bytesOf(`${comments.join('\n')}\n${header}${moves.map((move) => `${move}\n`).join('')}`);
 }
@@ -107,6 +112,10 @@ class Finding {
 
   search() {
     const asked = this.asked();
+    if (asked && endsInNot(asked.sketch)) {
+      write(byId('find-answer'), T.lastNot);
+      return;
+    }
     const found = asked && findRun(this.machine, asked.state, asked.rounds, asked.sketch);
     if (found?.answer === FOUND.run) this.show(asked, found.moves);
     else write(byId('find-answer'), asked ? refusal(found, asked) : T.notAsked);

@@ -81,7 +81,7 @@ export const german = {
         + 'kürzesten, in dem vorkommt, was du suchst.',
       kind: 'Welcher Zug', own: 'wie die Zeilen unten sagen',
       sketch: 'Zeilen, die der Lauf in dieser Reihenfolge hat, mit anderen Zügen dazwischen. * '
-        + 'ist ein beliebiger Thread.',
+        + 'ist ein beliebiger Thread. „not“ und eine Zeile: kein solcher Zug vor der nächsten.',
       roundsEach: 'wie oft jeder Thread die Sperre nehmen darf', search: 'Suchen',
       searching: 'Die Suche läuft …',
       rounds: (count) => (count === 1 ? 'einmal' : `${count}-mal`),
@@ -95,6 +95,7 @@ export const german = {
       badLine: (line) => `Zeile ${line} ist keine Zeile einer Skizze. Eine Zeile ist die Nummer `
         + 'eines Threads oder *, und ein Aufruf oder Schritt, wie „* cas failed“.',
       manyLines: (line) => `Zeile ${line} ist eine zu viel: Eine Skizze hat höchstens 255 Zeilen.`,
+      lastNot: '„not“ gilt bis zur nächsten Zeile, und es gibt keine.',
       noRoom: (line) => `Zeile ${line} erlaubt zu viele Züge. Nenne ihren Thread oder ihr Wort.`,
       notAsked: 'Eine solche Sperre gibt es nicht, der Text ist zu lang, oder viele Threads '
         + 'brauchen breitere Wörter.',

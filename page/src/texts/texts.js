@@ -66,7 +66,7 @@ const english = {
       + 'you ask for.',
     kind: 'Which move', own: 'as the lines below say',
     sketch: 'Lines that the run has, in this order, with other moves between them. * is any '
-      + 'thread.',
+      + 'thread. “not” and a line: no such move before the next line.',
     roundsEach: 'times that each thread may take the lock', search: 'Find',
     searching: 'Searching …',
     rounds: (count) => (count === 1 ? 'once' : `${count} times`),
@@ -80,6 +80,7 @@ const english = {
     badLine: (line) => `Line ${line} is not a line of a sketch. A line is a thread’s number or *, `
       + 'and a call or a step, as in “* cas failed”.',
     manyLines: (line) => `Line ${line} is one too many: a sketch has at most 255 lines.`,
+    lastNot: '“not” holds up to the next line, and there is none.',
     noRoom: (line) => `Line ${line} allows too many moves. Name its thread or its word.`,
     notAsked: 'There is no such lock, the text is too long, or many threads need wider words.',
   },
