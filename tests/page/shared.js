@@ -151,11 +151,11 @@ function typed(letters) {
 
 const write = (letters) => typed(letters)();
 
-// What is brought by the clipboard or by the mouse.
-function bring(kind, name, data) {
+// What is brought by the clipboard or by the mouse. True if the browser would do the rest.
+function bring(kind, name, data, target = document.body) {
   const event = new Event(kind, { bubbles: true, cancelable: true });
   event[name] = data;
-  document.body.dispatchEvent(event);
+  return target.dispatchEvent(event);
 }
 
 function carried(letters) {
@@ -165,4 +165,5 @@ function carried(letters) {
 }
 
 const paste = (letters) => bring('paste', 'clipboardData', carried(letters));
+const pasteIntoText = (letters) => bring('paste', 'clipboardData', carried(letters), byId('text'));
 const drop = (letters) => bring('drop', 'dataTransfer', carried(letters));

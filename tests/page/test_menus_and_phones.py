@@ -86,6 +86,16 @@ def test_a_trace(page):
     assert held.splitlines() == head + [" ".join(line.split()[:2]) for line in moves]
 
 
+def test_a_trace_in_the_text(page):
+    """The same if it is pasted where a schedule is written. Another text goes on there."""
+    page.open("#lesson=ticket-hand-over&move=3&own")
+    assert not page.js("pasteIntoText", TRACE)
+    assert page.shown(moves=14)["held"].splitlines()[2] == TRACE.splitlines()[2][:9]
+    assert "This is a trace" in page.text("#notice")
+    assert page.js("pasteIntoText", "0 acquire\n")
+    assert page.js("pasteIntoText", "lock mcs threads 2\n0 acquire\n")
+
+
 SECTIONS = """lock rw-simple threads 2
 0 rlock
 0 section 3 entered

@@ -64,7 +64,7 @@ def test_the_end_of_a_lesson(page):
     """It says what was shown, leads to the next one by key, and is ticked off."""
     page.open("#lesson=ticket-hand-over&move=10")
     last = page.text("#now .last")
-    assert "You saw: As at a bakery: take a number, wait" in last, last
+    assert "What to keep: As at a bakery: take a number, wait" in last, last
     page.press("ArrowRight", "Enter")
     assert page.js("lessonNow") == "ticket-order-of-tickets"
     # One that was only begun is not.

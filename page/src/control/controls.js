@@ -124,8 +124,12 @@ function files(page) {
     else page.editing.paste(event.dataTransfer.getData('text/plain'));
   });
   document.addEventListener('paste', (event) => {
-    if (targetOf(event).closest('textarea, input')) return;
-    page.editing.paste(event.clipboardData.getData('text/plain'));
+    const letters = event.clipboardData.getData('text/plain');
+    const field = targetOf(event).closest('textarea, input');
+    // A trace is no text to go on writing.
+    if (field && !(field.id === 'text' && page.editing.isTrace(letters))) return;
+    event.preventDefault();
+    page.editing.paste(letters);
   });
 }
 

@@ -40,6 +40,11 @@ export class Editing {
     if (without !== text) tell(texts.own.trace);
   }
 
+  isTrace(letters) {
+    const text = new TextEncoder().encode(letters);
+    return withoutValues(text) !== text && this.page.session.runOf(text).hasLock;
+  }
+
   // A text that is no schedule does not take the place of what is shown.
   paste(letters) {
     const text = new TextEncoder().encode(letters);

@@ -21,7 +21,7 @@ export const lessons = {
   },
   size: (moves, minutes) => `${moves} moves, about ${minutes} min`,
   done: 'done', refusals: 'What is refused: wrong moves, and texts that are no schedules',
-  ended: 'End. You saw:', next: (title) => `Next: ${title}`, noMore: 'That was the last move.',
+  ended: 'End. What to keep:', next: (title) => `Next: ${title}`, noMore: 'That was the last move.',
   groups: {
     refused: 'Refused moves', fault: 'Texts that are not schedules',
   },

@@ -220,7 +220,7 @@ export const german = {
       size: (moves, minutes) => `${moves} Züge, etwa ${minutes} min`,
       done: 'fertig',
       refusals: 'Was abgelehnt wird: falsche Züge, und Texte, die keine Abläufe sind',
-      ended: 'Ende. Du hast gesehen:', next: (title) => `Weiter: ${title}`,
+      ended: 'Ende. Zum Merken:', next: (title) => `Weiter: ${title}`,
       noMore: 'Das war der letzte Zug.',
       groups: { refused: 'Abgelehnte Züge', fault: 'Texte, die keine Abläufe sind' },
       kept: (most) => `In diesem Browser aufgehoben, höchstens die letzten ${most}`,
@@ -238,7 +238,8 @@ export const german = {
           : `Von den ${others} anderen Dateien sind die ersten ${kept}`} ${
           kept ? 'aufgehoben, unter „Lektionen“' : 'nicht aufgehoben'}.${rest}`;
       },
-      trace: 'Das ist ein Trace. Er ist als Ablauf zu sehen, ohne Wörter und Werte.',
+      trace: 'Das ist ein Trace. Er ist als Ablauf zu sehen, ohne Wörter und Werte: Ein Zug, der '
+        + 'ihretwegen abgelehnt wird, ist es hier nicht.',
       notCopied: 'Der Browser hat es nicht erlaubt. Wähle den Text aus und kopiere ihn.',
       label: 'Text des Ablaufs',
       ends: (count) => (count === 1

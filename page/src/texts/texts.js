@@ -204,7 +204,8 @@ const english = {
         : `Of the ${others} other files the first ${kept} are`} ${
         kept ? 'kept, and listed with the lessons' : 'not kept'}.${rest}`;
     },
-    trace: 'This is a trace. It is shown as a schedule, without its words and values.',
+    trace: 'This is a trace. It is shown as a schedule, without its words and values: a move '
+      + 'that is refused for one of them is not refused here.',
     notCopied: 'The browser did not allow it. Select the text and copy it.',
     label: 'Text of the schedule',
     fileName: 'schedule.txt',
