@@ -77,7 +77,12 @@ struct lt_answer {
     uint32_t fault, threads;
 };
 
-/* Checks a text. Returns the fault, and writes a record for each move as far as there is room. */
+/* Checks a text. Returns the fault, and writes a record for each move as far as there is room.
+
+   locktrace.c also writes the lock's own step to `steps[answer->moves]`, if there is room: with a
+   fault from 8 to 15 what it makes of the move, and with LT_WRONG_LOCK, LT_BUSY and LT_WRONG_STEP
+   the step that is due, if one is. liblk_trace_c.a does not. So clear that record first: its `line`
+   stays 0 if nothing is written. */
 uint32_t lt_check(const uint8_t *text, size_t length, struct lt_step *steps, size_t room,
                   struct lt_answer *answer);
 

@@ -35,8 +35,12 @@ static inline void lr_say_late(lr_run *run, unsigned seconds, int has_turns)
     } else if (LR_TURNS && !has_turns) {
         lr_tell(run->said, "thread %u", run->holder);
         lr_tell_last(run->said, &run->logs[run->holder % LR_THREADS]);
-        lr_tell(run->said, " has its turn and does not give it back: it blocks, or it has ended "
-                           "without lr_end, or it polls without a note");
+        lr_tell(run->said,
+                " has its turn and does not give it back: it blocks%s, or it has ended without "
+                "lr_end, or it polls without a note",
+                strncmp(run->lock, "rw-", 3) ? ""
+                                             : " (a monitor's operations go into LR_LOCK and "
+                                               "LR_WAIT)");
     } else {
         lr_tell(run->said, "%u of %u threads have not ended, and made no move for %u s",
                 lr_missing(run), run->threads, seconds);

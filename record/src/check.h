@@ -3,47 +3,25 @@
 
 #if LR_CHECKS
 
-#include "../locktrace.h"
-
-/* Whether two moves of two threads are on the same word. */
-static inline int lr_is_on_word(const lr_move *move, unsigned thread, const lr_move *other,
-                                unsigned by)
+/* Checks a text: the fault, and what it is. Without locktrace.c the linker says the name of this
+   function. */
+static __attribute__((noinline, unused)) uint32_t
+lr_compile_record_locktrace_c_too(const lr_text *text, struct lt_step *steps, size_t room,
+                                  struct lt_answer *answer, char *why)
 {
-    unsigned place = lr_move_place(move), own = lr_move_owner(move), others = lr_move_owner(other);
-    if (place != lr_move_place(other) || !place) return 0;
-    if (place != LR_PLACE_next && place != LR_PLACE_locked) return 1;
-    return (own == LR_OWN ? thread : own) == (others == LR_OWN ? by : others);
+    uint32_t fault = lt_check((const uint8_t *)text->bytes, text->length, steps, room, answer);
+    size_t size = lt_fault_text(fault, (uint8_t *)why, LR_SAID - 1);
+    why[size < LR_SAID ? size : LR_SAID - 1] = '\0';
+    return fault;
 }
 
-/* What the lock had in the word of the move at a place in the order, after the moves before it. */
-static inline uint64_t lr_left_before(const lr_run *run, const struct lt_step *steps, size_t at,
-                                      const lr_move *move)
-{
-    size_t next[LR_THREADS] = {0};
-    uint64_t left = 0;
-    for (size_t i = 0; i < at; i++) {
-        unsigned by = run->order[i];
-        const lr_move *other = &run->logs[by].moves[next[by]++];
-        if (lr_is_on_word(move, run->order[at], other, by)) left = steps[i].left;
-    }
-    return left;
-}
-
-/* The move at a place in the order. */
-static inline const lr_move *lr_move_at(const lr_run *run, size_t at)
-{
-    size_t before = 0;
-    for (size_t i = 0; i < at; i++) before += run->order[i] == run->order[at];
-    return &run->logs[run->order[at]].moves[before];
-}
-
-/* Says why a trace is refused: the line, where its move was noted, the move, and the fault. */
+/* Says why a trace is refused: the line, where its move was noted, the move, the fault, and what the
+   published lock does there. */
 static inline void lr_tell_fault(lr_run *run, const struct lt_answer *answer,
-                                 const struct lt_step *steps)
+                                 const struct lt_step *steps, const char *why)
 {
     char line[LR_LINE], where[LR_LINE];
-    uint8_t why[LR_SAID];
-    size_t at = (size_t)answer->moves, size = lt_fault_text(answer->fault, why, sizeof why);
+    size_t at = (size_t)answer->moves;
     lr_tell(run->said, "refused at line %" PRIu64 " of the trace", answer->line);
     if (at < run->ordered) {
         const lr_move *move = lr_move_at(run, at);
@@ -52,10 +30,8 @@ static inline void lr_tell_fault(lr_run *run, const struct lt_answer *answer,
         lr_tell(run->said, ", %s: '%u %s'", lr_where(where, log, move), by,
                 lr_text_of(line, log, move));
     }
-    lr_tell(run->said, ": %.*s", (int)(size < sizeof why ? size : sizeof why), (const char *)why);
-    if (at >= run->ordered || answer->fault != LT_FOUND_OTHER) return;
-    uint64_t left = lr_left_before(run, steps, at, lr_move_at(run, at));
-    lr_tell(run->said, ": it has %" PRIu64, left);
+    lr_tell(run->said, ": %s", why);
+    if (at < run->ordered) lr_tell_published(run, steps, at, answer->fault);
 }
 
 /* What came of the last step of each thread, as the lock's machine has it. */
@@ -88,9 +64,10 @@ static inline int lr_check_steps(lr_run *run, const lr_text *text, struct lt_ste
                                  int was_stopped)
 {
     struct lt_answer answer;
-    if (!lt_check((const uint8_t *)text->bytes, text->length, steps, run->ordered + 1, &answer))
+    char why[LR_SAID];
+    if (!lr_compile_record_locktrace_c_too(text, steps, run->ordered + 1, &answer, why))
         return lr_is_beside(run, steps, was_stopped);
-    lr_tell_fault(run, &answer, steps);
+    lr_tell_fault(run, &answer, steps, why);
     return 1;
 }
 

@@ -2,6 +2,8 @@
    touched with what the trace says of it. A machine plays at most 65,536 moves. */
 
 enum { LT_LINE = 96, LT_RECORD = 56, LT_STATE = 2304, LT_WORDS = 10, LT_TOO_LONG = 21 };
+enum { LT_THREAD = 192, LT_THREAD_SIZE = 16, LT_DUE = 1 }; /* of a state */
+enum { LT_LONGER = 8 };   /* by which one kind of step may have more bytes than another */
 enum { LT_MOST = 65536 }; /* moves */
 enum { LT_TICKET_LOCK, LT_MCS_LOCK };
 enum { LT_PLAYED = 0, LT_REFUSED = 1, LT_FAULTY = 2 };
@@ -275,10 +277,10 @@ static void lt_compare(const struct lt_played *played, const uint8_t *text, size
         for (; line < step.line; line++) at += lt_line_at(text, length, at) + 1;
         lt_cut(&words, text + at, lt_line_at(text, length, at));
         lt_read_move(&words, &seen);
+        if (answer->moves < room) steps[answer->moves] = step;
         answer->line = step.line;
         answer->fault = lt_differs(&step, &seen, lock, &count);
         if (answer->fault) return;
-        if (answer->moves < room) steps[answer->moves] = step;
     }
 }
 
@@ -311,6 +313,33 @@ static void lt_end(const struct lt_played *played, const struct lt_schedule *sch
     }
 }
 
+/* Has the machine make the step that is due in the place of a move that it refuses: 0 if the thread
+   has no step left. The schedule ends there, and its state is another one. */
+static int lt_make_due(struct lt_played *played, struct lt_schedule *schedule, uint64_t line)
+{
+    uint8_t *state = lt_at(played->state), *text = lt_at(played->text);
+    uint64_t at = lt_begin_of(text, line), thread = 0;
+    for (; text[at] != ' '; at++) thread = thread * 10 + text[at] - '0';
+    unsigned due = state[LT_THREAD + LT_THREAD_SIZE * thread + LT_DUE];
+    if (!due) return 0;
+    size_t size = strlen(lt_moves[due]);
+    memcpy(text + at + 1, lt_moves[due], size);
+    text[at + 1 + size] = '\n';
+    schedule->length = at + size + 2;
+    lt_play(played, schedule);
+    return played->result == LT_PLAYED;
+}
+
+/* Writes the machine's own step of a move that it refuses, after those that were made. */
+static void lt_write_due(struct lt_played *played, struct lt_schedule *schedule,
+                         struct lt_step *steps, size_t room, const struct lt_answer *answer)
+{
+    uint32_t fault = answer->fault;
+    if (fault != LT_WRONG_LOCK && fault != LT_BUSY && fault != LT_WRONG_STEP) return;
+    if (answer->moves >= room || !lt_make_due(played, schedule, answer->line)) return;
+    lt_read_record(&steps[answer->moves], lt_at(played->records + answer->moves * LT_RECORD));
+}
+
 uint32_t lt_check(const uint8_t *text, size_t length, struct lt_step *steps, size_t room,
                   struct lt_answer *answer)
 {
@@ -318,7 +347,7 @@ uint32_t lt_check(const uint8_t *text, size_t length, struct lt_step *steps, siz
     struct lt_played played;
     memset(answer, 0, sizeof *answer);
     played.most = length / 4 < LT_MOST ? length / 4 : LT_MOST; /* a move has four bytes at least */
-    played.state = lt_make_room(LT_STATE + played.most * LT_RECORD + length + 1);
+    played.state = lt_make_room(LT_STATE + played.most * LT_RECORD + length + 1 + LT_LONGER);
     played.records = played.state + LT_STATE;
     played.text = played.records + played.most * LT_RECORD;
     lt_schedule_of(&schedule, text, length, lt_at(played.text));
@@ -328,6 +357,7 @@ uint32_t lt_check(const uint8_t *text, size_t length, struct lt_step *steps, siz
         lt_compare(&played, text, length, steps, room, answer);
     }
     if (!answer->fault) lt_end(&played, &schedule, answer);
+    lt_write_due(&played, &schedule, steps, room, answer);
     return answer->fault;
 }
 

@@ -133,6 +133,7 @@
 #include "await.h"
 #include "save.h"
 #include "recover.h"
+#include "published.h"
 #include "check.h"
 #endif
 #include "driver.h"

@@ -33,9 +33,12 @@ static inline int lr_main(const lr_driver *driver, int count, char **words)
                                       words[4], &explored);
     if (fault && is_again) lr_say("%s: %s", words[4], strerror(fault));
     if (!is_again && explored.runs)
-        printf("%lu runs with up to %u preemptions, %s%s\n", explored.runs, explored.preemptions,
-               explored.is_complete ? "all of them" : "not all of them",
-               explored.is_refused ? ", the last one is refused" : "");
+        printf("%lu run%s with up to %u preemption%s, %s\n", explored.runs,
+               explored.runs == 1 ? "" : "s", explored.preemptions,
+               explored.preemptions == 1 ? "" : "s",
+               explored.is_refused    ? "not all of them, the last one is refused"
+               : explored.is_complete ? "all of them accepted"
+                                      : "all of them accepted, and there are more");
     if (explored.is_refused) printf("%s\n", explored.said);
     if (explored.is_refused && !is_again)
         printf("again: %s %u %u again %s/run.trace\n", words[0], threads, rounds, words[4]);

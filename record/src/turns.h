@@ -26,14 +26,23 @@ static inline unsigned lr_after(uint64_t threads, unsigned current)
     return next;
 }
 
+/* What a thread does that does not get on. After a move that is no poll it polls without a note. */
+static inline const char *lr_what_it_does(const lr_run *run, unsigned thread)
+{
+    const lr_move *last = lr_last_of(&run->logs[thread]);
+    if (run->parked >> thread & 1) return "waits for a signal";
+    int is_poll =
+        last && (lr_move_word(last) == LR_STEP_read || lr_move_part(last) == LR_OUTCOME_waits);
+    return is_poll ? "polls" : last ? "has noted nothing since" : "has noted nothing";
+}
+
 /* Says of each thread that is left what it does; nobody moves any more. */
 static inline void lr_hang(lr_run *run)
 {
     lr_tell(run->said, "the run hangs:");
     for (unsigned t = 0; t < run->threads; t++) {
         if (!(run->inside >> t & 1)) continue;
-        int is_parked = (int)(run->parked >> t & 1);
-        lr_tell(run->said, " thread %u %s", t, is_parked ? "waits for a signal" : "polls");
+        lr_tell(run->said, " thread %u %s", t, lr_what_it_does(run, t));
         lr_tell_last(run->said, &run->logs[t]);
         lr_tell(run->said, "%s", run->inside >> t >> 1 ? "," : "");
     }

@@ -98,12 +98,14 @@ REGIONS = {
         ("parts", "LR_PART_{word},"), ("outcomes", "LR_OUTCOME_{word},")),
     "record/src/run.h": (("calls, steps", '"{word}",'),),
     "record/src/texts.h": (("places", '" {word}",'), ("parts, outcomes", '" {word}",')),
+    "record/src/published.h": (("outcomes by number", '"{word}",'),),
     "record/src/open.h": (
         ("locks", '"{word}",'), ("locks", 'static const char locks[] = "{others:, } or {last}";')),
     "record/rust/src/moves.rs": (
         ("calls", "Call::{variant},\n"), ("calls", "Call" + ARM), ("places", "Word" + ARM),
         ("outcomes", "Outcome" + ARM)),
     "record/rust/src/kind.rs": (("steps", "Kind::{variant},\n"), ("steps", "Kind" + ARM)),
+    "record/rust/src/published.rs": (("outcomes", "Outcome::{variant},\n"),),
     "record/rust/src/lock.rs": (("locks", "Lock::{variant},\n"), ("locks", "Lock" + ARM)),
     "record/rust/Cargo.toml": (("version", 'version = "{word}"'),),
     "CITATION.cff": (("version", "version: {word}\ndate-released: {day}\n"),),

@@ -6,9 +6,8 @@
 use std::sync::{Mutex, PoisonError};
 
 use crate::error::Error;
-use crate::moves::Move;
+use crate::published::{self, Made};
 use crate::run::{Run, Shared};
-use crate::tape::Source;
 
 /// One thread may call the check at a time, and tests run side by side.
 static ALONE: Mutex<()> = Mutex::new(());
@@ -16,26 +15,28 @@ static ALONE: Mutex<()> = Mutex::new(());
 /// A move that was made, as the check writes it.
 #[repr(C)]
 #[derive(Clone, Copy, Debug, Default)]
-struct Step {
-    line: u64,
-    found: u64,
-    left: u64,
-    thread: u32,
-    action: u32,
-    outcome: u32,
-    word: u32,
+pub(crate) struct Step {
+    pub(crate) line: u64,
+    pub(crate) found: u64,
+    pub(crate) left: u64,
+    pub(crate) thread: u32,
+    pub(crate) action: u32,
+    pub(crate) outcome: u32,
+    pub(crate) word: u32,
 }
 
 /// What the check answers. A fault of 0 is none.
 #[repr(C)]
 #[derive(Debug, Default)]
-struct Answer {
+pub(crate) struct Answer {
     line: u64,
-    moves: u64,
-    fault: u32,
+    pub(crate) moves: u64,
+    pub(crate) fault: u32,
     threads: u32,
 }
 
+/// The outcome of a poll in vain.
+pub(crate) const WAITS: u32 = 2;
 /// The outcomes with which a call is over.
 const ENTERED: u32 = 3;
 const LEFT: u32 = 4;
@@ -82,12 +83,17 @@ impl Run {
         if !self.0.mode.has_order() {
             return Err(Error::NoOrder);
         }
-        let mut steps = vec![Step::default(); self.0.turns.stage().order().len()];
+        // One more, for what the published lock does in the place of a move that is refused.
+        let mut steps = vec![Step::default(); self.0.turns.stage().order().len() + 1];
         let answer = answer_to(&self.trace()?, &mut steps);
         if answer.fault != 0 {
-            let (made, reason) = (move_at(&self.0, answer.moves), text_of(answer.fault));
+            let moves = moves_of(&self.0);
+            let published = published::told(self.0.header.lock, &moves, &steps, &answer);
+            let (made, fault) = (move_at(&moves, answer.moves), text_of(answer.fault));
+            let reason = format!("{fault}{published}");
             return Err(Error::Refused { line: answer.line, made, reason });
         }
+        steps.pop();
         beside(&self.0, &steps).map_or(Ok(()), Err)
     }
 
@@ -109,7 +115,7 @@ impl Run {
 }
 
 /// The moves of all threads in their order, and where in the source each was made.
-fn moves_of(run: &Shared) -> Vec<(usize, Move, Source)> {
+fn moves_of(run: &Shared) -> Vec<Made> {
     let order = run.turns.stage().order().to_vec();
     let mut made = vec![0; run.header.threads];
     let next = |thread: u8| {
@@ -124,8 +130,8 @@ fn moves_of(run: &Shared) -> Vec<(usize, Move, Source)> {
 }
 
 /// The move at a place in the order, and where in the source it was made.
-fn move_at(run: &Shared, index: u64) -> String {
-    let found = usize::try_from(index).ok().and_then(|at| moves_of(run).into_iter().nth(at));
+fn move_at(moves: &[Made], index: u64) -> String {
+    let found = usize::try_from(index).ok().and_then(|at| moves.get(at));
     found.map_or_else(String::new, |(thread, made, source)| {
         format!("{}:{}, '{thread} {made}'", source.file(), source.line())
     })

@@ -67,7 +67,7 @@ pub enum Error {
         line: u64,
         /// Where in the source its move was made, and the move: `src/lock.rs:41, '0 cas ..'`.
         made: String,
-        /// What is wrong with it.
+        /// What is wrong with it, and what the published lock does there.
         reason: String,
     },
     /// A thread that has come through its call, by the lock's machine, has not ended.

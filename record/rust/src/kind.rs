@@ -16,7 +16,7 @@ pub(crate) enum Kind {
 }
 
 impl Kind {
-    const STEPS: [Kind; 6] = [
+    pub(crate) const STEPS: [Kind; 6] = [
         // generated: steps
         Kind::Read,
         Kind::Write,

@@ -153,6 +153,8 @@ mod number;
 mod path;
 #[cfg(feature = "record")]
 mod priorities;
+#[cfg(feature = "check")]
+mod published;
 #[cfg(feature = "record")]
 mod records;
 #[cfg(feature = "record")]

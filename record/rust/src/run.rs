@@ -119,6 +119,10 @@ impl Run {
                 .collect();
             let limit = if started.is_ok() { limit } else { Duration::ZERO };
             self.wait(limit);
+            // It may never come back.
+            if let Some(said) = self.blocked() {
+                eprintln!("lockreplay_record: {said}");
+            }
             started?.into_iter().try_for_each(ended)
         })?;
         let stage = self.0.turns.stage();
@@ -129,6 +133,19 @@ impl Run {
             None if stage.has_hung() => Ending::Hangs(missing),
             None => Ending::Stopped(missing),
         })
+    }
+
+    /// Which thread blocks in its turn, when the time was over.
+    pub(crate) fn blocked(&self) -> Option<String> {
+        let thread = self.0.turns.stage().blocked?;
+        let how = match self.0.header.lock {
+            Lock::RwSimple | Lock::RwFifo => " (its Mutex and Condvar have to be this crate's)",
+            Lock::Ticket | Lock::Mcs => "",
+        };
+        Some(format!(
+            "thread {thread} has its turn and does not give it back: it blocks{how}, or it polls \
+             without this crate's atomics"
+        ))
     }
 
     /// How many turns the run had, if one thread ran at a time: for [`Mode::Pct`].

@@ -51,6 +51,8 @@ pub(crate) struct Stage {
     pub(crate) is_cut: bool,
     /// Nobody got on, by turns that no schedule gave.
     has_hung: bool,
+    /// The thread that had its turn when the time was over, and had not given it back for a while.
+    pub(crate) blocked: Option<usize>,
 }
 
 impl Stage {
@@ -75,6 +77,7 @@ impl Stage {
             order,
             is_cut: false,
             has_hung: false,
+            blocked: None,
         })
     }
 

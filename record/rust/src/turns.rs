@@ -7,6 +7,7 @@
 use std::panic;
 use std::sync::atomic::{AtomicBool, Ordering};
 use std::sync::{Condvar, Mutex, MutexGuard, PoisonError};
+use std::thread;
 use std::time::{Duration, Instant};
 
 use crate::chooser::Chooser;
@@ -20,6 +21,9 @@ use crate::wakes::Wakes;
 /// What a stopped thread unwinds with.
 #[derive(Debug)]
 pub(crate) struct Stopped;
+
+/// A thread that keeps its turn for so long is said to block.
+const WHILE: Duration = Duration::from_millis(500);
 
 /// When a thread may make its next operation.
 #[derive(Clone, Copy, Debug, PartialEq, Eq)]
@@ -241,6 +245,7 @@ impl Turns {
         while !stage.all_have_gone() && !self.is_stopped() {
             let left = limit.saturating_sub(begun.elapsed());
             if left.is_zero() {
+                stage = self.look_who_blocks(stage);
                 stage.is_late();
                 self.stop(&stage);
             }
@@ -248,6 +253,19 @@ impl Turns {
             stage = woken.unwrap_or_else(PoisonError::into_inner).0;
         }
         stage.missing()
+    }
+
+    /// By turns: the time is over, and if no turn comes for a while, the thread that has it blocks.
+    fn look_who_blocks<'a>(&'a self, stage: MutexGuard<'a, Stage>) -> MutexGuard<'a, Stage> {
+        let before = stage.turns;
+        if !self.is_by_turns() || stage.holder.is_none() {
+            return stage;
+        }
+        drop(stage);
+        thread::sleep(WHILE);
+        let mut stage = self.stage();
+        stage.blocked = stage.holder.filter(|_| stage.turns == before);
+        stage
     }
 
     /// Stops all threads: each unwinds at its next operation. The stage is locked, so that nobody

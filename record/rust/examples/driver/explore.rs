@@ -40,7 +40,17 @@ fn explore<L: Tested>(
         let is_well = ending == Ending::Complete;
         refusal = judge(&run, is_well, folder, &format!("{made:07}"))?;
     };
-    let all = if is_complete { "all of them" } else { "not all of them" };
-    println!("{made} runs with up to {} preemptions, {all}", runs.preemptions());
+    let is_refused = ending != Ending::Complete || refusal.is_some();
+    let all = match (is_complete, cfg!(feature = "check") && !is_refused) {
+        (true, true) => "all of them accepted",
+        (true, false) => "all of them",
+        (false, true) => "all of them accepted, and there are more",
+        (false, false) => "not all of them",
+    };
+    let preemptions = match runs.preemptions() {
+        1 => "1 preemption".to_owned(),
+        many => format!("{many} preemptions"),
+    };
+    println!("{made} run{} with up to {preemptions}, {all}", if made == 1 { "" } else { "s" });
     Ok(refusal.map_or_else(|| told(&ending), |said| (1, said)))
 }

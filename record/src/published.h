@@ -1,0 +1,161 @@
+/* Says what the published lock does in the place of a step that is refused. */
+
+#if LR_CHECKS
+
+#include "../locktrace.h"
+
+/* Whether two moves of two threads are on the same word. */
+static inline int lr_is_on_word(const lr_move *move, unsigned thread, const lr_move *other,
+                                unsigned by)
+{
+    unsigned place = lr_move_place(move), own = lr_move_owner(move), others = lr_move_owner(other);
+    if (place != lr_move_place(other) || !place) return 0;
+    if (place != LR_PLACE_next && place != LR_PLACE_locked) return 1;
+    return (own == LR_OWN ? thread : own) == (others == LR_OWN ? by : others);
+}
+
+/* What the lock had in the word of the move at a place in the order, after the moves before it. */
+static inline uint64_t lr_left_before(const lr_run *run, const struct lt_step *steps, size_t at,
+                                      const lr_move *move)
+{
+    size_t next[LR_THREADS] = {0};
+    uint64_t left = 0;
+    for (size_t i = 0; i < at; i++) {
+        unsigned by = run->order[i];
+        const lr_move *other = &run->logs[by].moves[next[by]++];
+        if (lr_is_on_word(move, run->order[at], other, by)) left = steps[i].left;
+    }
+    return left;
+}
+
+/* The move at a place in the order. */
+static inline const lr_move *lr_move_at(const lr_run *run, size_t at)
+{
+    size_t before = 0;
+    for (size_t i = 0; i < at; i++) before += run->order[i] == run->order[at];
+    return &run->logs[run->order[at]].moves[before];
+}
+
+/* The count of the last section before a place in the order. */
+static inline uint64_t lr_count_before(const lr_run *run, size_t at)
+{
+    while (at--) {
+        const lr_move *move = lr_move_at(run, at);
+        if (lr_move_word(move) == LR_STEP_section) return move->value;
+    }
+    return 0;
+}
+
+enum { LR_WORD_TEXT = 24 };
+
+/* Writes the name of a word (docs/LOCKS.md) into at most LR_WORD_TEXT bytes; without its owner if that
+   is the thread. */
+static inline const char *lr_name_of(char *name, const lr_run *run, uint32_t word, uint32_t thread)
+{
+    if (strcmp(run->lock, "mcs")) return word ? "now_serving" : "next_ticket";
+    if (!word) return "tail";
+    const char *place = word % 2 ? "next" : "locked";
+    uint32_t owner = (word - 1) / 2;
+    if (owner == thread) return place;
+    snprintf(name, LR_WORD_TEXT, "%s of %" PRIu32, place, owner);
+    return name;
+}
+
+static inline const char *lr_outcome(uint32_t outcome)
+{
+    static const char *const outcomes[] = {
+        /* generated: outcomes by number */
+        /* clang-format off */
+        "called", "moved", "waits", "entered", "left",
+        /* clang-format on */
+        /* end */
+    };
+    return outcomes[outcome];
+}
+
+/* Writes the published lock's step, as a trace has it, into at most LR_LINE bytes. */
+static inline const char *lr_text_of_step(char *line, const lr_run *run, const struct lt_step *step)
+{
+    const char *kind = lr_word(step->action - LT_READ + LR_STEP_read);
+    char owned[LR_WORD_TEXT];
+    if (step->action == LT_SECTION) {
+        snprintf(line, LR_LINE, "%s %s", kind, lr_outcome(step->outcome));
+        return line;
+    }
+    const char *name = lr_name_of(owned, run, step->word, step->thread);
+    int is_write = step->action == LT_WRITE;
+    if (step->action == LT_CAS)
+        snprintf(line, LR_LINE, "%s %s %s", kind, name,
+                 step->found != step->left ? "done" : "failed");
+    else
+        snprintf(line, LR_LINE, "%s %s %s %" PRIu64, kind, name, is_write ? "left" : "found",
+                 is_write ? step->left : step->found);
+    return line;
+}
+
+/* Says how the published lock's step differs from that of the thread. */
+static inline void lr_tell_step(lr_run *run, uint32_t fault, const struct lt_step *step)
+{
+    char *said = run->said, text[LR_LINE];
+    lr_tell(said, ": the published lock");
+    if (fault == LT_OTHER_WORD)
+        lr_tell(said, "'s step is on '%s'", lr_name_of(text, run, step->word, LR_OWN));
+    else if (fault == LT_FOUND_OTHER)
+        lr_tell(said, " has %" PRIu64, step->found);
+    else if (fault == LT_LEFT_OTHER)
+        lr_tell(said, " leaves %" PRIu64, step->left);
+    else if (fault == LT_WROTE_OTHER)
+        lr_tell(said, "'s compare-and-swap %s, it finds %" PRIu64,
+                step->found != step->left ? "is done" : "fails", step->found);
+    else if (fault == LT_OTHER_OUTCOME)
+        lr_tell(said, " answers '%s' here", lr_outcome(step->outcome));
+    else
+        lr_tell(said, "'s next step is '%s'", lr_text_of_step(text, run, step));
+}
+
+/* The place in the order of the last move that a thread made before another one; that one's own if
+   there is none. */
+static inline size_t lr_last_before(const lr_run *run, size_t at)
+{
+    for (size_t i = at; i--;)
+        if (run->order[i] == run->order[at]) return i;
+    return at;
+}
+
+/* Whether a thread makes a call without having come through the last one: it did not wait, or did
+   something else too little or too much. Says at which move. */
+static inline int lr_tell_call(lr_run *run, const struct lt_step *steps, size_t at, uint32_t fault)
+{
+    size_t last = lr_last_before(run, at);
+    const lr_log *log = &run->logs[run->order[at]];
+    const lr_move *before = lr_move_at(run, last);
+    unsigned call = lr_move_word(lr_move_at(run, at));
+    int is_taken = call == LR_CALL_acquire || call == LR_CALL_rlock || call == LR_CALL_wlock;
+    char where[LR_LINE];
+    lr_where(where, log, before);
+    if (last == at) return 0;
+    if (fault == LT_BUSY && steps[last].outcome == LT_WAITS)
+        lr_tell(run->said, ": the thread %s while the published lock still waits: see its %s at %s",
+                is_taken ? "went on" : "entered", lr_word(lr_move_word(before)), where);
+    else if (fault == LT_NO_CALL)
+        lr_tell(run->said, ": the published lock's call ended with its %s at %s",
+                lr_word(lr_move_word(before)), where);
+    else
+        return 0;
+    return 1;
+}
+
+/* Says what the published lock does at the move at a place in the order, if that is known. */
+static inline void lr_tell_published(lr_run *run, const struct lt_step *steps, size_t at,
+                                     uint32_t fault)
+{
+    if (lr_tell_call(run, steps, at, fault)) return;
+    if (fault == LT_COUNT_NOT_ABOVE)
+        lr_tell(run->said, ": a section before it has %" PRIu64, lr_count_before(run, at));
+    else if (steps[at].line)
+        lr_tell_step(run, fault, &steps[at]);
+    else if (fault == LT_FOUND_OTHER)
+        lr_tell(run->said, ": the published lock has %" PRIu64,
+                lr_left_before(run, steps, at, lr_move_at(run, at)));
+}
+#endif
