@@ -28,7 +28,8 @@ MISTAKES = [pytest.param("rust", mistake, id=str(mistake)) for mistake in IN_RUS
 def test_right_lock(recorder, judge, tmp_path, example, counts):
     done = recorder.search(counts, tmp_path, example, "explore")
     due = runs_of(example.replace("_", "-"), *counts)
-    said = f"{sum(due.values())} runs with up to {counts[2]} preemptions, all of them\n"
+    preemptions = "1 preemption" if counts[2] == 1 else f"{counts[2]} preemptions"
+    said = f"{sum(due.values())} runs with up to {preemptions}, all of them\n"
     assert (done.stdout, done.stderr, done.returncode) == (said, "", 0)
     traces = list(tmp_path.glob("*.trace"))
     assert Counter(tuple(words_of(trace.read_text())) for trace in traces) == due
@@ -53,7 +54,7 @@ def test_right_lock_that_checks_itself(recorder, tmp_path, example):
     """It makes all runs, and saves none."""
     done = ran(recorder.checked(example), "explore", 2, 1, 2, tmp_path)
     assert (done.stderr, done.returncode, list(tmp_path.glob("*.trace"))) == ("", 0, [])
-    assert ", all of them\n" in done.stdout
+    assert ", all of them accepted\n" in done.stdout
 
 
 @pytest.mark.parametrize("recorder, mistake", [of for of in MISTAKES
@@ -74,11 +75,11 @@ def test_mistake_that_checks_itself(recorder, judge, tmp_path, mistake):
 
 # An example in C, its mistake, threads, rounds and preemptions: what a search says.
 EXPLORED = [
-    ("mcs", None, (2, 1, 0), "2 runs with up to 0 preemptions, all of them"),
-    ("mcs", None, (2, 1, 2), "128 runs with up to 2 preemptions, all of them"),
-    ("ticket", None, (2, 1, 2), "102 runs with up to 2 preemptions, all of them"),
-    ("rw_simple", None, (2, 1, 2), "114 runs with up to 2 preemptions, all of them"),
-    ("rw_fifo", None, (2, 1, 2), "114 runs with up to 2 preemptions, all of them"),
+    ("mcs", None, (2, 1, 0), "2 runs with up to 0 preemptions, all of them accepted"),
+    ("mcs", None, (2, 1, 2), "128 runs with up to 2 preemptions, all of them accepted"),
+    ("ticket", None, (2, 1, 2), "102 runs with up to 2 preemptions, all of them accepted"),
+    ("rw_simple", None, (2, 1, 2), "114 runs with up to 2 preemptions, all of them accepted"),
+    ("rw_fifo", None, (2, 1, 2), "114 runs with up to 2 preemptions, all of them accepted"),
     ("mcs", "link-before-locked", (2, 1, 2), ", the last one is refused"),
     ("ticket", "serves-the-next-ticket", (2, 1, 2), ", the last one is refused"),
 ]
@@ -116,7 +117,7 @@ def test_wake_for_nothing(planted, tmp_path, flags, is_refused):
     program = planted("rw_fifo", "writer-waits-once-for-readers", *flags)
     done = ran(program, 2, 2, 2, tmp_path)
     assert done.returncode == int(is_refused)
-    assert ("the last one is refused" if is_refused else ", all of them\n") in done.stdout
+    assert ("the last one is refused" if is_refused else ", all of them accepted\n") in done.stdout
     if is_refused:
         again = ran(program, 2, 2, "again", tmp_path / "run.trace")
         assert (again.stdout, again.returncode) == (done.stdout.splitlines(True)[1], 1)
@@ -134,7 +135,7 @@ def test_counters_that_begin_before_their_wrap(planted, tmp_path, name, line, sa
     from 0, and has as many runs of the right lock."""
     done = ran(planted("ticket", name, f"-DLR_START={start}"), 2, 1, 2, tmp_path)
     if name is None or start == 0:
-        assert done.stdout == "102 runs with up to 2 preemptions, all of them\n"
+        assert done.stdout == "102 runs with up to 2 preemptions, all of them accepted\n"
     else:
         at = re.search(r"refused at line (\d+) of the trace, ticket.c:\d+: (.*?): ", done.stdout)
         assert at and int(at[1]) == line

@@ -40,7 +40,7 @@ def test_right_lock(built, judge, tmp_path, compiler, standard, mode):
     elif mode == "SEED":
         assert judge.accepts([tmp_path / "run.trace"])
     elif mode == "EXPLORE":
-        assert ", all of them\n" in done.stdout
+        assert ", all of them accepted\n" in done.stdout
 
 
 @pytest.mark.parametrize("compiler", ["gcc", "g++"])

@@ -101,10 +101,10 @@ def is_noticed(locktrace, program, seed, logs):
 def explored(said):
     """Which run of a search is refused, and how many preemptions it has; or how many runs are
     made."""
-    runs, preemptions = re.match(r"(\d+) runs with up to (\d+)", said).groups()
+    runs, preemptions = re.match(r"(\d+) runs? with up to (\d+)", said).groups()
     if "refused" in said:
         return f"{runs}, {preemptions}"
-    return "none" if "preemptions, all of them" in said else f"none/{MOST}"
+    return f"none/{MOST}" if "and there are more" in said else "none"
 
 
 def followed(said):

@@ -74,7 +74,8 @@ def test_in_c(library, judge, tour, tmp_path, record_property, compiler, source,
     count = RUNS
     if mode == "EXPLORE":
         done = ran(*program, *EXPLORED, logs, RUNS)
-        assert re.match(f"{RUNS} runs with up to .*, not all of them\n$", done.stdout), done.stdout
+        assert re.match(f"{RUNS} runs with up to .*, all of them accepted, and there are more\n$",
+                        done.stdout), done.stdout
     elif mode == "FOLLOW":
         schedules, count = first_schedules(tour, source.stem.removeprefix("ck_"), tmp_path)
         logs.mkdir()

@@ -1,0 +1,168 @@
+"""What a refusal says of the published lock: its step in the place of the one that differs.
+
+Each message is shown by an example in C with a mistake, and by one in Rust as far as mistakes of
+these are planted; record/rust/tests/published.rs has all of them.
+"""
+import ctypes
+import re
+import sys
+
+import pytest
+
+from mistakes import IN_RUST, PATCHES
+from recorders import InRust, SOURCES, compile_c, once, plant
+from tree import EXAMPLES, TOP, output, ran
+
+sys.path.append(str(EXAMPLES / "bindings"))
+from locktrace import NO_WORD, Answer, Step  # noqa: E402
+
+pytestmark = pytest.mark.slow
+
+CHECK = TOP / "record" / "locktrace.c"
+READ, WRITE, SWAP, CAS, ADD, SECTION = range(16, 22)
+MOVED, WAITS, ENTERED, LEFT = range(1, 5)
+# An example in C, its mistake, threads, rounds and preemptions: the fault, and what comes after it.
+IN_C = [
+    ("mcs", "link-before-locked", (2, 1, 1), "OtherWord",
+     "the published lock's step is on 'locked of 0'"),
+    ("mcs", "swap-of-two-operations", (2, 1, 2), "FoundOther", "the published lock has 2"),
+    ("ticket", "skips-one", (2, 1, 0), "LeftOther", "the published lock leaves 1"),
+    ("mcs", "cas-of-two-operations", (2, 1, 1), "WroteOther",
+     "the published lock's compare-and-swap fails, it finds 1"),
+    ("mcs", "tail-lost", (3, 1, 1), "WroteOther",
+     "the published lock's compare-and-swap is done, it finds 1"),
+    ("rw_fifo", "writer-waits-once-for-readers", (2, 2, 2), "OtherOutcome",
+     "the published lock answers 'waits' here"),
+    ("mcs", "next-kept", (2, 1, 0), "WrongStep",
+     "the published lock's next step is 'write next left 0'"),
+    ("mcs", "no-wait", (2, 1, 1), "Busy",
+     "the published lock's next step is 'read locked found 1'"),
+    ("ticket", "one-look", (2, 1, 1), "Busy", "the thread entered while the published lock still "
+     r"waits: see its read at ticket\.c:\d+"),
+    ("ticket", "serves-twice", (2, 1, 0), "NoCall",
+     r"the published lock's call ended with its write at ticket\.c:\d+"),
+]
+# The same of a text that is another one in an example.
+BY_TEXT = [
+    ("rw_simple", "++lock->monitor.sections", "1", (1, 1, 0), "CountNotAbove",
+     "a section before it has 1"),
+    ("ticket", '#define LOCK "ticket"', '#define LOCK "mcs"', (1, 1, 0), "WrongLock",
+     "the published lock's next step is 'write next left 0'"),
+]
+OF_RUST = {
+    "links-before-locked": ("OtherWord", "the published lock's step is on 'locked of 2'"),
+    "notes-two-steps-as-an-add": ("FoundOther", "the published lock has 2"),
+    "serves-the-next-ticket": ("LeftOther", r"the published lock leaves \d"),
+    "swaps-in-two-steps": ("WrongStep", "the published lock's next step is 'swap tail found 0'"),
+    "writes-beside-readers": ("OtherOutcome", "the published lock answers 'waits' here"),
+}
+
+
+@pytest.fixture(scope="session")
+def compiled(shared):
+    """The check, which takes longer to compile than any lock."""
+    def compile_it(words, name):
+        return once(shared / name, lambda: output("gcc", "-O1", *words, CHECK, "-o",
+                                                  shared / name))
+    return compile_it
+
+
+@pytest.fixture
+def searched(compiled, tmp_path):
+    """Explores an example in C after a change: what is said."""
+    def search(example, counts, change):
+        copy = tmp_path / SOURCES.relative_to(TOP)
+        output("cp", "-R", "--parents", SOURCES.relative_to(TOP), tmp_path, cwd=TOP)
+        (tmp_path / "record").symlink_to(TOP / "record")
+        change(copy / f"{example}.c")
+        assert compile_c("gcc", copy / f"{example}.c", tmp_path / "it", "-DLR_MODE=EXPLORE",
+                         "-Wno-unused-function", library=compiled(["-c"], "check.o")) == ""
+        done = ran(tmp_path / "it", *counts, tmp_path / "logs")
+        assert done.returncode == 1
+        return done.stdout
+    return search
+
+
+def is_said(said, fault, more):
+    return re.search(rf"refused at line \d+ of the trace, .*: {fault}: [^:]+: {more}(;|$)", said,
+                     re.MULTILINE)
+
+
+@pytest.mark.parametrize("example, name, counts, fault, more", IN_C)
+def test_in_c(searched, tmp_path, example, name, counts, fault, more):
+    said = searched(example, counts,
+                    lambda _: plant(PATCHES / "c" / example / f"{name}.patch", tmp_path))
+    assert is_said(said, fault, more), said
+
+
+@pytest.mark.parametrize("example, old, new, counts, fault, more", BY_TEXT)
+def test_in_c_by_text(searched, example, old, new, counts, fault, more):
+    def change(source):
+        assert old in source.read_text()
+        source.write_text(source.read_text().replace(old, new))
+    said = searched(example, counts, change)
+    assert is_said(said, fault, more), said
+
+
+@pytest.mark.parametrize("name", OF_RUST)
+def test_in_rust(shared, tmp_path, name):
+    [mistake] = [it for it in IN_RUST if it.name == name and it.explored is not None
+                 and it.example != "rw_fifo"][:1]
+    program = InRust(shared, None, None).checked(mistake.example, mistake)
+    done = ran(program, "explore", 3, 1, mistake.explored, tmp_path)
+    assert done.returncode == 1 and is_said(done.stderr, *OF_RUST[name]), done.stderr
+
+
+def test_linker_says_what_is_missing(tmp_path):
+    said = compile_c("gcc", SOURCES / "mcs.c", tmp_path / "it", "-DLR_MODE=EXPLORE")
+    assert "lr_compile_record_locktrace_c_too" in said and "lt_check" in said
+
+
+# A trace and the record of the step that the lock has instead of the last one: of which line and
+# thread, what it found and left, which step on which word, and what came of it.
+MCS, OUT = "lock mcs threads 2\n", "0 acquire\n0 write\n0 swap\n0 release\n"
+QUEUED = "0 acquire\n0 write\n0 swap\n1 acquire\n1 write\n1 swap\n1 write\n1 write\n"
+TICKET, RW = "lock ticket threads 2\n", "lock rw-simple threads 2\n"
+RECORDS = [
+    (MCS + "0 acquire\n0 write locked left 0\n", (3, 0, 0, 0, WRITE, MOVED, 1)),
+    (MCS + QUEUED + "1 read locked found 0\n", (10, 1, 1, 1, READ, WAITS, 4)),
+    (TICKET + "0 acquire\n0 add next_ticket found 0 left 2\n", (3, 0, 1, 0, ADD, MOVED, 0)),
+    (MCS + OUT + "0 read\n0 cas tail failed\n", (7, 1, 0, 0, CAS, LEFT, 0)),
+    (RW + "0 rlock\n0 section 1\n1 wlock\n1 section 2 entered\n",
+     (5, 0, 0, 1, SECTION, WAITS, NO_WORD)),
+    (RW + "0 rlock\n0 section 1\n1 rlock\n1 section 1\n",
+     (5, 0, 0, 1, SECTION, ENTERED, NO_WORD)),
+    # of moves that are refused: the step that is due
+    (MCS + "# a comment\n0 acquire\n\n0 cas tail done", (5, 0, 0, 0, WRITE, MOVED, 1)),
+    (MCS + QUEUED + "1 cas\n0 release\n", (10, 1, 1, 1, READ, WAITS, 4)),
+    (MCS + QUEUED + "1 release\n1 read\n0 nothing\n", (10, 1, 1, 1, READ, WAITS, 4)),
+    (TICKET + "1 acquire\n1 acquire\n", (3, 0, 1, 1, ADD, MOVED, 0)),
+    (RW + "0 rlock\n0 section\n1 wlock\n1 wunlock\n", (5, 0, 0, 1, SECTION, WAITS, NO_WORD)),
+    (TICKET + "0 acquire\n0 cas\n", (3, 0, 1, 0, ADD, MOVED, 0)),
+    # no step is due
+    (TICKET + "0 release\n", None), (TICKET + "0 add\n", None), (TICKET + "2 acquire\n", None),
+    (TICKET + "0 cas\n", None), (TICKET + "0 acquire\n", None), (TICKET + "0 acquire\nx\n", None),
+]
+
+
+@pytest.fixture(scope="session")
+def check(compiled):
+    found = ctypes.CDLL(str(compiled(["-shared", "-fPIC"], "check.so"))).lt_check
+    found.restype = ctypes.c_uint32
+    return found
+
+
+@pytest.mark.parametrize("text, record", RECORDS)
+def test_record(check, text, record):
+    """It is written if there is room for it, and nothing after it."""
+    count = None
+    for room in range(text.count("\n") + 2):
+        steps, answer = (Step * (room + 1))(), Answer()
+        check(text.encode(), ctypes.c_size_t(len(text)), steps, ctypes.c_size_t(room),
+              ctypes.byref(answer))
+        found = [tuple(getattr(step, name) for name, _ in Step._fields_) for step in steps]
+        count = answer.moves
+        assert not any(any(step) for step in found[min(room, count + 1):])
+        if count < room:
+            assert found[count] == (record or (0,) * len(found[count]))
+    assert count is not None
