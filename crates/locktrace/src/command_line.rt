@@ -1,8 +1,9 @@
 //! The words after the program's name, and the job that they ask for. `clap` reads the words.
 
+use crate::commands::program_command;
 use crate::searches::{self, SearchJob};
+use clap::ArgMatches;
 use clap::error::ErrorKind;
-use clap::{Arg, ArgAction, ArgMatches, Command, value_parser};
 use lk_checks::check::CheckJob;
 use lk_checks::explain::ExplainJob;
 use lk_jobs::order::OrderJob;
@@ -12,7 +13,7 @@ use std::alloc::{AllocError, Global};
 use thiserror::Error;
 
 /// A job of the program. A file `-` is standard input.
-#[derive(Debug, Drop)]
+#[derive(Drop)]
 pub enum Job {
     Check {
         job: CheckJob,
@@ -40,165 +41,22 @@ pub enum ParseFault {
     Memory(#[from(alloc)] AllocError),
 }
 
-/// The version of the program, as the file VERSION has it.
-const VERSION: &str = "1.0.0";
-
-/// The most workers of a check.
-pub const MOST_WORKERS: u8 = 64;
-
-/// A value that is known by its place.
-pub fn value_arg<'a>(alloc: Global, name: &'a str, value: &'a str, help: &'a str) -> Arg<'a> {
-    Arg::new(alloc, name)
-        .value_name(value)
-        .help(help)
-        .action(ArgAction::Set)
-}
-
-/// An option with a value.
-pub fn option_arg<'a>(alloc: Global, name: &'a str, value: &'a str, help: &'a str) -> Arg<'a> {
-    value_arg(alloc, name, value, help).long(name)
-}
-
-fn quiet_arg<'a>(alloc: Global) -> Arg<'a> {
-    Arg::new(alloc, "quiet")
-        .short('q')
-        .long("quiet")
-        .help("Writes no report: the status alone says how it ended")
-        .action(ArgAction::SetTrue)
-}
-
-fn format_arg<'a>(alloc: Global) -> Arg<'a> {
-    option_arg(alloc, "format", "FORMAT", "text, tap or json")
-}
-
-fn summary_arg<'a>(alloc: Global) -> Arg<'a> {
-    Arg::new(alloc, "summary")
-        .long("summary")
-        .help(
-            "Counts threads, moves, waits, failed compare-and-swaps, polls of a late link, the \
-             longest queue, and wrap-arounds of the counter",
-        )
-        .action(ArgAction::SetTrue)
-}
-
-fn color_arg<'a>(alloc: Global) -> Arg<'a> {
-    let help = "auto, always or never: auto is on a terminal alone";
-    option_arg(alloc, "color", "WHEN", help)
-}
-
-fn workers_arg<'a>(alloc: Global) -> Arg<'a> {
-    option_arg(alloc, "jobs", "N", "How many threads share the files")
-        .short('j')
-        .value_parser(value_parser!(u8).range(1..=MOST_WORKERS as i64))
-}
-
-fn files_arg<'a>(alloc: Global) -> Arg<'a> {
-    let help =
-        "Traces or schedules, or folders of them; - is standard input, also if none is named";
-    value_arg(alloc, "files", "FILE", help)
-        .num_args(0..)
-        .action(ArgAction::Append)
-}
-
-fn check_command<'a>(alloc: Global) -> Result<Command<'a>, AllocError> {
-    Command::new(alloc, "check")
-        .about("Checks each move, and each value that is given, with the lock's machine")
-        .arg(format_arg(alloc))?
-        .arg(summary_arg(alloc))?
-        .arg(quiet_arg(alloc))?
-        .arg(color_arg(alloc))?
-        .arg(workers_arg(alloc))?
-        .arg(files_arg(alloc))
-}
-
-fn file_arg<'a>(alloc: Global) -> Arg<'a> {
-    let help = "A trace or a schedule; - is standard input, also if none is named";
-    value_arg(alloc, "file", "FILE", help)
-}
-
-fn explain_command<'a>(alloc: Global) -> Result<Command<'a>, AllocError> {
-    let (moves, names) = (
-        "Only the moves in these lines, as 5..10, 5.. or 5",
-        "What the threads are called, from thread 0 on",
-    );
-    Command::new(alloc, "explain")
-        .about("Says of each move what it found and left, and why the first wrong one is wrong")
-        .arg(option_arg(alloc, "moves", "FIRST..LAST", moves))?
-        .arg(option_arg(alloc, "names", "NAME,NAME", names))?
-        .arg(file_arg(alloc))
-}
-
-fn trace_folder_arg<'a>(alloc: Global) -> Arg<'a> {
-    let help = "Where the trace and the schedules are written; - is standard output, for the trace";
-    value_arg(alloc, "folder", "DIR", help)
-        .short('o')
-        .required(true)
-}
-
-fn logs_arg<'a>(alloc: Global) -> Arg<'a> {
-    value_arg(alloc, "logs", "LOG", "The log of each thread")
-        .required(true)
-        .num_args(1..)
-        .action(ArgAction::Append)
-}
-
-fn order_command<'a>(alloc: Global) -> Result<Command<'a>, AllocError> {
-    Command::new(alloc, "order")
-        .about(
-            "Puts the logs of a run's threads into one order in which each step finds what \
-             it found",
-        )
-        .arg(trace_folder_arg(alloc))?
-        .arg(format_arg(alloc))?
-        .arg(quiet_arg(alloc))?
-        .arg(logs_arg(alloc))
-}
-
-fn schedule_command<'a>(alloc: Global) -> Result<Command<'a>, AllocError> {
-    Command::new(alloc, "schedule")
-        .about("Writes a trace without its values")
-        .arg(file_arg(alloc))
-}
-
-// The program with one more command.
-fn with<'a>(
-    program: Command<'a>,
-    command: Result<Command<'a>, AllocError>,
-) -> Result<Command<'a>, AllocError> {
-    program.subcommand(command?)
-}
-
-fn program_command<'a>(alloc: Global) -> Result<Command<'a>, AllocError> {
-    let program = Command::new(alloc, "locktrace")
-        .about("Checks runs of locks, explains and orders them, and searches all runs of a lock")
-        .version(VERSION)
-        .bin_name("locktrace")?
-        .no_binary_name(true)
-        .subcommand_required(true);
-    let program = with(program, check_command(alloc))?;
-    let program = with(program, explain_command(alloc))?;
-    let program = with(program, order_command(alloc))?;
-    let program = with(program, searches::find_command(alloc))?;
-    let program = with(program, searches::tour_command(alloc))?;
-    let program = with(program, searches::space_command(alloc))?;
-    let program = with(program, searches::why_command(alloc))?;
-    let program = with(program, searches::cover_command(alloc))?;
-    with(program, schedule_command(alloc))
-}
-
 /// Copies of texts.
 pub fn copied(alloc: Global, texts: &[&str]) -> Result<Vec<String>, AllocError> {
-    texts
-        .iter()
-        .map(|text| String::from_str(alloc, *text))
-        .try_collect(alloc)
+    let mut copies = Vec::new(alloc);
+    for text in texts {
+        copies.push(String::from_str(alloc, *text)?)?;
+    }
+    Ok(copies)
 }
 
 /// The names in a text, with commas between them.
 pub fn names_in(alloc: Global, text: &str) -> Result<Vec<String>, AllocError> {
-    text.split(',')
-        .map(|name| String::from_str(alloc, name))
-        .try_collect(alloc)
+    let mut names = Vec::new(alloc);
+    for name in text.split(',') {
+        names.push(String::from_str(alloc, name)?)?;
+    }
+    Ok(names)
 }
 
 /// Says what is wrong with the words.

@@ -5,6 +5,17 @@ use std::fs;
 use std::io::Error;
 use std::rt::Files;
 
+// Whether a file has the name of a trace or a schedule.
+fn is_run(name: &str) -> bool {
+    name.ends_with(".trace") || name.ends_with(".schedule")
+}
+
+// The path of a file in a folder.
+fn path_in(alloc: Global, folder: &str, name: &str) -> Result<String, AllocError> {
+    let mark = if folder.ends_with('/') { "" } else { "/" };
+    format!(in alloc; "{folder}{mark}{name}")
+}
+
 // The traces and schedules in a folder, in the order of their names.
 fn runs_in<R: Files + Alloc + Clone + Drop>(
     rt: &R,
@@ -12,16 +23,29 @@ fn runs_in<R: Files + Alloc + Clone + Drop>(
     folder: &str,
 ) -> Result<Vec<String>, Error> {
     let mut files = Vec::new(alloc);
-    let mark = if folder.ends_with('/') { "" } else { "/" };
     for entry in fs::read_dir(rt, folder)? {
         let entry = entry?;
-        let name = entry.file_name();
-        if name.ends_with(".trace") || name.ends_with(".schedule") {
-            files.push(format!(in alloc; "{folder}{mark}{name}")?)?;
+        if is_run(entry.file_name()) {
+            files.push(path_in(alloc, folder, entry.file_name())?)?;
         }
     }
     files.sort_unstable();
     Ok(files)
+}
+
+// The files that this name means.
+fn files_of<R: Files + Alloc + Clone + Drop>(
+    rt: &R,
+    alloc: Global,
+    name: &str,
+) -> Result<Vec<String>, AllocError> {
+    if name != "-" {
+        let files = runs_in(rt, alloc, name).unwrap_or(Vec::new(alloc));
+        if !files.is_empty() {
+            return Ok(files);
+        }
+    }
+    Ok(vec![in alloc; String::from_str(alloc, name)?]?)
 }
 
 /// The files that these names mean. A folder that has no trace and no schedule, or that cannot be
@@ -33,14 +57,7 @@ pub fn files_named<R: Files + Alloc + Clone + Drop>(
 ) -> Result<Vec<String>, AllocError> {
     let mut files = Vec::new(alloc);
     for name in names {
-        let mut found = Vec::new(alloc);
-        if name.as_str() != "-" {
-            found = runs_in(rt, alloc, name).unwrap_or(found);
-        }
-        if found.is_empty() {
-            found.push(name.clone()?)?;
-        }
-        files.extend(found)?;
+        files.extend(files_of(rt, alloc, name)?)?;
     }
     Ok(files)
 }

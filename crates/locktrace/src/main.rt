@@ -5,6 +5,7 @@
 #![tactic(auto)]
 
 mod command_line;
+mod commands;
 mod folders;
 mod patient;
 mod searches;
@@ -49,7 +50,33 @@ fn job_given(rt: &HostRuntime) -> Result<Job, ParseFault> {
     parse_words(alloc, &words)
 }
 
-// Searches a lock's space.
+// Searches a lock's space, and gives the status that the program ends with.
+fn found_in<R: Runtime>(
+    rt: &R,
+    alloc: Global,
+    job: &SearchJob,
+    text: &mut Text,
+    errors: &mut Text,
+) -> Result<u8, Failure> {
+    let status = match job {
+        SearchJob::Find { place, asked } => find_run(rt, alloc, place, *asked, text, errors),
+        SearchJob::Space {
+            header,
+            asked,
+            format,
+        } => count_space(alloc, header, *asked, *format, text, errors),
+        SearchJob::Why { header, asked } => explain_changes(alloc, header, *asked, text, errors),
+        SearchJob::Cover(job) => return Ok(cover_traces(rt, alloc, job, text, errors)?),
+        SearchJob::Tour {
+            header,
+            asked,
+            folder,
+        } => return Ok(write_tour(rt, alloc, header, *asked, folder, text, errors)? as u8),
+    };
+    Ok(status? as u8)
+}
+
+// Writes what a search found.
 fn search<R: Runtime, O: Write>(
     rt: &R,
     alloc: Global,
@@ -58,26 +85,7 @@ fn search<R: Runtime, O: Write>(
     errors: &mut Text,
 ) -> Result<u8, Failure> {
     let mut text = Text::new(alloc);
-    let found = &mut text;
-    let status = match job {
-        SearchJob::Find { place, asked } => {
-            find_run(rt, alloc, place, *asked, found, errors)? as u8
-        }
-        SearchJob::Space {
-            header,
-            asked,
-            format,
-        } => count_space(alloc, header, *asked, *format, found, errors)? as u8,
-        SearchJob::Tour {
-            header,
-            asked,
-            folder,
-        } => write_tour(rt, alloc, header, *asked, folder, found, errors)? as u8,
-        SearchJob::Cover(job) => cover_traces(rt, alloc, job, found, errors)?,
-        SearchJob::Why { header, asked } => {
-            explain_changes(alloc, header, *asked, found, errors)? as u8
-        }
-    };
+    let status = found_in(rt, alloc, job, &mut text, errors)?;
     text.write_to(output)?;
     output.flush()?;
     Ok(status)
@@ -87,7 +95,7 @@ fn search<R: Runtime, O: Write>(
 fn check<R: Runtime + Threads + Sync + Clone + Drop, O: Write + IsTerminal>(
     rt: &R,
     alloc: Global,
-    mut job: CheckJob,
+    job: &CheckJob,
     colored: Option<bool>,
     told: bool,
     output: &mut O,
@@ -95,8 +103,14 @@ fn check<R: Runtime + Threads + Sync + Clone + Drop, O: Write + IsTerminal>(
 where
     R::File: Send,
 {
-    job.colored = colored.unwrap_or_else(|| output.is_terminal());
-    job.files = files_named(rt, alloc, &job.files)?;
+    let job = CheckJob {
+        format: job.format,
+        summary: job.summary,
+        quiet: job.quiet,
+        colored: colored.unwrap_or_else(|| output.is_terminal()),
+        workers: job.workers,
+        files: files_named(rt, alloc, &job.files)?,
+    };
     let told = told && !job.quiet;
     Ok(worst(&check_files(rt, alloc, &job, told, output)?))
 }
@@ -106,7 +120,7 @@ where
 fn perform<R: Runtime + Threads + Sync + Clone + Drop, O: Write + IsTerminal>(
     rt: &R,
     alloc: Global,
-    job: Job,
+    job: &Job,
     told: bool,
     output: &mut O,
     errors: &mut Text,
@@ -114,19 +128,14 @@ fn perform<R: Runtime + Threads + Sync + Clone + Drop, O: Write + IsTerminal>(
 where
     R::File: Send,
 {
-    match job {
-        Job::Check { job, colored } => check(rt, alloc, job, colored, told, output),
-        Job::Schedule { file } => { Ok(write_schedule(rt, alloc, &file, output, errors)?.status()) }
-        Job::Explain(job) => Ok(explain_trace(rt, alloc, &job, output, errors)?.status()),
-        Job::Search(job) => search(rt, alloc, &job, output, errors),
-        Job::Order(job) => {
-            Ok(
-                order_logs(rt, alloc, &job, told, output, errors)?
-                    .ending()
-                    .status(),
-            )
-        }
-    }
+    let ending = match job {
+        Job::Check { job, colored } => return check(rt, alloc, job, *colored, told, output),
+        Job::Search(job) => return search(rt, alloc, job, output, errors),
+        Job::Schedule { file } => write_schedule(rt, alloc, file, output, errors)?,
+        Job::Explain(job) => explain_trace(rt, alloc, job, output, errors)?,
+        Job::Order(job) => order_logs(rt, alloc, job, told, output, errors)?.ending(),
+    };
+    Ok(ending.status())
 }
 
 // Writes to standard error. If that fails, nobody is left to be told.
@@ -141,7 +150,7 @@ fn main(rt: HostRuntime) -> ExitCode {
         Ok(job) => {
             let told = rt.stderr().is_terminal();
             let mut output = Patient::new(rt.stdout());
-            perform(&rt, rt.alloc(), job, told, &mut output, &mut errors)
+            perform(&rt, rt.alloc(), &job, told, &mut output, &mut errors)
         }
         Err(ParseFault::Told(text)) => match Patient::new(rt.stdout()).write_all(text.as_bytes()) {
             Ok(()) => Ok(Status::Accepted as u8),

@@ -1,9 +1,7 @@
 //! The words of the commands that search a lock's space, and the jobs that they ask for.
 
-use crate::command_line::{
-    ParseFault, choice, copied, folder_given, names_in, option_arg, usage, value_arg,
-};
-use clap::{Arg, ArgAction, ArgMatches, Command, value_parser};
+use crate::command_line::{ParseFault, choice, copied, folder_given, names_in, usage};
+use clap::ArgMatches;
 use lk_checks::cover::{CoverFormat, CoverJob, is_kind};
 use lk_jobs::sketch::{Place, rounds_of};
 use lk_jobs::space::{Asked, Rounds, SpaceFormat};
@@ -14,11 +12,8 @@ use std::alloc::{AllocError, Global};
 /// How many states are searched if nothing else is asked for.
 const LIMIT: u64 = 1_000_000;
 
-// The most that can be asked for: places in a table of states are numbered by 32 bits.
-const MOST_STATES: i64 = 4_000_000_000;
-
 /// A search that was asked for.
-#[derive(Debug, Drop)]
+#[derive(Drop)]
 pub enum SearchJob {
     Find {
         place: Place,
@@ -39,104 +34,6 @@ pub enum SearchJob {
         header: Vec<String>,
         asked: WhyAsked,
     },
-}
-
-const ROUNDS: &str = "How many times each thread takes the lock at most; 1 if it is not given";
-
-const ANY_ROUNDS: &str =
-    "How many times each thread takes the lock at most, or any; 1 if it is not \
-    given";
-
-const TWO_ROUNDS: &str = "How many times each thread takes the lock at most; 2 if it is not given";
-
-fn with_bounds<'a>(
-    alloc: Global,
-    command: Command<'a>,
-    rounds: &'static str,
-) -> Result<Command<'a>, AllocError> {
-    let rounds = option_arg(alloc, "rounds", "R", rounds);
-    let help = "How many bits a word has; 64 if it is not given";
-    let bits = option_arg(alloc, "bits", "B", help);
-    let help = "How many states are searched at most; 1,000,000 if it is not given";
-    let range = value_parser!(u64).range(1..=MOST_STATES);
-    let limit = option_arg(alloc, "limit", "N", help).value_parser(range);
-    command.arg(rounds)?.arg(bits)?.arg(limit)
-}
-
-/// The command `find`.
-pub fn find_command<'a>(alloc: Global) -> Result<Command<'a>, AllocError> {
-    let help = "A lock, its threads and the lines of a sketch; or the file of a sketch, or -";
-    let words = value_arg(alloc, "words", "LOCK THREADS LINE", help)
-        .required(true)
-        .num_args(1..)
-        .action(ArgAction::Append);
-    let command = Command::new(alloc, "find").about(
-        "Finds a shortest run that has these lines in this order, or says that none has",
-    );
-    with_bounds(alloc, command, ANY_ROUNDS)?.arg(words)
-}
-
-fn with_lock<'a>(alloc: Global, command: Command<'a>) -> Result<Command<'a>, AllocError> {
-    let help = "ticket, mcs, rw-simple or rw-fifo";
-    let lock = value_arg(alloc, "lock", "LOCK", help).required(true);
-    let help = "How many threads it has, from 1 to 64";
-    let threads = value_arg(alloc, "threads", "THREADS", help).required(true);
-    command.arg(lock)?.arg(threads)
-}
-
-/// The command `space`.
-pub fn space_command<'a>(alloc: Global) -> Result<Command<'a>, AllocError> {
-    let command = Command::new(alloc, "space").about(
-        "Counts the states and the transitions of all runs of a lock, or draws them",
-    );
-    let format = option_arg(alloc, "format", "FORMAT", "text, json or dot");
-    with_lock(alloc, with_bounds(alloc, command, ANY_ROUNDS)?.arg(format)?)
-}
-
-/// The command `tour`.
-pub fn tour_command<'a>(alloc: Global) -> Result<Command<'a>, AllocError> {
-    let help = "Where the schedules are written; those of an earlier tour are removed";
-    let folder = value_arg(alloc, "folder", "DIR", help)
-        .short('o')
-        .required(true);
-    let command = Command::new(alloc, "tour").about(
-        "Writes schedules that together take every transition of a lock",
-    );
-    with_lock(alloc, with_bounds(alloc, command, ROUNDS)?.arg(folder)?)
-}
-
-/// The command `cover`.
-pub fn cover_command<'a>(alloc: Global) -> Result<Command<'a>, AllocError> {
-    let help = "Fails if one of these kinds is missing; all is each one of the traces' locks";
-    let required = option_arg(alloc, "require", "NAME,NAME", help);
-    let help = "Traces or schedules; - is standard input, also if none is named";
-    let files = value_arg(alloc, "files", "TRACE", help)
-        .num_args(0..)
-        .action(ArgAction::Append);
-    Command::new(alloc, "cover")
-        .about("Counts which kinds of transition traces took, and how to reach the others")
-        .arg(required)?
-        .arg(option_arg(alloc, "format", "FORMAT", "text or json"))?
-        .arg(files)
-}
-
-/// The command `why`.
-pub fn why_command<'a>(alloc: Global) -> Result<Command<'a>, AllocError> {
-    let help = "ticket, mcs, rw-simple or rw-fifo";
-    let lock = value_arg(alloc, "lock", "LOCK", help).required(true);
-    let help = "How many threads it has, from 1 to 4; 2 if it is not given";
-    let threads = value_arg(alloc, "threads", "THREADS", help);
-    let runs = Arg::new(alloc, "runs")
-        .long("runs")
-        .action(ArgAction::SetTrue)
-        .help("Writes the moves of each run too");
-    let command = Command::new(alloc, "why").about(
-        "Changes one step of a lock at a time, and finds how the changed lock goes wrong",
-    );
-    with_bounds(alloc, command, TWO_ROUNDS)?
-        .arg(runs)?
-        .arg(lock)?
-        .arg(threads)
 }
 
 // The rounds that are named, if there are such.
