@@ -110,7 +110,7 @@ fn program_command<'a>(alloc: Global) -> Result<Command<'a>, AllocError>
 }
 
 /// Copies of the texts.
-fn copies_of(alloc: Global, texts: &[&str]) -> Result<Vec<String>, AllocError>
+pub fn copies_of(alloc: Global, texts: &[&str]) -> Result<Vec<String>, AllocError>
     ensures { IfOk result (λ copies. map string_bytes copies.items ≡ map (λ t. t.now) texts.now) }
 {
     let mut copies = Vec::new(alloc);
@@ -182,74 +182,5 @@ pub fn parse_words(alloc: Global, words: &[String]) -> Result<Job, ParseFault>
     match matches.subcommand_matches("batch") {
         Some(batch) => batch_given(alloc, batch),
         None => Ok(Job::Replay),
-    }
-}
-
-#[cfg(test)]
-mod tests {
-    use super::{Job, MOST_FILES, ParseFault, copies_of, parse_words};
-    use std::test::Fail;
-
-    // The answer that is due to a command line.
-    enum Due {
-        Replay,
-        Batch(u8, &'static [&'static str]),
-        Help,
-        Usage,
-    }
-
-    const LINES: [(&[&str], Due); 8] = [
-        (&["replay"], Due::Replay),
-        (
-            &["batch", "--workers", "2", "a", "b"],
-            Due::Batch(2, &["a", "b"]),
-        ),
-        (&["batch", "--workers", "9", "a"], Due::Usage),
-        (&["batch", "a"], Due::Usage),
-        (&["batch", "--workers", "2"], Due::Usage),
-        (&["replay", "x"], Due::Usage),
-        (&[], Due::Usage),
-        (&["--help"], Due::Help),
-    ];
-
-    fn are_named(files: &[String], names: &[&str]) -> bool {
-        for (file, name) in files.iter().zip(names) {
-            if file.as_str() != *name {
-                return false;
-            }
-        }
-        files.len() == names.len()
-    }
-
-    fn is_due(answer: &Result<Job, ParseFault>, due: &Due) -> bool {
-        match (answer, due) {
-            (Ok(Job::Replay), Due::Replay)
-            | (Err(ParseFault::Help(_)), Due::Help)
-            | (Err(ParseFault::Usage(_)), Due::Usage) => true,
-            (Ok(Job::Batch { workers, files }), Due::Batch(count, names)) => {
-                workers == count && are_named(files, names)
-            }
-            _ => false,
-        }
-    }
-
-    #[test]
-    fn jobs_of_words(rt: HostRuntime) -> Result<(), Fail> {
-        for (words, due) in &LINES {
-            let answer = parse_words(rt.alloc(), &copies_of(rt.alloc(), words)?);
-            assert!(rt; is_due(&answer, due), "{words:?}");
-        }
-        Ok(())
-    }
-
-    #[test]
-    fn too_many_files(rt: HostRuntime) -> Result<(), Fail> {
-        let mut words = copies_of(rt.alloc(), &["batch", "--workers", "1"])?;
-        for _ in 0..=MOST_FILES {
-            words.push(String::from_str(rt.alloc(), "a")?)?;
-        }
-        let answer = parse_words(rt.alloc(), &words);
-        assert!(rt; matches!(&answer, Err(ParseFault::TooManyFiles)));
-        Ok(())
     }
 }

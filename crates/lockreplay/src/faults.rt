@@ -65,26 +65,3 @@ impl From<RunFault> for ProgramFault {
         }
     }
 }
-
-#[cfg(test)]
-mod tests {
-    use super::ProgramFault::{self, File, Input, Memory, Output, TooManyFiles};
-    use std::test::Fail;
-
-    const FAULTS: [(ProgramFault, &str, u8); 5] = [
-        (Input, "lockreplay: cannot read standard input", 3),
-        (Output, "lockreplay: cannot write", 3),
-        (Memory, "lockreplay: out of memory", 3),
-        (TooManyFiles, "lockreplay: too many files", 2),
-        (File(2), "lockreplay: cannot read file 2", 3),
-    ];
-
-    #[test]
-    fn texts_and_statuses(rt: HostRuntime) -> Result<(), Fail> {
-        for (fault, text, status) in FAULTS {
-            let line = format!(in rt.alloc(); "{fault}")?;
-            assert!(rt; line.as_str() == text && fault.status() == status, "{text}");
-        }
-        Ok(())
-    }
-}
