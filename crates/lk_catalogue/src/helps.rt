@@ -5,7 +5,7 @@ use crate::{mcs, rw_fifo, rw_simple, ticket};
 use lk_locks::{LockKind, Phase, Refusal};
 
 /// The part of a step that differs from the algorithm's.
-#[derive(Clone, Copy, PartialEq, Eq, Debug)]
+#[derive(Clone, Copy)]
 pub enum Wrong {
     /// It is on another word.
     Word,

@@ -19,7 +19,7 @@ use std::thread::{Threads, map_vec};
 use std::{fs, io};
 
 /// A check that was asked for. A file `-` is standard input.
-#[derive(Debug, Drop)]
+#[derive(Drop)]
 pub struct CheckJob {
     pub format: Format,
     pub summary: bool,

@@ -20,14 +20,14 @@ use std::fmt::InlineText;
 use std::rt::Runtime;
 
 /// The form of what is written.
-#[derive(Clone, Copy, PartialEq, Eq, Debug)]
+#[derive(Clone, Copy)]
 pub enum CoverFormat {
     Text,
     Json,
 }
 
 /// Which traces are counted, and what they have to have.
-#[derive(Debug, Drop)]
+#[derive(Drop)]
 pub struct CoverJob {
     pub format: CoverFormat,
     /// Whether each kind is required of each lock of which there is a trace.

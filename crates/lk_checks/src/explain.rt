@@ -21,7 +21,7 @@ use std::io::Write;
 use std::rt::Runtime;
 
 /// The lines to explain, and the names of the threads.
-#[derive(Debug, Drop)]
+#[derive(Drop)]
 pub struct ExplainJob {
     /// A file `-` is standard input.
     pub file: String,

@@ -28,7 +28,7 @@ use std::rt::Files;
 
 /// The logs to put into one order, the folder for it, and the form of the report. For a folder `-`
 /// the trace alone is written, to the output, and all that is said goes to `errors`.
-#[derive(Debug, Drop)]
+#[derive(Drop)]
 pub struct OrderJob {
     pub format: Format,
     /// Whether nothing is said.

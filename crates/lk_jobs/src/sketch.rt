@@ -20,7 +20,7 @@ use std::rt::Runtime;
 use thiserror::Error;
 
 /// Where a sketch is.
-#[derive(Debug, Drop)]
+#[derive(Drop)]
 pub enum Place {
     /// The name of a file. `-` is standard input.
     File(String),

@@ -27,7 +27,7 @@ use std::alloc::{AllocError, Global};
 use ticket::Tickets;
 
 /// When a step is proposed.
-#[derive(Clone, Copy, PartialEq, Eq)]
+#[derive(Clone, Copy)]
 enum Round {
     Look,
     Change,

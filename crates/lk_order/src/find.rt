@@ -14,7 +14,7 @@ use lk_trace::Difference;
 use std::alloc::{AllocError, Global};
 
 /// A step that cannot be placed: line `at` of the thread's log, counted from 0.
-#[derive(Clone, Copy, PartialEq, Eq, Debug)]
+#[derive(Clone, Copy)]
 pub struct Stuck {
     pub thread: u8,
     pub at: usize,
@@ -24,7 +24,7 @@ pub struct Stuck {
 }
 
 /// The end of an order.
-#[derive(Clone, Copy, PartialEq, Eq, Debug)]
+#[derive(Clone, Copy)]
 pub enum Ending {
     /// All lines of all logs are placed, and no log was cut short.
     Whole,

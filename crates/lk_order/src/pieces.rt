@@ -13,7 +13,7 @@ use std::marker::Model;
 pub const MOST_MOVES: usize = 65_536;
 
 /// Moves of an order, one after the other: so many from the move `first` on, counted from 0.
-#[derive(Clone, Copy, PartialEq, Eq, Debug)]
+#[derive(Clone, Copy)]
 pub struct Piece {
     pub first: usize,
     pub moves: usize,

@@ -3,7 +3,7 @@
 use lk_locks::{Move, Outcome, Phase, Refusal, StepKind};
 
 /// A word that a move touched, with its value before and after.
-#[derive(Clone, Copy, PartialEq, Eq, Debug)]
+#[derive(Clone, Copy)]
 pub struct Touch {
     pub word: u8,
     pub found: u64,
@@ -11,7 +11,7 @@ pub struct Touch {
 }
 
 /// Whether a thread holds the lock, is in its queue, and holds it as a writer.
-#[derive(Clone, Copy, PartialEq, Eq, Debug)]
+#[derive(Clone, Copy)]
 pub struct Standing {
     pub holds: bool,
     pub is_queued: bool,
@@ -19,7 +19,7 @@ pub struct Standing {
 }
 
 /// A move that was made.
-#[derive(Clone, Copy, PartialEq, Eq, Debug)]
+#[derive(Clone, Copy)]
 pub struct Record {
     pub line: u32,
     pub thread: u8,
@@ -42,7 +42,7 @@ pub struct Record {
 }
 
 /// The number of moves that were made, and the line and reason of the refused one, if one was.
-#[derive(Clone, Copy, PartialEq, Eq, Debug)]
+#[derive(Clone, Copy)]
 pub struct Stopped {
     pub count: u32,
     pub refused: Option<(u32, Refusal)>,

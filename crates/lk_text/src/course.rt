@@ -14,7 +14,7 @@ use lk_trace::{Event, Made, TraceLine};
 use std::marker::Model;
 
 /// How far a thread of a run has come.
-#[derive(Clone, Copy, PartialEq, Eq, Debug)]
+#[derive(Clone, Copy)]
 pub enum Fate {
     /// It has made no move, or its last one was no failed poll.
     Moved,

@@ -6,7 +6,7 @@ use crate::report::{Datum, Details, Ending, Notes, Report};
 use crate::{Text, Value, json, put_point};
 
 /// The form of reports.
-#[derive(Clone, Copy, PartialEq, Eq, Debug)]
+#[derive(Clone, Copy)]
 pub enum Format {
     Text,
     Tap,

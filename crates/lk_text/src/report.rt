@@ -13,7 +13,7 @@ use std::alloc::{AllocError, Global};
 use std::fmt::InlineText;
 
 /// How an input ended, by the statuses of the program: the greatest wins.
-#[derive(Clone, Copy, PartialEq, Eq, Debug)]
+#[derive(Clone, Copy)]
 pub enum Ending {
     /// The text is an accepted trace.
     Accepted,

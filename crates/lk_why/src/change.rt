@@ -30,7 +30,7 @@ pub enum PhaseName {
 }
 
 /// The words that a step leaves as they were, though it would write them.
-#[derive(Clone, Copy, PartialEq, Eq, Debug)]
+#[derive(Clone, Copy)]
 pub enum Written {
     All,
     /// The flag of a read-write lock.
@@ -40,7 +40,7 @@ pub enum Written {
 }
 
 /// The value that a test finds, whatever is there.
-#[derive(Clone, Copy, PartialEq, Eq, Debug)]
+#[derive(Clone, Copy)]
 pub enum Found {
     /// The word of the step is 0: nil, or granted.
     Zero,
@@ -53,7 +53,7 @@ pub enum Found {
 }
 
 /// The kind of a change.
-#[derive(Clone, Copy, PartialEq, Eq, Debug)]
+#[derive(Clone, Copy)]
 pub enum How {
     /// These words are not written. What the step finds, it finds as ever.
     LeaveOut(Written),
@@ -70,7 +70,7 @@ pub enum How {
 }
 
 /// A change of one step of a lock.
-#[derive(Clone, Copy, PartialEq, Eq, Debug)]
+#[derive(Clone, Copy)]
 pub struct Change {
     /// The phase from which the step is taken.
     pub step: PhaseName,

@@ -13,7 +13,7 @@ use std::alloc::{AllocError, Global};
 const NONE: u32 = u32::MAX;
 
 /// The end of a chain, as far as it is known.
-#[derive(Clone, Copy, PartialEq, Eq)]
+#[derive(Clone, Copy)]
 pub enum End {
     /// A compare-and-swap wrote.
     Seen,

@@ -6,7 +6,7 @@ use lk_trace::{Seen, TraceLine, WordName};
 use std::alloc::{AllocError, Global};
 
 /// A neighbor in the queue, as far as it is known.
-#[derive(Clone, Copy, Default, PartialEq, Eq, Debug)]
+#[derive(Clone, Copy, Default, PartialEq, Eq)]
 pub enum Neighbor {
     #[default]
     Unknown,
