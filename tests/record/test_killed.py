@@ -1,6 +1,7 @@
-"""Threads that run as they like, and whose processes are killed: their logs, made of their notes.
+"""Threads that run as they like, and whose processes are killed: their logs.
 
-The lock of endings.c is right, and is built with what its thread 1 does in its fourth round.
+In C they are made of the run's notes. The lock of endings.c is right, and is built with what its
+thread 1 does in its fourth round. In Rust they are written while the run goes on.
 """
 import os
 import re
@@ -11,7 +12,7 @@ from pathlib import Path
 import pytest
 
 from recorders import WARNINGS
-from tree import PIPE, ran
+from tree import PIPE, TOP, environment, ran
 
 from test_modes import HERE
 
@@ -172,3 +173,98 @@ def test_in_memory(build, tmp_path):
     done = ran(program, 3, 400, 1, logs)
     assert (done.stderr, done.returncode) == ("", 0)
     assert len(list(logs.iterdir())) == 3
+
+
+RUST = """
+use std::{env, process, sync::atomic::Ordering::SeqCst, thread, time::Duration};
+
+use lockreplay_record::{call, AtomicU8, Call, Error, Lock, Run, Word};
+
+fn main() -> Result<(), Error> {
+    let words: Vec<String> = env::args().collect();
+    let next = AtomicU8::new(0).noted(Word::NextTicket);
+    let serving = AtomicU8::new(0).noted(Word::NowServing);
+    let acquire = || {
+        let _call = call(Call::Acquire);
+        let ticket = next.fetch_add(1, SeqCst);
+        while serving.load(SeqCst) != ticket {
+            thread::yield_now();
+        }
+    };
+    let release = || {
+        let _call = call(Call::Release);
+        let served = serving.load(SeqCst);
+        serving.store(served.wrapping_add(1), SeqCst);
+    };
+    let rounds: usize = words[2].parse().unwrap();
+    let run = Run::of(Lock::Ticket, 2).bits(8).kept_in(&words[1]).open()?;
+    run.threads(Duration::from_secs(60), |log| {
+        for round in 0..rounds {
+            acquire();
+            release();
+            if log.thread() == 1 && round == 12 {
+                match words[3].as_str() {
+                    "abort" => process::abort(),
+                    "loop" => println!("going"),
+                    _ => {}
+                }
+            }
+        }
+    })?;
+    Ok(())
+}
+"""
+
+
+@pytest.fixture(scope="module")
+def keeper(tmp_path_factory):
+    """A ticket lock in Rust whose logs are kept in a folder: FOLDER ROUNDS HOW."""
+    folder = tmp_path_factory.mktemp("keeper")
+    (folder / "src").mkdir()
+    (folder / "src" / "main.rs").write_text(RUST)
+    (folder / "Cargo.toml").write_text(
+        '[package]\nname = "keeper"\nversion = "0.1.0"\nedition = "2021"\n\n[dependencies]\n'
+        f'lockreplay-record = {{ path = "{TOP / "record/rust"}" }}\n')
+    made = ran("/usr/bin/cargo", "build", "--offline", cwd=folder, timeout=600, env=environment(
+        PATH="/usr/bin:/bin", RUSTC="/usr/bin/rustc", CARGO_HOME=str(folder / "cargo")))
+    assert made.returncode == 0, made.stderr
+    return folder / "target" / "debug" / "keeper"
+
+
+@pytest.mark.xdist_group("cargo")
+@pytest.mark.parametrize("how, sign", [("abort", signal.SIGABRT), ("loop", signal.SIGKILL)])
+def test_killed_in_rust(keeper, ordered, tmp_path, how, sign):
+    logs = tmp_path / "logs"
+    logs.mkdir()
+    for name in ("thread-1.log", "thread-5.log", "run.trace"):
+        (logs / name).write_text("of an earlier run\n")
+    process = subprocess.Popen([keeper, logs, "1000000000", how], stdout=PIPE, stderr=PIPE,
+                               text=True)
+    if how == "loop":
+        assert process.stdout.readline() == "going\n"
+        process.kill()
+    process.communicate()
+    assert process.returncode == -sign
+    assert len(ordered(logs)[1]) >= 13 * 6
+    assert "dropped" not in (logs / "thread-1.log").read_text()
+
+
+@pytest.mark.xdist_group("cargo")
+def test_kept_to_the_end_in_rust(keeper, ordered, tmp_path):
+    """Nothing else is saved, and the logs are whole."""
+    done = ran(keeper, tmp_path / "logs", "20", "end")
+    assert (done.stderr, done.returncode) == ("", 0)
+    assert [len(moves) >= 20 * 6 for moves in ordered(tmp_path / "logs")] == [True, True]
+    for thread in range(THREADS):
+        assert (tmp_path / "logs" / f"thread-{thread}.log").read_text().endswith("\ndropped 0\n")
+
+
+@pytest.mark.xdist_group("cargo")
+def test_no_room_in_rust(keeper, tmp_path):
+    """A log that cannot be written any more is said once, and the run goes on."""
+    logs = tmp_path / "logs"
+    done = ran("sh", "-c", f"trap '' XFSZ; ulimit -f 1; exec {keeper} {logs} 200 end")
+    fault = r"lockreplay_record: .*/thread-%d\.log: File too large \(os error 27\)\n"
+    assert re.fullmatch("".join(sorted(fault % thread for thread in range(THREADS))),
+                        "".join(sorted(done.stderr.splitlines(keepends=True))))
+    assert done.returncode == 0

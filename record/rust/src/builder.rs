@@ -1,6 +1,7 @@
 //! What is asked of a run before it is opened, and how it is opened.
 // SPDX-License-Identifier: Apache-2.0 OR MIT
 
+use std::path::PathBuf;
 use std::sync::{Arc, Mutex};
 
 use crate::chooser::Chooser;
@@ -15,6 +16,7 @@ use crate::path::{Path, Way};
 use crate::priorities::Priorities;
 use crate::records::Records;
 use crate::run::{Run, Shared};
+use crate::save;
 use crate::tape::{Tape, POLLS_WRITTEN};
 use crate::turns::{Rule, Turns};
 use crate::wakes::Wakes;
@@ -28,11 +30,13 @@ pub struct RunBuilder {
     room: usize,
     spurious: Option<usize>,
     start: u64,
+    folder: Option<PathBuf>,
 }
 
 impl RunBuilder {
     pub(crate) fn of(header: Header) -> RunBuilder {
-        RunBuilder { header, mode: Mode::Free, room: 1 << 16, spurious: None, start: 0 }
+        let (mode, room, spurious, start, folder) = (Mode::Free, 1 << 16, None, 0, None);
+        RunBuilder { header, mode, room, spurious, start, folder }
     }
 
     /// How the threads are scheduled; [`Mode::Free`] if this is not said.
@@ -67,12 +71,21 @@ impl RunBuilder {
         RunBuilder { spurious: Some(one_in), ..self }
     }
 
+    /// A folder in which the log of each thread has its moves as soon as they are made, so that an
+    /// abort or `kill -9` leaves the logs, for `locktrace order`, up to their last moves. Each move
+    /// takes a write of the system, about a microsecond. If this is not said, the logs are in
+    /// memory until [`Run::save`].
+    pub fn kept_in(self, folder: impl Into<PathBuf>) -> RunBuilder {
+        RunBuilder { folder: Some(folder.into()), ..self }
+    }
+
     /// Opens the run, with memory for all of its logs.
     ///
     /// # Errors
     ///
     /// The threads or the bits are such as no run has, the schedule that is to be followed is of
-    /// another lock, the mode has no seed for [wakes](RunBuilder::spurious), or memory was refused.
+    /// another lock, the mode has no seed for [wakes](RunBuilder::spurious), memory was refused, or
+    /// a log cannot be [kept](RunBuilder::kept_in).
     pub fn open(self) -> Result<Run, Error> {
         let (rule, chooser) = match &self.mode {
             Mode::Free | Mode::Noise(_) => (Rule::AtOnce, Chooser::Seed(Draw::new(0))),
@@ -132,7 +145,7 @@ impl RunBuilder {
     }
 
     fn open_by(self, rule: Rule, chooser: Chooser, number: u64) -> Result<Run, Error> {
-        let RunBuilder { header, mode, room, spurious, start } = self;
+        let RunBuilder { header, mode, room, spurious, start, folder } = self;
         let Header { threads, .. } = header.checked()?;
         let refused = |_| Error::OutOfMemory { logs: threads, room };
         let polls = if rule == Rule::ByLines { u32::MAX } else { POLLS_WRITTEN };
@@ -143,6 +156,10 @@ impl RunBuilder {
         let tapes: Result<Vec<_>, _> = (0..threads).map(new_tape).collect();
         let tapes = tapes.map_err(refused)?;
         let records = Records::of(threads);
-        Ok(Run(Arc::new(Shared { number, header, mode, spurious, start, turns, records, tapes })))
+        let run = Shared { number, header, mode, spurious, start, turns, records, tapes };
+        if let Some(folder) = folder {
+            save::begin(&run, &folder)?;
+        }
+        Ok(Run(Arc::new(run)))
     }
 }

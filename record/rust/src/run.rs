@@ -293,7 +293,9 @@ impl Drop for Log {
         let ended = self.has_begun && !thread::panicking();
         let own = current::remove().zip(self.shared.tape(self.thread));
         if let Some((Recorder { mut tape, .. }, mut place)) = own {
-            tape.ended = ended;
+            if ended {
+                tape.end();
+            }
             *place = Some(tape);
         }
         self.shared.turns.leave(self.thread, ended);

@@ -16,15 +16,44 @@ fn name_of_log(thread: usize) -> String {
     format!("thread-{thread}.log")
 }
 
-/// Writes the files of a run, and removes those that an earlier one left.
-pub(crate) fn save(run: &Shared, folder: &Path) -> Result<(), Error> {
-    let threads = run.header.threads;
-    let refused = |path: &Path, error| Error::Save { path: path.to_owned(), error };
+fn refused(path: &Path, error: io::Error) -> Error {
+    Error::Save { path: path.to_owned(), error }
+}
+
+/// Makes the folder, and removes what an earlier run left there and this one will not write.
+fn clear(folder: &Path, threads: usize) -> Result<(), Error> {
     fs::create_dir_all(folder).map_err(|error| refused(folder, error))?;
     let stale = (threads..MOST_THREADS).map(name_of_log).chain([TRACE.to_owned()]);
     for path in stale.map(|name| folder.join(name)) {
         remove(&path).map_err(|error| refused(&path, error))?;
     }
+    Ok(())
+}
+
+/// Begins the log of each thread in a folder, where its tape goes on with it.
+pub(crate) fn begin(run: &Shared, folder: &Path) -> Result<(), Error> {
+    clear(folder, run.header.threads)?;
+    for thread in 0..run.header.threads {
+        let path = folder.join(name_of_log(thread));
+        let begun = File::create(&path).and_then(|mut file| {
+            let mut text = Vec::new();
+            write_header(run, &mut text)?;
+            writeln!(text, " thread {thread}")?;
+            file.write_all(&text)?;
+            Ok(file)
+        });
+        let file = begun.map_err(|error| refused(&path, error))?;
+        if let Some(tape) = run.tape(thread).as_deref_mut().and_then(Option::as_mut) {
+            tape.keep_in(path, file);
+        }
+    }
+    Ok(())
+}
+
+/// Writes the files of a run, and removes those that an earlier one left.
+pub(crate) fn save(run: &Shared, folder: &Path) -> Result<(), Error> {
+    let threads = run.header.threads;
+    clear(folder, threads)?;
     for thread in 0..threads {
         let path = folder.join(name_of_log(thread));
         write_file(&path, |out| write_log(run, thread, out))
@@ -92,7 +121,7 @@ fn write_log(run: &Shared, thread: usize, out: &mut impl Write) -> io::Result<()
     let place = run.tape(thread);
     if let Some(tape) = place.as_deref().and_then(Option::as_ref) {
         tape.moves().iter().try_for_each(|made| writeln!(out, "{made}"))?;
-        if tape.ended {
+        if tape.has_ended() {
             writeln!(out, "dropped {}", tape.dropped())?;
         } else if tape.dropped() == 0 && !run.mode.has_order() {
             writeln!(out, "# thread {thread} has not ended")?;

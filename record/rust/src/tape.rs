@@ -1,7 +1,10 @@
 //! The log of one thread in memory, and where in the source each of its moves was made.
 // SPDX-License-Identifier: Apache-2.0 OR MIT
 
+use std::fs::File;
+use std::io::Write;
 use std::panic::Location;
+use std::path::PathBuf;
 
 use crate::error::Error;
 use crate::moves::Move;
@@ -23,8 +26,10 @@ pub(crate) struct Tape {
     last: Option<Move>,
     polls: u32,
     polls_written: u32,
+    /// The file that has the log as well, move by move.
+    kept: Option<(PathBuf, File)>,
     /// Whether the thread came to its end.
-    pub(crate) ended: bool,
+    ended: bool,
 }
 
 /// What became of a move.
@@ -45,8 +50,36 @@ impl Tape {
     pub(crate) fn with_room(room: usize, polls_written: u32) -> Result<Tape, Error> {
         let moves = touched(room, Move::Call(crate::moves::Call::Acquire))?;
         let sources = touched(room, Location::caller())?;
-        let (last, dropped, polls, ended) = (None, 0, 0, false);
-        Ok(Tape { moves, sources, room, dropped, last, polls, polls_written, ended })
+        let (last, dropped, polls, kept, ended) = (None, 0, 0, None, false);
+        Ok(Tape { moves, sources, room, dropped, last, polls, polls_written, kept, ended })
+    }
+
+    /// Has each further line written to this file too.
+    pub(crate) fn keep_in(&mut self, path: PathBuf, file: File) {
+        self.kept = Some((path, file));
+    }
+
+    /// A line is one write: whenever the process is killed, the file has whole lines.
+    fn keep(&mut self, line: impl FnOnce() -> String) {
+        let written = match &mut self.kept {
+            Some((path, file)) => file.write_all(line().as_bytes()).map_err(|error| (path, error)),
+            None => Ok(()),
+        };
+        if let Err((path, error)) = written {
+            eprintln!("lockreplay_record: {}: {error}", path.display());
+            self.kept = None;
+        }
+    }
+
+    /// The thread came to its end.
+    pub(crate) fn end(&mut self) {
+        self.ended = true;
+        let dropped = self.dropped;
+        self.keep(|| format!("dropped {dropped}\n"));
+    }
+
+    pub(crate) fn has_ended(&self) -> bool {
+        self.ended
     }
 
     pub(crate) fn add(&mut self, made: Move, source: Source) -> Added {
@@ -63,6 +96,7 @@ impl Tape {
         }
         self.moves.push(made);
         self.sources.push(source);
+        self.keep(|| format!("{made}\n"));
         if repeats {
             Added::Repeated
         } else {
