@@ -6,7 +6,10 @@
 import assert from 'node:assert/strict';
 import { animated } from '../../page/src/lib/animated_png.js';
 import { lastUpTo, placeAfter } from '../../page/src/lib/ascending.js';
-import { beforeLine, lineOf, linesIn, withoutLines } from '../../page/src/lib/bytes.js';
+import {
+  beforeLine, beginsWith, bytesOf, fromLink, lettersOf, lineOf, linesIn, sameBytes, toBase64, toLink,
+  withoutLines,
+} from '../../page/src/lib/bytes.js';
 import { folding } from '../../page/src/lib/folding.js';
 import { html } from '../../page/src/lib/markup.js';
 import { nearestWord } from '../../page/src/lib/nearest_word.js';
@@ -92,3 +95,29 @@ const frame = (number, high, low) => [0, 0, 0, number, 0, 0, 0, 9, 0, 0, 0, 5, .
 assert.deepEqual([2, 4, 6].map((at) => moving[at].data),
   [frame(0, 4, 176), frame(1, 4, 176), frame(3, 11, 184)]);
 assert.deepEqual([3, 5, 7].map((at) => moving[at].data), [[1], [0, 0, 0, 2, 2], [0, 0, 0, 4, 3]]);
+
+// A text that is no UTF-8 is shown byte by byte, however long it is, and goes back to its bytes. A
+// letter that is no byte makes it UTF-8.
+const odd = Uint8Array.from([108, 255, 10]);
+assert.deepEqual(lettersOf(odd), { letters: 'l\xff\n', plain: true });
+assert.deepEqual(bytesOf('l\xff\n', true), odd);
+assert.deepEqual(lettersOf(bytes('\ufeffü\n')), { letters: '\ufeffü\n', plain: false });
+assert.deepEqual(bytesOf('ü'), bytes('ü'));
+assert.deepEqual(bytesOf('l\u0416', true), bytes('l\u0416'));
+const long = Uint8Array.from({ length: 20000 }, (_, at) => at % 256);
+assert.deepEqual(bytesOf(lettersOf(long).letters, true), long);
+
+// A link has letters that need no escape, and is read in either alphabet.
+assert.deepEqual([toBase64(Uint8Array.from([251, 255])), toLink(Uint8Array.from([251, 255]))],
+  ['+/8=', '-_8']);
+assert.deepEqual([fromLink('-_8'), fromLink('+/8=')],
+  [Uint8Array.from([251, 255]), Uint8Array.from([251, 255])]);
+assert.deepEqual(fromLink(toLink(long)), long);
+
+// A text begins with another one of whole lines.
+const LINES = bytes('ab\ncd\n');
+assert.deepEqual(['', 'ab', 'ab\n', 'ab\nc', 'ab\ncd', 'ab\ncd\n', 'b', 'ab\ncd\ne']
+  .map((text) => beginsWith(LINES, bytes(text))),
+[false, true, true, false, true, true, false, false]);
+assert.deepEqual(['ab\ncd\n', 'ab\ncd', 'ab\nce\n'].map((text) => sameBytes(LINES, bytes(text))),
+  [true, false, false]);

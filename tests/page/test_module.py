@@ -4,7 +4,8 @@ import pytest
 from tree import TESTS, ran
 
 
-@pytest.mark.parametrize("script", ["module", "bytes", "moments", "known", "lib", "model"])
+@pytest.mark.parametrize("script", ["module", "bytes", "moments", "known", "lib", "model",
+                                    "session"])
 def test_in_node(module, script):
     done = ran("node", TESTS / "page" / f"{script}.mjs", module)
     assert done.returncode == 0, done.stderr

@@ -136,7 +136,7 @@ const english = {
     call: 'called', vain: 'waits: failed poll', enters: 'entered', leaves: 'left',
     fails: 'cas fails', inCall: 'in a call', queue: 'in the queue', holds: 'holds',
     reads: 'reads', writes: 'writes', unlinked: 'in the queue, not linked',
-    moves: 'the call goes on', blank: 'to fill in',
+    moves: 'moved: the call goes on', blank: 'to fill in',
     ended: 'the write that ended a wait',
   },
   marks: {

@@ -16,6 +16,7 @@ const bar = (kind, fill) => html`<rect class="span ${kind}" x=".5" y="1" width="
 
 const SHAPES = {
   call: html`<rect class="call-mark" x="8" y="1" width="5" height="16" rx="2"/>`,
+  moves: html`<circle class="step" cx="10" cy="9" r="7"/>`,
   vain: html`<circle class="step waits" cx="10" cy="9" r="7"/>`,
   enters: html`<path class="step" d="M4 1.5L18 9L4 16.5z"/>`,
   leaves: html`<rect class="step" x="3" y="2" width="14" height="14" rx="2"/>`,
@@ -33,13 +34,12 @@ const STRETCHES = {
 };
 
 const BLANK = html`<rect class="step blank" x="2" y="1" width="18" height="16" rx="3"/>`;
-const MOVES_ON = html`<circle class="step" cx="10" cy="9" r="7"/>`;
 
-const COMMON = ['call', 'vain', 'enters', 'leaves'];
+const COMMON = ['call', 'moves', 'vain', 'enters', 'leaves'];
 
 // Of a sheet that is to be filled in: what there is, and what to draw.
-export const blankLegend = () => html`${sign(24, BLANK, T.blank)}${['call', 'vain', 'enters',
-  'leaves'].map((name) => sign(20, SHAPES[name], T[name]))}${sign(20, MOVES_ON, T.moves)}`;
+export const blankLegend = () => html`${sign(24, BLANK, T.blank)}${
+  COMMON.map((name) => sign(20, SHAPES[name], T[name]))}`;
 
 // {drawn, label, width} of each sign.
 /** @param {Run} run */
@@ -66,6 +66,6 @@ const OTHERS = {
   fails: html`<path class="tick fails" d="M10 5l8 8m0 -8l-8 8"/>`,
 };
 
-export const signList = () => html`${sign(32, MOVES_ON, T.moves)}${
+export const signList = () => html`${
   Object.entries({ ...SHAPES, ...STRETCHES }).map(([name, drawn]) => sign(32, drawn, T[name]))}${
   Object.entries(OTHERS).map(([name, drawn]) => sign(32, drawn, texts.signs[name]))}`;

@@ -1,0 +1,298 @@
+// What the page keeps of a schedule while one steps through it and edits it, in Node: places,
+// lines, remarks that hold, runs that are read off others, two runs beside each other, and how it
+// is asked to look. Each value was made by hand, from the schedule below and docs/FORMATS.md.
+//
+//     node tests/page/session.mjs MODULE.wasm
+
+import assert from 'node:assert/strict';
+import { readFileSync } from 'node:fs';
+import { LOCK_NAMES, PHASES } from '../../page/src/machine/codes.js';
+import { codeOf, linesOf, wordsOf } from '../../page/src/machine/locks_code.js';
+import { learnWords } from '../../page/src/machine/word_names.js';
+import { commonMoves, otherLock } from '../../page/src/model/compare_runs.js';
+import { firstOf, kindsOf, learnKinds } from '../../page/src/model/kinds.js';
+import {
+  isLooksAlone, looks, looksText, partsOf, partsShown, readLooks, toggleHall, togglePart,
+  withoutLooks,
+} from '../../page/src/model/looks.js';
+import { onOtherLock } from '../../page/src/model/other_lock.js';
+import { isAsked, isCovered, remarkOf, remarksOf } from '../../page/src/model/remarks.js';
+import { holdersText, lastLine, queueText } from '../../page/src/model/report.js';
+import { Run, runOf } from '../../page/src/model/run.js';
+import { headerLine, Session } from '../../page/src/model/session.js';
+import { unlinkedAfter } from '../../page/src/model/spans.js';
+import { LANGUAGES } from '../../page/src/texts/language.js';
+import { texts } from '../../page/src/texts/texts.js';
+import { kindsOf as moduleKinds } from '../../page/build/kinds.mjs';
+import { bytesOf, examples, machineOf, module } from './node.mjs';
+
+const document = readFileSync(new URL('../../docs/LOCKS.md', import.meta.url), 'utf8');
+const lines = linesOf(codeOf(document));
+learnWords(wordsOf(document));
+const machine = machineOf();
+learnKinds(moduleKinds(module));
+const letters = (bytes) => new TextDecoder().decode(bytes);
+const text = (...all) => bytesOf([...all, ''].join('\n'));
+const opened = (...all) => {
+  const session = new Session(machine, lines);
+  session.open(text(...all));
+  return session;
+};
+
+// Moves 1 to 6 are in lines 7, 8, 10, 12, 13 and 14. Thread 1 holds and has no call pending, so the
+// last line is refused.
+const TWO = [
+  '# Two threads of a ticket lock: the second one waits.',
+  '#! name 1 Ann',
+  '#! say 2 A ticket.',
+  '#! ask 3 hide sentence facts : Who holds?',
+  '#! answer 3 Ann does.',
+  'lock ticket threads 2',
+  '1 acquire',
+  '1 add',
+  '',
+  '1 read',
+  '# between',
+  '0 acquire',
+  '0 add',
+  '0 read',
+  '1 read',
+];
+
+// Places: 0 is before the first move, and one comes after the last for the move that is refused.
+const session = opened(...TWO);
+assert.deepEqual([session.move, session.place, session.refused], [0, 0, false]);
+assert.equal(session.line(), 6);
+const PLACES = [
+  [3, 3, 3, 10], [-1, 0, 0, 6], ['none', 0, 0, 6], [2.9, 2, 2, 8], [6, 6, 6, 14], [7, 7, 6, 14],
+  [99, 7, 6, 14],
+];
+for (const [asked, place, move, line] of PLACES) {
+  session.go(asked);
+  assert.deepEqual([session.place, session.move, session.line()], [place, move, line], `${asked}`);
+  assert.equal(session.refused, place === 7);
+}
+assert.deepEqual([5, 6, 7, 9, 10, 14, 15, 99].map((line) => session.moveAtLine(line)),
+  [0, 0, 1, 2, 3, 6, 7, 7]);
+const { run } = session;
+assert.deepEqual([run.count, run.last, run.known, run.hasLock, run.fault], [6, 7, true, true, null]);
+assert.deepEqual(run.refusal, { name: 'NoCall', line: 15, wanted: 0, thread: 1, word: 'read' });
+assert.equal(lastLine(run), 'refused line 15 NoCall');
+assert.deepEqual([8, 9, 10].map((line) => run.movesThrough(line)), [2, 2, 3]);
+assert.deepEqual([[1, 6], [0, 6], [0, 3], [1, 2]].map(([thread, move]) => (
+  run.lastMoveOf(thread, move))), [3, 6, 0, 2]);
+
+// A run without a refusal ends at its last move, and its lines beyond that are the last move's.
+const accepted = opened(...TWO.slice(0, -1));
+accepted.go(99);
+assert.deepEqual([accepted.place, accepted.move, accepted.refused, accepted.run.refusal],
+  [6, 6, false, null]);
+assert.equal(accepted.moveAtLine(99), 6);
+
+// The header is the first line that is neither empty nor a comment.
+assert.equal(headerLine(text('', '# lock', '', 'lock mcs threads 1')), 4);
+assert.equal(headerLine(text('lock mcs threads 1')), 1);
+assert.equal(headerLine(text('# nothing else')), 0);
+
+// The text up to the move that is shown, with one more.
+session.go(2);
+assert.deepEqual(session.textWith('0 acquire'),
+  { letters: `${TWO.slice(0, 8).join('\n')}\n0 acquire\n`, plain: false });
+session.go(0);
+assert.equal(session.textWith('0 acquire').letters,
+  `${TWO.slice(0, 6).join('\n')}\n0 acquire\n`);
+
+// The words of the move are marked; of a refused one those of its thread's last; of a question that
+// hides what the move did none, until its answer is shown.
+const marked = (wishes, place) => session.view(wishes, place).marked;
+assert.deepEqual([marked({}, 5), marked({}, 7), marked({}, 3), marked({ answered: true }, 3),
+  marked({ whole: true }, 3), marked({}, 0)], [5, 3, 0, 3, 3, 0]);
+const question = session.view({}, 3);
+assert.deepEqual(['sentence', 'facts', 'memory', 'standing'].map((part) => (
+  isCovered(question, part))), [true, true, false, false]);
+assert.deepEqual([2, 3, 4, 7].map((place) => isAsked(session.view({}, place))),
+  [false, true, false, false]);
+assert.equal(isCovered(session.view({ answered: true }, 3), 'facts'), false);
+
+// Who holds and who waits after each move, as the report has it, and in which phase it found its
+// thread.
+const standing = (move) => {
+  const state = run.state(move);
+  return `${holdersText(state)} ${queueText(state)}`;
+};
+assert.deepEqual([0, 1, 2, 3, 4, 5, 6].map(standing),
+  ['- -', '- -', '- 1', '1 1', '1 1', '1 1,0', '1 1,0']);
+assert.deepEqual([1, 2, 3, 4, 5, 6].map((move) => PHASES[run.phaseBefore(move)]),
+  ['Idle', 'TakeTicket', 'AwaitTurn', 'Idle', 'TakeTicket', 'AwaitTurn']);
+assert.deepEqual([0, 2, 5].map((move) => Number(run.state(move).word(0))), [0, 1, 2]);
+assert.deepEqual([0, 1].map((thread) => PHASES[run.state(4).phase(thread)]),
+  ['TakeTicket', 'TicketInside']);
+
+// Remarks: the first sentence of the first comment is the title, all plain comments are the story.
+const { remarks, names } = session;
+assert.deepEqual([remarks.title, remarks.learn, remarks.about],
+  ['Two threads of a ticket lock', '', 'Two threads of a ticket lock: the second one waits. between']);
+assert.deepEqual([names.of(1), names.of(0)], ['Ann', 'thread 0']);
+const SAID = remarksOf(text(
+  '#! title A title. Not cut: here', '#! learn One', '#! learn thing.', '# Story. More',
+  '#! say 4 First', '#! say 4 second.', '#! ask 4 hide memory nothing : Why?', '#! ask 5 What?',
+  '#! say 00 no number', '#! unknown', '#! say 100000 too large'));
+assert.deepEqual([SAID.title, SAID.learn, SAID.about],
+  ['A title. Not cut: here', 'One thing.', 'Story. More']);
+assert.deepEqual([[...SAID.say], [...SAID.ask], [...SAID.hide]], [
+  [[4, 'First second.']], [[4, 'hide memory nothing : Why?'], [5, 'What?']], []]);
+assert.equal(remarksOf(text('## Title without an end')).title, 'Title without an end');
+assert.equal(remarksOf(text('lock mcs threads 1')).title, '');
+assert.deepEqual(remarkOf('#! answer 99999 Yes'), { what: 'answer', number: 99999, text: 'Yes' });
+assert.deepEqual([remarkOf('#! answer 3'), remarkOf('# say 3 no')], [null, null]);
+// A question that does not say what it hides hides memory; one without an answer hides nothing.
+const view = (...comments) => opened(...comments, ...TWO.slice(5)).view({}, 2);
+assert.equal(isCovered(view('#! ask 2 What?', '#! answer 2 This.'), 'memory'), true);
+assert.equal(isCovered(view('#! ask 2 What?', '#! answer 2 This.'), 'facts'), false);
+assert.equal(isCovered(view('#! ask 2 What?'), 'memory'), false);
+
+// In a text that was made from this one a remark holds while the moves before it are the same; the
+// story belongs to all moves, and a name to none.
+const stale = (...all) => {
+  const edited = opened(...TWO);
+  edited.derive(text(...all), null, 0);
+  return edited;
+};
+assert.deepEqual(stale(...TWO, '0 read').stale, []);
+assert.deepEqual(stale(...TWO.slice(0, 13)).stale, [1]);
+assert.deepEqual(stale(...TWO.slice(0, 9), '0 acquire', ...TWO.slice(10)).stale, [1, 4, 5]);
+assert.deepEqual(stale(...TWO.slice(0, 7), '0 acquire', ...TWO.slice(7)).stale, [1, 3, 4, 5]);
+assert.deepEqual(stale(...TWO.slice(0, 5), 'lock ticket threads 3', ...TWO.slice(6)).stale,
+  [1, 3, 4, 5]);
+const edited = stale(...TWO.slice(0, 9), '0 acquire', ...TWO.slice(10));
+assert.deepEqual([edited.remarks.title, edited.remarks.ask.size, edited.remarks.say.get(2)],
+  ['between', 0, 'A ticket.']);
+const before = { ...edited.shown };
+edited.leaveOutStale();
+assert.equal(letters(edited.run.text).split('\n').slice(0, 3).join('\n'),
+  '#! name 1 Ann\n#! say 2 A ticket.\nlock ticket threads 2');
+assert.deepEqual([edited.stale, edited.run.records.line(1), edited.run.count], [[], 4, 3]);
+edited.restore(before);
+assert.deepEqual(edited.stale, [1, 4, 5]);
+edited.keepRemarks();
+assert.deepEqual([edited.stale, edited.remarks.ask.get(3)], [[], 'Who holds?']);
+assert.equal(edited.twin().machine, machine);
+
+// What is known of a run is not played again: the same text, and the beginning of one. A run of no
+// move, and a refused one, are played.
+let plays = 0;
+const counting = { play: (...words) => { plays += 1; return machine.play(...words); } };
+const known = new Run(counting, text(...TWO));
+assert.equal(runOf(counting, text(...TWO), [known]), known);
+const PREFIXES = [[10, 3, 0], [8, 2, 0], [6, 0, 1], [15, 6, 1]];
+for (const [count, moves, played] of PREFIXES) {
+  const made = text(...TWO.slice(0, count), ...(count === 15 ? ['# more'] : []));
+  assert.equal(known.begun.played, 0);
+  plays = 0;
+  assert.equal(runOf(counting, made, [known]).count, moves);
+  assert.equal(plays, played, `${count}`);
+}
+
+// How many moves two runs begin with: only of one lock, with as many threads and bits.
+const HEADER = 'lock ticket threads 2 bits 8';
+const of = (...all) => new Run(machine, text(...all));
+assert.equal(commonMoves(of(HEADER, '0 acquire', '0 add'), of(HEADER, '0 acquire', '0 add')), 2);
+assert.equal(commonMoves(of(HEADER, '0 acquire', '0 add'), of(HEADER, '0 acquire')), 1);
+assert.equal(commonMoves(of(HEADER, '0 acquire', '0 add'), of(HEADER, '0 acquire', '1 acquire')), 1);
+assert.equal(commonMoves(of(HEADER, '0 acquire'), of(HEADER, '1 acquire')), 0);
+for (const other of ['lock ticket threads 3 bits 8', 'lock ticket threads 2', 'lock mcs threads 2']) {
+  assert.equal(commonMoves(of(HEADER, '0 acquire'), of(other, '0 acquire')), 0, other);
+}
+
+// The same calls on the other read-write lock: a writer announces itself there, and a turn in which
+// nothing can be done there is left out.
+const SIMPLE = ['0 rlock', '0 section', '1 wlock', '1 section', '0 runlock', '0 section',
+  '1 section'];
+const beside = onOtherLock(machine, of('lock rw-simple threads 2 bits 8', ...SIMPLE));
+assert.equal(letters(beside.run.text),
+  ['lock rw-fifo threads 2 bits 8', ...SIMPLE, ''].join('\n'));
+assert.deepEqual(beside.at, [0, 1, 2, 3, 4, 5, 6, 7]);
+const LATE = ['0 wlock', '0 section', '1 rlock', '1 section', '0 wunlock', '0 section', '1 section'];
+const back = onOtherLock(machine, of('lock rw-fifo threads 2 bits 8', ...LATE, '1 runlock'));
+assert.equal(letters(back.run.text),
+  ['lock rw-simple threads 2 bits 8', ...LATE, '1 runlock', ''].join('\n'));
+assert.deepEqual([otherLock(of('lock rw-simple threads 1')), otherLock(of(HEADER))],
+  ['rw-fifo', undefined]);
+
+// The first move of a kind, and 0 if there is none; a record that is in the queue and not linked.
+const kindNamed = (name) => kindsOf('ticket').find((one) => one.name === name);
+assert.deepEqual([firstOf(run, kindNamed('acquire: took a ticket')),
+  firstOf(run, kindNamed('release: served the next ticket'))], [2, 0]);
+assert.deepEqual(kindsOf('ticket').map((kind) => firstOf(run, kind)).filter(Boolean).length, 4);
+const late = of('lock mcs threads 2', '0 acquire', '0 write', '0 swap', '1 acquire', '1 write',
+  '1 swap', '1 write', '1 write');
+assert.deepEqual([0, 3, 5, 6, 7, 8].map((move) => unlinkedAfter(late, move)),
+  [false, false, false, true, true, false]);
+
+// How the page is asked to look, in the order of its parts; a hall has two of them.
+readLooks('#text=x&hall&show=now,code,time&theme=dark&sheet=worked');
+assert.deepEqual(looks, {
+  hall: true, embed: false, parts: ['time', 'code'], future: false, theme: 'dark', sheet: 'worked',
+});
+assert.equal(looksText(), '&hall&show=time,code&theme=dark');
+togglePart('now');
+assert.deepEqual(partsShown(), ['code', 'now']);
+toggleHall();
+assert.deepEqual([looks.hall, looks.parts, partsShown()],
+  [false, null, ['time', 'memory', 'code', 'now']]);
+togglePart('memory');
+assert.deepEqual(partsShown(), ['time', 'code', 'now']);
+assert.equal(looksText(), '&show=time,code,now&theme=dark');
+togglePart('memory');
+assert.equal(looks.parts, null);
+['time', 'memory', 'code'].forEach(togglePart);
+togglePart('now');
+assert.deepEqual(partsShown(), ['now']);
+readLooks('#embed&future&theme=pink&sheet=none&show=nothing');
+assert.deepEqual(looks, {
+  hall: false, embed: true, parts: null, future: true, theme: null, sheet: null,
+});
+assert.deepEqual([partsShown(), looksText()], [['memory', 'code'], '&embed&future']);
+readLooks('');
+assert.equal(looksText(), '');
+assert.deepEqual([partsOf('code,memory'), partsOf('x'), partsOf(undefined)],
+  [['memory', 'code'], null, null]);
+assert.equal(withoutLooks('#text=abc&hall&show=code,now&theme=dark&lang=de&future'),
+  '#text=abc&lang=de');
+assert.deepEqual([['hall', 'lang'], ['hall', 'text'], []].map(isLooksAlone), [true, false, true]);
+
+// One and several, in both languages.
+const { de } = LANGUAGES;
+const COUNTED = [
+  [texts.threads, '1 thread', '2 threads'], [texts.find.rounds, 'once', '2 times'],
+  [texts.play.inMoves, 'in 1 move', 'in 2 moves'],
+  [texts.own.ends, 'The one move is accepted.', 'All 2 moves are accepted.'],
+  [texts.own.stepThrough, 'The move before it can be stepped through.',
+    'The 2 moves before it can be stepped through.'],
+  [texts.own.stale,
+    'One line of comment belongs to other moves. It is not shown, saved or linked.',
+    '2 lines of comment belong to other moves. They are not shown, saved or linked.'],
+  [de.page.threads, '1 Thread', '2 Threads'], [de.page.find.rounds, 'einmal', '2-mal'],
+  [de.page.play.inMoves, 'in 1 Zug', 'in 2 Zügen'],
+];
+for (const [say, one, two] of COUNTED) assert.deepEqual([say(1), say(2)], [one, two]);
+const FILES = [
+  [1, 1, 'a is shown. The other file is kept, and listed with the lessons.'],
+  [2, 2, 'a is shown. The 2 other files are kept, and listed with the lessons.'],
+  [3, 2, 'a is shown. Of the 3 other files the first 2 are kept, and listed with the lessons. '
+    + 'The browser has no room for more.'],
+  [1, 0, 'a is shown. The other file is not kept. The browser has no room for more.'],
+];
+for (const [others, kept, said] of FILES) {
+  assert.equal(texts.own.several('a', others, kept), said);
+}
+assert.equal(LOCK_NAMES[run.kind], 'ticket');
+
+// Each text of a lesson, a refusal or a fault is there in German too.
+const german = JSON.parse(readFileSync(
+  new URL('../../examples/lessons.de.json', import.meta.url), 'utf8'));
+for (const example of examples()) {
+  const { title, learn, about, say, ask, answer } = remarksOf(example.text);
+  const all = [title, learn, about, ...[say, ask, answer].flatMap((by) => [...by.values()])];
+  for (const one of all.filter(Boolean)) assert.ok(one in german, `${example.name}: ${one}`);
+}
