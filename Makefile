@@ -47,7 +47,7 @@ SPREAD := -n $(LANES) --dist loadgroup
 
 # Targets that are no files: those with a line ##, and these
 .PHONY: $(shell sed -n 's/^## \([a-z-]*\).*/\1/p' Makefile packaging/targets.mk) \
-	help needs-rt test-needs test-parts test-built page-built \
+	help needs-rt test-needs test-parts test-programs page-built \
 	gate-built gate-module gate-library by-root
 
 help:
@@ -65,8 +65,9 @@ needs-rt:
 test-needs: needs-rt
 	@tests/tools/needs.sh
 
-# What `make test` does after the proofs.
-PARTS := test-built
+# What `make test` does after the proofs, in this order. They are not one run, in which each process
+# would have both browsers open until its last test.
+PARTS := test-programs test-page
 
 ## test | the one test command: proves all from nothing, then tests what is built
 test: test-needs
@@ -135,9 +136,9 @@ check: $(PROGRAM) $(TRACER) $(LIBRARY) test-needs
 	$(PYTEST) $(SPREAD) -m 'not (root or browser or planted or slow)' --quick --fuzz-seconds 5
 endif
 
-# One run of all tests of what is built: while one waits for a browser, another has its processor.
-test-built: $(PROGRAM) $(TRACER) $(LIBRARY) $(TESTS_BUILT) page-built
-	$(PYTEST) $(SPREAD) -m 'not (root or planted)'
+# Nothing is proved here.
+test-programs: $(PROGRAM) $(TRACER) $(LIBRARY) $(TESTS_BUILT) test-needs
+	$(PYTEST) $(SPREAD) -m 'not (root or browser or planted)'
 
 ## generate | fills the marked regions of files that have words and numbers of the crates
 generate:

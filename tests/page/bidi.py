@@ -15,6 +15,7 @@ import websocket
 
 FONTS = Path(__file__).with_name("fonts.conf")
 PATIENCE = 120  # seconds
+STARTS = 3
 # What each of the two says where it listens.
 LISTENS = re.compile(rb"(?:listening on ws://[\w.]+:|successfully on port )(\d+)")
 EVENTS = ["network.beforeRequestSent", "log.entryAdded"]
@@ -86,12 +87,19 @@ def surroundings(home):
 
 @contextlib.contextmanager
 def listening(words, home):
-    """The port on which a process listens, as it says, until the end. Its output is read on."""
-    process = subprocess.Popen(words, stdout=subprocess.PIPE, stderr=subprocess.STDOUT,
-                               stdin=subprocess.DEVNULL, env=surroundings(home))
-    try:
+    """The port on which a process listens, as it says, until the end. Its output is read on.
+
+    chromedriver ends if the port that it was given for IPv4 is taken for IPv6: it is started again.
+    """
+    for _ in range(STARTS):
+        process = subprocess.Popen(words, stdout=subprocess.PIPE, stderr=subprocess.STDOUT,
+                                   stdin=subprocess.DEVNULL, env=surroundings(home))
         found = next(filter(None, map(LISTENS.search, process.stdout)), None)
-        assert found, f"{words[0]} ended before it listened"
+        if found:
+            break
+        process.wait(PATIENCE)
+    try:
+        assert found, f"{words[0]} ended before it listened, {STARTS} times"
         threading.Thread(target=process.stdout.read, daemon=True).start()
         yield int(found[1])
     finally:

@@ -7,8 +7,8 @@ import assert from 'node:assert/strict';
 import { animated } from '../../page/src/lib/animated_png.js';
 import { lastUpTo, placeAfter } from '../../page/src/lib/ascending.js';
 import {
-  beforeLine, beginsWith, bytesOf, fromLink, lettersOf, lineOf, linesIn, sameBytes, toBase64, toLink,
-  withoutLines,
+  beforeLine, beginsWith, bytesOf, fromLink, lettersOf, lineOf, linesIn, sameBytes, toBase64,
+  toLink, withoutLines,
 } from '../../page/src/lib/bytes.js';
 import { folding } from '../../page/src/lib/folding.js';
 import { html } from '../../page/src/lib/markup.js';

@@ -75,7 +75,8 @@ for (const [asked, place, move, line] of PLACES) {
 assert.deepEqual([5, 6, 7, 9, 10, 14, 15, 99].map((line) => session.moveAtLine(line)),
   [0, 0, 1, 2, 3, 6, 7, 7]);
 const { run } = session;
-assert.deepEqual([run.count, run.last, run.known, run.hasLock, run.fault], [6, 7, true, true, null]);
+assert.deepEqual([run.count, run.last, run.known, run.hasLock, run.fault],
+  [6, 7, true, true, null]);
 assert.deepEqual(run.refusal, { name: 'NoCall', line: 15, wanted: 0, thread: 1, word: 'read' });
 assert.equal(lastLine(run), 'refused line 15 NoCall');
 assert.deepEqual([8, 9, 10].map((line) => run.movesThrough(line)), [2, 2, 3]);
@@ -130,8 +131,8 @@ assert.deepEqual([0, 1].map((thread) => PHASES[run.state(4).phase(thread)]),
 
 // Remarks: the first sentence of the first comment is the title, all plain comments are the story.
 const { remarks, names } = session;
-assert.deepEqual([remarks.title, remarks.learn, remarks.about],
-  ['Two threads of a ticket lock', '', 'Two threads of a ticket lock: the second one waits. between']);
+assert.deepEqual([remarks.title, remarks.learn], ['Two threads of a ticket lock', '']);
+assert.equal(remarks.about, 'Two threads of a ticket lock: the second one waits. between');
 assert.deepEqual([names.of(1), names.of(0)], ['Ann', 'thread 0']);
 const SAID = remarksOf(text(
   '#! title A title. Not cut: here', '#! learn One', '#! learn thing.', '# Story. More',
@@ -196,11 +197,13 @@ for (const [count, moves, played] of PREFIXES) {
 // How many moves two runs begin with: only of one lock, with as many threads and bits.
 const HEADER = 'lock ticket threads 2 bits 8';
 const of = (...all) => new Run(machine, text(...all));
-assert.equal(commonMoves(of(HEADER, '0 acquire', '0 add'), of(HEADER, '0 acquire', '0 add')), 2);
-assert.equal(commonMoves(of(HEADER, '0 acquire', '0 add'), of(HEADER, '0 acquire')), 1);
-assert.equal(commonMoves(of(HEADER, '0 acquire', '0 add'), of(HEADER, '0 acquire', '1 acquire')), 1);
+const TAKEN = of(HEADER, '0 acquire', '0 add');
+assert.equal(commonMoves(TAKEN, of(HEADER, '0 acquire', '0 add')), 2);
+assert.equal(commonMoves(TAKEN, of(HEADER, '0 acquire')), 1);
+assert.equal(commonMoves(TAKEN, of(HEADER, '0 acquire', '1 acquire')), 1);
 assert.equal(commonMoves(of(HEADER, '0 acquire'), of(HEADER, '1 acquire')), 0);
-for (const other of ['lock ticket threads 3 bits 8', 'lock ticket threads 2', 'lock mcs threads 2']) {
+const OTHERS = ['lock ticket threads 3 bits 8', 'lock ticket threads 2', 'lock mcs threads 2'];
+for (const other of OTHERS) {
   assert.equal(commonMoves(of(HEADER, '0 acquire'), of(other, '0 acquire')), 0, other);
 }
 
@@ -212,7 +215,8 @@ const beside = onOtherLock(machine, of('lock rw-simple threads 2 bits 8', ...SIM
 assert.equal(letters(beside.run.text),
   ['lock rw-fifo threads 2 bits 8', ...SIMPLE, ''].join('\n'));
 assert.deepEqual(beside.at, [0, 1, 2, 3, 4, 5, 6, 7]);
-const LATE = ['0 wlock', '0 section', '1 rlock', '1 section', '0 wunlock', '0 section', '1 section'];
+const LATE = ['0 wlock', '0 section', '1 rlock', '1 section', '0 wunlock', '0 section',
+  '1 section'];
 const back = onOtherLock(machine, of('lock rw-fifo threads 2 bits 8', ...LATE, '1 runlock'));
 assert.equal(letters(back.run.text),
   ['lock rw-simple threads 2 bits 8', ...LATE, '1 runlock', ''].join('\n'));

@@ -10,7 +10,8 @@ begun=$SECONDS
 
 # Read as a whole before it runs, so that an edit of this file does not reach a run.
 soak() {
-    make --no-print-directory test-built
+    make --no-print-directory test-programs
+    /usr/bin/python3 -m pytest tests/page/test_random_texts.py
     left=$((seconds - (SECONDS - begun)))
     left=$((left > 60 ? left : 60))
     /usr/bin/python3 -m pytest tests/lockreplay/test_fuzz.py --fuzz-seconds $left
