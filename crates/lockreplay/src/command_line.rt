@@ -121,7 +121,7 @@ pub fn copies_of(alloc: Global, texts: &[&str]) -> Result<Vec<String>, AllocErro
 }
 
 /// The batch of these files by this many workers. The limit on files is tried before anything is
-/// copies_of.
+/// copied.
 fn batch_of(alloc: Global, workers: u8, files: &[&str]) -> Result<Job, ParseFault>
     ensures fits { FitsJob result }
     ensures plain { 1 ≤ workers → workers ≤ 8 → 0 < length files.now

@@ -73,8 +73,7 @@ impl RunBuilder {
 
     /// A folder in which the log of each thread has its moves as soon as they are made, so that an
     /// abort or `kill -9` leaves the logs, for `locktrace order`, up to their last moves. Each move
-    /// takes a write of the system, about a microsecond. If this is not said, the logs are in
-    /// memory until [`Run::save`].
+    /// costs a system call. If this is not said, the logs are in memory until [`Run::save`].
     pub fn kept_in(self, folder: impl Into<PathBuf>) -> RunBuilder {
         RunBuilder { folder: Some(folder.into()), ..self }
     }
