@@ -65,8 +65,8 @@ needs-rt:
 test-needs: needs-rt
 	@tests/tools/needs.sh
 
-# What `make test` does after the proofs, in this order. They are not one run, in which each process
-# would have both browsers open until its last test.
+# What `make test` does after the proofs, in this order. In one run each process would have both
+# browsers open until its last test, and side by side pages that wait take more processor time.
 PARTS := test-programs test-page
 
 ## test | the one test command: proves all from nothing, then tests what is built
@@ -78,18 +78,23 @@ test-parts:
 
 # `rt ci` sets `out` aside, and in the end puts the libraries of earlier checks back. They are
 # deleted first, so that `out` has the libraries that it proved. Its copies take gigabytes, and in
-# Debian 13 /tmp is memory. `rt ci NAME..` gives a crate at most half of the processors, and keeps
-# what passed: so the longest chain of crates goes on beside the others, step by step.
-beside = { rt ci $(1) & first=$$!; rt ci $(2); second=$$?; wait $$first && [ $$second = 0 ]; }
+# Debian 13 /tmp is memory.
+#
+# A crate on two processors ends after two thirds of the time, but takes a quarter to a half more of
+# both together. So on a machine with two each crate has one, and on others only the longest chain
+# of crates may have two: `rt ci` gives a crate half of those that are free when its proof begins.
+# The others take what the chain leaves. `rt ci NAME..` keeps what passed, and waits for what
+# another one proves.
+CHAIN  := rt ci lk_trace && rt ci locktrace
+BESIDE := rt ci lk_space && rt ci lk_why lk_catalogue && rt ci lk_workers && \
+	rt ci lockreplay lk_trace_c && rt ci lk_tests lk_page two_threads
 ## gate | the proofs, from nothing, and the stored runs
 gate: needs-rt
 	rm -rf crates/*/out/rlib
 	export TMPDIR=$${TMPDIR:-/var/tmp} && \
-	    $(call beside,lk_trace,lk_why lk_workers) && \
-	    $(call beside,lk_text,lk_search lk_order) && \
-	    $(call beside,lk_jobs,lk_checks) && \
-	    $(call beside,locktrace,lk_tests lk_page lk_trace_c lockreplay two_threads) && \
-	    rt ci
+	if [ "$$(nproc)" -le 2 ]; then RT_JOBS=$$(nproc) rt ci; else \
+	    { RT_JOBS=2 nice sh -c '$(BESIDE)' & beside=$$!; $(CHAIN); chain=$$?; \
+	        wait $$beside && [ $$chain = 0 ] && rt ci; }; fi
 	touch --no-create $(PROGRAM) $(TRACER) $(TESTS_BUILT)
 	touch $(PROVED)
 

@@ -1,5 +1,5 @@
 #!/usr/bin/env python3
-"""Measures a replayer's batches: what a second worker brings, and what a small file costs.
+"""Measures a replayer's batches: the gain of a second worker, and the cost of a small file.
 
     batch.py PROGRAM [--rounds N] [--check] [--output FILE]
 

@@ -5,8 +5,8 @@
     count.py LOCK THREADS ROUNDS [BITS]    one space, which need not be there; words of 64 bits.
                                            ROUNDS is a number, or any
 
-Printed are the states, the transitions, the depth, which is the longest of the shortest runs, and
-the seconds of the search. If tests/rows/spaces.txt has a space, its numbers have to agree. The
+It prints the states, the transitions, the depth, which is the longest of the shortest runs, and the
+seconds of the search. If tests/rows/spaces.txt has a space, its numbers have to agree. The
 last line counts these; the status is 1 if one failed. pan.py says how SPIN is told to count all.
 """
 import pathlib

@@ -32,7 +32,7 @@ def next_move(machine, thread):
 
 
 def contend(machine, chance):
-    """Who is outside queues up at once. Else the oldest moves, or one that waits looks."""
+    """A thread outside queues up at once. Else the oldest moves, or one that waits polls."""
     outside = list(range(machine.threads))
     while True:
         requests = machine.queue

@@ -1,10 +1,10 @@
 #!/usr/bin/env python3
 """Counts the instructions that a move takes: instructions.py PROGRAM [KIND]...
 
-Of each kind of bench/generate.py, `valgrind --tool=callgrind` counts those of `PROGRAM replay`
-and of the replayer of handwritten.c, takes off what a schedule without a move takes, and divides by
-the moves. What else the machine does changes nothing, so a change of the code is seen that is too
-small for times.
+For each kind of bench/generate.py it counts those of `PROGRAM replay` and of the replayer of
+handwritten.c by `valgrind --tool=callgrind`, takes off those of a schedule without a move, and
+divides by the moves. Other work of the machine changes nothing, so this shows changes of the code
+that are too small for times.
 """
 import pathlib
 import re

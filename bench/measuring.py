@@ -1,4 +1,4 @@
-"""What the benchmarks share: C helpers built where they are needed, and measured commands."""
+"""Shared by the benchmarks: C helpers built where they are needed, and measured commands."""
 import collections
 import pathlib
 import statistics

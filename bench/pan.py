@@ -1,6 +1,6 @@
 """Searches of the models in bench/spin, as SPIN compiles them.
 
-SPIN makes of a model a program, `pan`. How it is made here:
+SPIN makes a program, `pan`, from a model. The options here:
 
     spin -o3      each statement is a transition of its own: SPIN would merge some
     -DNOREDUCE    all orders of steps are searched: SPIN would leave out some that come to the same

@@ -1,18 +1,17 @@
 #!/usr/bin/env python3
-"""What recording costs: a note of the C header, 1,000 runs of a search, followed schedules.
+"""Costs of recording: a note of the C header, 1,000 runs of a search, followed schedules.
 
     recording.py LOCKTRACE LIBRARY [--before COMMIT] [--check]
 
 Builds `recording.c` without a mode and with VALUES, as it is in this tree and as it was at a
 commit, with the header of each, and lets them take turns; `file` has its notes in a file, in the
-folder for what is not kept. Figures are nanoseconds for one acquire
-and release of one thread, medians of ROUNDS. What a note costs is how much longer a round with
-notes takes than the one without, shared by its notes, again the median. Then, for the MCS lock in
-C and each example of record/rust, 1,000 runs of a search of two threads with two rounds each and at
-most 5 preemptions; and for those in Rust LOCKTRACE's tour of three threads with a round each, which
-`Mode::Follow` follows. All of them are checked in the process. Each is done ROUNDS times on the
-processors that this script may use, and on the first of them alone; what is printed are medians, in
-seconds.
+folder for temporary files. Figures are nanoseconds for one acquire and release of one thread,
+medians of ROUNDS. A note costs the further time of a round with notes over one without, divided by
+its notes, again the median. Then, for the MCS lock in C and each example of record/rust, 1,000 runs
+of a search of two threads with two rounds each and at most 5 preemptions; and for those in Rust
+LOCKTRACE's tour of three threads with a round each, which `Mode::Follow` follows. All of them are
+checked in the process. Each is done ROUNDS times on the processors that this script may use, and on
+the first of them alone; it prints the medians, in seconds.
 
 With --check the status is 1 if a note costs more than LIMIT nanoseconds, or 1,000 runs take more
 than SECONDS. A quiet machine is needed.

@@ -5,12 +5,12 @@
 
 In each round and for each kind of bench/generate.py, `PROGRAM replay` reads the schedule from a
 file and writes the report to a file; the replayer of handwritten.c does the same; and `cat` copies
-that report from a file to a file. They take turns, so that what else the machine does meets all of
-them. Printed are medians over the rounds, of ratios the median of the rounds' ratios, since a
+that report from a file to a file. They take turns, so that other work of the machine meets all of
+them. It prints medians over the rounds, for ratios the median of the rounds' ratios, since a
 machine may be fast in one round and slow in the next:
 
     elapsed    milliseconds of the program from start to end
-    processor  milliseconds of a processor, user and kernel; what follows goes by these, since the
+    processor  milliseconds of a processor, user and kernel; the rows below use these, since the
                elapsed time also counts how long others had the processor
     spread     half the distance between the quartiles of the rounds' ratios to cat, in percent
     to cat     the program's time over cat's

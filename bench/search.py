@@ -5,9 +5,9 @@
 
 In each turn and for each space of SPACES, `LOCKTRACE space` searches it, and so does the `pan` that
 SPIN makes of the model in bench/spin, compiled with -O2; pan.py says with which other options, and
-why. They take turns, so that what else the machine does meets both. Both have to count the same
+why. They take turns, so that other work of the machine meets both. Both have to count the same
 states and transitions. Times are those of a processor, user and kernel, less what the program takes
-for one thread and one round: starting, and a table that is still empty. Printed are medians:
+for one thread and one round: starting, and a table that is still empty. It prints medians:
 
     states       how many states the space has
     ms           milliseconds of the program
@@ -51,7 +51,7 @@ COLUMNS = ["states", "ms", "SPIN's ms", "to SPIN", "states a s", "SPIN's", "byte
 
 
 def state_bytes(space):
-    """What the words and the phases of a state take, in bytes."""
+    """The bytes of the words and the phases of a state."""
     return len(LOCKS[space.lock].all_words(space.threads)) + 2 * space.threads
 
 
@@ -67,7 +67,7 @@ class Bench:
                 "--rounds", str(space.rounds), "--bits", str(space.bits)]
 
     def spin(self, space):
-        """The command by which `pan` does, which is compiled for this space."""
+        """The command by which `pan`, compiled for this space, searches it."""
         folder = self.folder / str(space).replace(" ", "-")
         folder.mkdir(exist_ok=True)
         return pan.command(pan.build(space, folder))

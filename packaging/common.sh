@@ -25,7 +25,7 @@ dated() {
     find "$1" -exec touch --no-dereference --date="@$SOURCE_DATE_EPOCH" {} +
 }
 
-# publish FILE: brings a file of STAGE into dist/ whole, since it may be made by several at once
+# publish FILE: moves a file of STAGE into dist/ whole, since several processes may make it at once
 publish() {
     mkdir -p dist
     cp "$STAGE/$1" "dist/$1.$$"

@@ -47,7 +47,7 @@ fill() {
     chmod 644 "$folder/$2"
 }
 
-# A build that was cut off leaves an empty file, which is none.
+# A build that was cut off leaves an empty file, which counts as missing.
 look_at() {
     for part in $PROGRAMS $HEADERS $LIBRARY $PAGES $SCRIPTS $DOCUMENTS; do
         [ -s "$part" ] || { echo "install.sh: there is no $part" >&2 && exit 1; }

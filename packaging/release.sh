@@ -4,8 +4,8 @@
 #
 #   packaging/release.sh
 #
-# What is released has to be built, and to be what is committed: else it says what is in the way
-# and ends with status 1, with nothing made. CONTRIBUTING.md says what comes before and after.
+# All parts have to be built, and to be as committed: else it says what is in the way and ends with
+# status 1, with nothing made. CONTRIBUTING.md says what comes before and after.
 set -eu
 cd "$(dirname "$0")/.."
 . packaging/common.sh

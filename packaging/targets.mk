@@ -13,7 +13,7 @@ install: $(BUILT)
 	packaging/install.sh install '$(TREE)'
 
 ## install-built | installs what was built, whatever its time; PREFIX and DESTDIR as above
-# Looks at no times, as in a clone into which built parts were copied: git gives all files new ones.
+# Ignores times, for a clone into which built parts were copied: git gives all files new ones.
 install-built:
 	packaging/install.sh install '$(TREE)'
 

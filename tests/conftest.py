@@ -1,4 +1,4 @@
-"""What every test can ask for: the programs that are built, and one line that counts the tests."""
+"""Fixtures of every test: the programs that are built, and one line that counts the tests."""
 import random
 
 import pytest
@@ -6,7 +6,7 @@ from hypothesis import HealthCheck, settings
 
 from tree import Program, built
 
-# Libraries whose assertions are told with their values
+# Libraries whose assertions show their values
 pytest.register_assert_rewrite("dice", "installs", "recorders")
 # Examples take as long as a process. The seed is printed, and --hypothesis-seed repeats it.
 settings.register_profile("lockreplay", deadline=None, database=None, print_blob=True,

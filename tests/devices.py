@@ -9,12 +9,12 @@ from tree import TESTS, output
 
 
 def closing(*descriptors):
-    """The process begins with these closed."""
+    """Begins the process with these closed."""
     return lambda: [os.close(descriptor) for descriptor in descriptors]
 
 
 def little_memory(size):
-    """The process has so many bytes of address space."""
+    """Limits the process to this many bytes of memory."""
     return lambda: resource.setrlimit(resource.RLIMIT_AS, (size, size))
 
 
@@ -26,7 +26,7 @@ def refusing_library(folder):
 
 
 def short_files(size):
-    """No file that the process writes has room for more bytes."""
+    """Limits each file that the process writes to this size."""
     def limit():
         signal.signal(signal.SIGXFSZ, signal.SIG_IGN)
         resource.setrlimit(resource.RLIMIT_FSIZE, (size, size))
@@ -35,7 +35,7 @@ def short_files(size):
 
 @contextlib.contextmanager
 def left_pipe():
-    """The end for writing of a pipe that nobody reads."""
+    """The write end of a pipe that nobody reads."""
     reader, writer = os.pipe()
     os.close(reader)
     try:
@@ -55,10 +55,10 @@ class Terminal:
         os.close(self.reader)
 
     def written(self):
-        """All that was written to it, once nobody can write to it any more."""
+        """Closes the writer, and reads all that was written to it."""
         os.close(self.writer)
         parts = []
-        with contextlib.suppress(OSError):  # the end, as Linux says it
+        with contextlib.suppress(OSError):  # how Linux reports the end
             while part := os.read(self.reader, 4_096):
                 parts.append(part)
         return b"".join(parts)

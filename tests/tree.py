@@ -10,7 +10,7 @@ TESTS, EXAMPLES, ROWS = TOP / "tests", TOP / "examples", TOP / "tests" / "rows"
 VERSION = (TOP / "VERSION").read_text().strip()
 PATIENCE = 200  # seconds
 PIPE = subprocess.PIPE
-# What a build makes, and the command that makes it.
+# Files that a build makes, and the command that makes each.
 BUILT = {
     "lockreplay": ("crates/lockreplay/out/lockreplay", "make programs"),
     "locktrace": ("crates/locktrace/out/locktrace", "make programs"),
@@ -41,7 +41,7 @@ def ran(*words, **how):
 
 
 def output(*words, **how):
-    """What a command writes to either output, after its status if that is not 0."""
+    """The text that a command writes to either output, after its status if that is not 0."""
     done = ran(*words, **{"stderr": subprocess.STDOUT, **how})
     return done.stdout if done.returncode == 0 else f"status {done.returncode}: {done.stdout}"
 
@@ -58,7 +58,7 @@ class Program:
         self.path, self.folder, self.none = path, folder, none
 
     def run(self, *words, stdin=None, **how):
-        """What it writes to both outputs, and its status."""
+        """Both outputs, and the status."""
         stdin = self.none if stdin is None else stdin
         given = {"input": stdin} if isinstance(stdin, (str, bytes)) else {"stdin": stdin}
         how = {"stdout": PIPE, "stderr": PIPE, "cwd": self.folder, "timeout": PATIENCE, **how}

@@ -15,7 +15,7 @@ from pygments.lexers.special import TextLexer
 TOP = Path(__file__).resolve().parents[2]
 PAGE = "lockreplay.html"
 NORMALIZE = "normalize.css/normalize.css"
-# Packages of which the site has scripts or styles
+# Packages whose scripts or styles the site has
 OF_OTHERS = ("furo", "python3-sphinx", "libjs-jquery", "libjs-underscore", "node-normalize.css")
 AS_THE_SYSTEM = """@media not print {
   @media (prefers-color-scheme: dark) { body:not([data-theme="light"]) %s }

@@ -3,9 +3,9 @@
 
    Without it a turn changes at notes alone, so never inside an operation that is really two. These
    macros take over the compiler's own operations, of which C11's `atomic_` ones are made: a macro
-   is not expanded in its own text, so each ends in the operation itself. Its arguments are worked
-   out first, since they may be operations too. What no macro sees is an operator on an `_Atomic`
-   variable, as in `count++`, and assembler.
+   is not expanded in its own text, so each ends in the operation itself. Its arguments are
+   evaluated first, since they may be operations too. No macro sees an operator on an `_Atomic`
+   variable, as in `count++`, or assembler.
 
    In C++ `lr::atomic<T>` stands for `std::atomic<T>`; without points it is that.
 

@@ -15,7 +15,7 @@ static inline lr_progress lr_progress_of(const lr_run *run)
     return progress;
 }
 
-/* What each thread that has not ended noted last. */
+/* The last note of each thread that has not ended. */
 static inline void lr_tell_lasts(lr_run *run)
 {
     const char *between = ": ";
@@ -27,7 +27,7 @@ static inline void lr_tell_lasts(lr_run *run)
     }
 }
 
-/* What a run of which no move came for so long is waiting for. */
+/* Says what a run waits for in which no move came for so long. */
 static inline void lr_say_late(lr_run *run, unsigned seconds, int has_turns)
 {
     if (run->begun < run->threads) {
@@ -62,8 +62,8 @@ static inline int lr_wait_a_tick(lr_run *run)
     return !late;
 }
 
-/* Waits until all threads have ended, the run is over, or no move came for so many seconds. How
-   many threads have not ended. */
+/* Waits until all threads have ended, the run is over, or no move came for `seconds`; the number of
+   threads that have not ended. */
 static inline unsigned lr_wait_for(lr_run *run, unsigned seconds)
 {
     unsigned long idle = 0;
@@ -83,7 +83,7 @@ static inline unsigned lr_wait_for(lr_run *run, unsigned seconds)
     return missing;
 }
 
-/* What a run ended by before its threads did, or an empty text. */
+/* The reason why a run ended before its threads did, or an empty text. */
 static inline const char *lr_said(const lr_run *run) { return run->said; }
 
 static inline unsigned lr_await(lr_run *run, unsigned seconds)

@@ -3,7 +3,7 @@
 
 #if LR_CHECKS
 
-/* Checks a text: the fault, and what it is. Without locktrace.c the linker says the name of this
+/* Checks a text: the fault, and what it is. Without locktrace.c the linker names this
    function. */
 static __attribute__((noinline, unused)) uint32_t
 lr_compile_record_locktrace_c_too(const lr_text *text, struct lt_step *steps, size_t room,
@@ -15,8 +15,8 @@ lr_compile_record_locktrace_c_too(const lr_text *text, struct lt_step *steps, si
     return fault;
 }
 
-/* Says why a trace is refused: the line, where its move was noted, the move, the fault, and what the
-   published lock does there. */
+/* Says why a trace is refused: the line, where its move was noted, the move, the fault, and the
+   published lock's step there. */
 static inline void lr_tell_fault(lr_run *run, const struct lt_answer *answer,
                                  const struct lt_step *steps, const char *why)
 {
@@ -34,15 +34,15 @@ static inline void lr_tell_fault(lr_run *run, const struct lt_answer *answer,
     if (at < run->ordered) lr_tell_published(run, steps, at, answer->fault);
 }
 
-/* What came of the last step of each thread, as the lock's machine has it. */
+/* The outcome of the last step of each thread, by the lock's machine. */
 static inline void lr_last_outcomes(const lr_run *run, const struct lt_step *steps, uint32_t *last)
 {
     for (unsigned t = 0; t < LR_THREADS; t++) last[t] = LT_LEFT;
     for (size_t i = 0; i < run->ordered; i++) last[steps[i].thread] = steps[i].outcome;
 }
 
-/* Whether a thread has ended inside a call. Of a run that came to its end also whether one that the
-   lock's machine has let through has not. */
+/* Whether a thread has ended inside a call; in a run that came to its end, also whether one that
+   the lock's machine has let through has not ended. */
 static inline int lr_is_beside(lr_run *run, const struct lt_step *steps, int was_stopped)
 {
     uint32_t last[LR_THREADS];
@@ -72,7 +72,7 @@ static inline int lr_check_steps(lr_run *run, const lr_text *text, struct lt_ste
 }
 
 /* Checks a run: 0 if it is accepted; else 1, and `lr_said` has the reason. A step that is refused
-   comes before what the run ended by, which may be no more than what came of it. */
+   comes before the reason why the run ended, which may be only its effect. */
 static inline int lr_check(lr_run *run)
 {
     lr_text text = {NULL, NULL, 0, 0, 0};

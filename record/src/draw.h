@@ -25,8 +25,8 @@ static inline unsigned lr_choose_waiter(lr_run *run, uint64_t waiters)
     return lr_draw_of(run, waiters);
 }
 
-/* One turn in so many wakes a thread that nobody signalled. POSIX lets a condition do so, and few
-   machines do: by itself that is tried with even seeds. */
+/* One turn in this many wakes a thread that nobody signalled. POSIX allows such spurious wakeups,
+   and few machines have them: by default even seeds do. */
 static inline unsigned lr_spurious_of(uint64_t seed)
 {
 #ifdef LR_SPURIOUS

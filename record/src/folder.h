@@ -1,4 +1,4 @@
-/* What a run has in its folder: the logs of its threads, its trace, and its notes while it runs. */
+/* The files of a run in its folder: its logs, its trace, and its notes while it runs. */
 
 enum { LR_PATH = 4096 };
 

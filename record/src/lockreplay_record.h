@@ -35,7 +35,7 @@
               this header, and the functions of a run do nothing
 
    OPTIONS: what is defined beside a mode.
-     LR_ATOMICS=0    no other thread is next before an atomic operation, only after a note. Else
+     LR_ATOMICS=0    a turn changes only after a note, not before an atomic operation. Else
                      SEED, EXPLORE, and VALUES with LR_NOISE have a point before each operation of
                      <stdatomic.h>, __atomic_, __sync_ and lr::atomic<T>. `count++` of an _Atomic
                      variable, volatile accesses and assembler have none
@@ -45,12 +45,12 @@
     LR_NOISE        with VALUES: threads are held up at one note in eight, or in LR_NOISE
      LR_PCT=d        with SEED: few changes of the turn, at drawn places; LR_STEPS=k
      LR_SPURIOUS=n   with SEED: one turn in n wakes a thread of LR_WAIT that nobody signalled; else
-                     one in 8 does with an even seed. EXPLORE wakes such a thread in the place of a
+                     one in 8 does with an even seed. EXPLORE wakes such a thread in place of a
                      preemption. 0: none is woken
      LR_START=n      the lock's counters begin at n, near where they wrap around: `reset` sets them
                      so. A trace has what was counted since then
-     LR_PATIENCE=n   a run hangs after so many turns with nothing but repeated polls
-     LR_MOVES=n      with EXPLORE: room for so many moves of a thread (4,096)
+     LR_PATIENCE=n   a run hangs after n turns with nothing but repeated polls
+     LR_MOVES=n      with EXPLORE: room for n moves of each thread (4,096)
 
    CALLS AND STEPS, each right after what it notes. A step on a word that no lock has it on is not
    compiled, and a counter's value takes the width of the counter.
@@ -89,14 +89,14 @@
 
    The lock is ticket, mcs, rw-simple or rw-fifo; threads 1 to 64; bits 2 to 64, the width of the
    lock's counters (64 if nothing wraps), with fewer threads than such a counter has values. Each
-   log has room for so many moves. `lr_open` makes the folder, without what an earlier run left
+   log has room for `moves` moves. `lr_open` makes the folder, without what an earlier run left
    there; NULL as the folder saves nothing. If the program crashes or is killed, another process
    saves what was noted until then. If that is killed as well, the notes are in run.notes:
    `lr_recover("folder")` waits for the end of the run, and then makes its logs unless they are
-   there. `lr_await` waits until no move has come for so many seconds; `lr_said(run)` has why it
-   gave up. All that goes wrong is said on standard error: `lr_open` then gives NULL, `lr_save` and
-   `lr_recover` an errno (ENOBUFS if a log was full), and a call that may not be made here ends the
-   program with status 2. */
+   there. `lr_await` waits for all threads, or until no move has come for `seconds`;
+   `lr_said(run)` has why it gave up. All that goes wrong is said on standard error: `lr_open` then
+   gives NULL, `lr_save` and `lr_recover` an errno (ENOBUFS if a log was full), and a call that may
+   not be made here ends the program with status 2. */
 #ifndef LOCKREPLAY_RECORD_H
 #define LOCKREPLAY_RECORD_H
 

@@ -11,7 +11,7 @@
    followed; 2 usage; 3 the system refused memory, a thread or a file, a log was full, or a file is
    no schedule of this lock. */
 
-/* A log has room for so many moves a round. */
+/* The room of a log, in moves a round. */
 enum { LR_ROUND = 128 };
 
 #if LR_EXPLORES

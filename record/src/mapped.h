@@ -1,11 +1,11 @@
 /* The memory of a run. With LR_MAPPED it is a file in the run's folder, `run.notes`.
 
-   Whoever ends a program alone leaves the process that saves its logs (watch.h). But the end of a
-   container, of a job or of a service takes that one along, and so may a lack of memory. What was
-   stored into a shared mapping of a file is in the file whoever is killed, so a note is the same
-   few stores as without it. They are no text: to write text at each note would cost as much as
-   a hundred notes. `lr_recover` makes the logs of the file, by the functions that save every
-   run. A note counts once `end` is past it, and that is stored after it: a half one is never read.
+   A kill of the program alone spares the process that saves its logs (watch.h). But the end of a
+   container, of a job or of a service kills that one too, and so may a lack of memory. A store into
+   a shared mapping of a file is in the file whoever is killed, so a note is the same few stores as
+   without it. Notes are not text: to write text at each would cost as much as a hundred notes.
+   `lr_recover` makes the logs from the file, by the functions that save every run. A note counts
+   once `end` is past it, and that is stored after it: a half one is never read.
 
    Whoever has the file open holds its lock, so `lr_recover` waits for a run that goes on, and for
    one that is being saved. The blocks of the file are its own before the first note: else a full
@@ -26,7 +26,7 @@ static inline size_t lr_size_of(unsigned threads, size_t moves)
 int posix_fallocate(int file, off_t from, off_t length);
 #endif
 
-/* What a file says first if this program can read it: the layout of the rest. */
+/* The beginning of a file that this program can read: the layout of the rest. */
 static inline void lr_make_stamp(char *stamp)
 {
     memset(stamp, 0, LR_STAMP);
@@ -34,7 +34,7 @@ static inline void lr_make_stamp(char *stamp)
              (uint64_t)(LR_START));
 }
 
-/* A file without a name would be lost as well, so it has one from the beginning. */
+/* A file without a name would be lost too, so it has one from the beginning. */
 static inline int lr_new_notes(const char *folder, size_t size)
 {
     char path[LR_PATH];
@@ -76,7 +76,7 @@ static inline int lr_new_notes(const char *folder, size_t size)
 static inline void lr_remove_notes(const lr_run *run) { (void)run; }
 #endif
 
-/* Of a run that could not be opened. */
+/* Removes the notes of a run that could not be opened. */
 static inline void lr_drop_notes(const char *folder)
 {
     char path[LR_PATH];

@@ -62,7 +62,7 @@
 #define LR_MAPPED 0
 #endif
 
-/* At which number the lock's counters begin. */
+/* The number at which the lock's counters begin. */
 #ifndef LR_START
 #define LR_START 0
 #endif

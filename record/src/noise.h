@@ -1,8 +1,8 @@
 /* LR_NOISE: threads that run as they like are held up now and then, at a note or at a point.
 
    At one note in eight, or in LR_NOISE, the run's seed draws a yield, a sleep of at most 0.1 ms or
-   a spin of at most 5,000 rounds. A thread is then held up in places that it would else be through
-   in a few nanoseconds, which is how long a mistake there has to show. */
+   a spin of at most 5,000 rounds. A thread is then held up in places that otherwise last
+   a few nanoseconds, which is all the time that a mistake there has to show. */
 
 #ifdef LR_NOISE
 #include <sched.h>

@@ -32,7 +32,7 @@ enum {
 
 #if LR_RECORDS
 #define lr_own_record(pointer) lr_set_record(pointer, sizeof *(pointer))
-/* What is noted of a value: GCC and Clang number the class of pointers 5. */
+/* The note of a value: GCC and Clang number the class of pointers 5. */
 #define LR_WORTH(v)                                                                                \
     (__builtin_classify_type(v) == 5 ? lr_pointer_at(lr_self, (uintptr_t)(v))                      \
                                      : (uint64_t)(uintptr_t)(v))

@@ -57,7 +57,7 @@ LR_AT_ONCE int lr_is_left_out(const lr_log *log, const lr_move *end, lr_move mov
     return lr_is_same(move, &end[-1]) && lr_is_same(move, &end[-2]);
 }
 
-/* Says that a thread notes which is in no run, and ends the program. */
+/* Says that a thread notes a step though it is in no run, and ends the program. */
 __attribute__((cold)) static inline void lr_end_outside(const char *file, unsigned line)
 {
     char at[LR_LINE];
@@ -112,8 +112,8 @@ LR_AT_ONCE void lr_append(lr_log *log, lr_move move)
     lr_set_count(run->ordered, run->ordered + 1);
 }
 
-/* The same if the file is another one, or the log is full. A note that is not ends in no call, so it
-   needs to keep nothing for after one. */
+/* The same if the file is another one, or the log is full. Other notes make no call, so they have
+   nothing to keep across one. */
 __attribute__((cold)) static inline void lr_append_elsewhere(lr_log *log, lr_move move,
                                                              const char *file, unsigned line)
 {
@@ -130,7 +130,7 @@ static inline void lr_before_note(lr_log *log, unsigned word)
     if (word != LR_STEP_section) lr_pass_if_due(log);
 }
 
-/* Of a run that goes on without a move nothing more could be said. */
+/* A run that went on without one of its moves could not be checked. */
 static inline void lr_stop_if_full(lr_log *log)
 {
     if (!log->run->is_cut) return;
@@ -139,7 +139,7 @@ static inline void lr_stop_if_full(lr_log *log)
     lr_stop(log);
 }
 
-/* If a step found something else than the one before it, the others may find so too. */
+/* If a step found another value than the one before it, other threads may too. */
 static inline void lr_after_note(lr_log *log, unsigned word, int polls)
 {
     lr_run *run = log->run;
@@ -159,7 +159,7 @@ static inline void lr_after_note(lr_log *log, unsigned word, int polls)
 }
 #endif
 
-/* A counter's value has the bits of its counter, however wide what was computed with is. */
+/* A counter's value is cut to the width of its counter, however wide the computation is. */
 LR_AT_ONCE void lr_note(lr_log *log, unsigned word, unsigned place, unsigned owner, unsigned part,
                         uint64_t value, const char *file, unsigned line)
 {

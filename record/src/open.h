@@ -52,8 +52,8 @@ static inline void lr_close(lr_run *run)
     munmap(run, run->size);
 }
 
-/* A number by which the logs of one run are known: of the time, or if a seed or a schedule
-   decides the run, of that. */
+/* A number that identifies the logs of one run: from the seed or the schedule if that decides the
+   run, else from the time. */
 static inline uint64_t lr_number_of(const lr_run *run)
 {
     struct timespec now;

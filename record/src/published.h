@@ -1,4 +1,4 @@
-/* Says what the published lock does in the place of a step that is refused. */
+/* Says what the published lock does in place of a step that is refused. */
 
 #if LR_CHECKS
 
@@ -14,7 +14,7 @@ static inline int lr_is_on_word(const lr_move *move, unsigned thread, const lr_m
     return (own == LR_OWN ? thread : own) == (others == LR_OWN ? by : others);
 }
 
-/* What the lock had in the word of the move at a place in the order, after the moves before it. */
+/* The lock's value in the word of the move at a place in the order, after the moves before it. */
 static inline uint64_t lr_left_before(const lr_run *run, const struct lt_step *steps, size_t at,
                                       const lr_move *move)
 {
@@ -48,8 +48,8 @@ static inline uint64_t lr_count_before(const lr_run *run, size_t at)
 
 enum { LR_WORD_TEXT = 24 };
 
-/* Writes the name of a word (docs/LOCKS.md) into at most LR_WORD_TEXT bytes; without its owner if that
-   is the thread. */
+/* Writes the name of a word (docs/LOCKS.md) into at most LR_WORD_TEXT bytes; without its owner if
+   that is the thread. */
 static inline const char *lr_name_of(char *name, const lr_run *run, uint32_t word, uint32_t thread)
 {
     if (strcmp(run->lock, "mcs")) return word ? "now_serving" : "next_ticket";

@@ -1,5 +1,5 @@
-/* What atomics that note themselves say of an address: whose record it is in. This comes before the
-   points: there is none between an operation and its note. */
+/* Whose record an address is in, for atomics that note themselves. This comes before the points:
+   there is none between an operation and its note. */
 
 /* From now on this is the record of the thread that runs. */
 static inline void lr_set_record(const void *first, size_t length)

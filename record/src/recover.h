@@ -61,7 +61,7 @@ static inline int lr_recover_of(int file, const char *folder)
     return fault;
 }
 
-/* Nothing is to be done if the run was saved. */
+/* Does nothing if the run was saved. */
 static inline int lr_recover(const char *folder)
 {
     char path[LR_PATH], log[LR_PATH];

@@ -38,7 +38,7 @@ static inline unsigned lr_move_owner(const lr_move *m) { return m->kind >> LR_AT
 static inline unsigned lr_move_file(const lr_move *m) { return m->kind >> LR_AT_FILE & 0xFF; }
 static inline unsigned lr_move_line(const lr_move *m) { return (unsigned)(m->kind >> LR_AT_LINE); }
 
-/* What only the modes need in which one thread runs at a time. */
+/* Needed only by the modes in which one thread runs at a time. */
 typedef struct lr_turn {
     sem_t comes;
     int joined;         /* the next note is followed by one of the same operation */
@@ -83,8 +83,8 @@ typedef struct lr_line {
     unsigned number; /* in its file, from 1 */
 } lr_line;
 
-/* What was chosen in a run that is explored: the one that goes on, of those who can, and of those
-   who wait for a signal that was not given. */
+/* A choice in a run that is explored: the thread that goes on, of those that can, and of those that
+   wait for a signal that was not given. */
 typedef struct lr_choice {
     uint64_t options, asleep;
     uint16_t chosen, current; /* current: who would have gone on, or LR_NOBODY */
@@ -121,7 +121,7 @@ typedef struct lr_run {
     unsigned char *order; /* whose each move is, up to the first that was dropped */
     size_t ordered;
     int is_cut;        /* a move was dropped */
-    unsigned spurious; /* one turn in so many wakes a thread for nothing */
+    unsigned spurious; /* one turn in this many has a spurious wakeup */
     size_t *changes;   /* with LR_PCT: at which turns the thread that runs becomes the last */
     lr_line *lines;    /* of the schedule that is followed */
     size_t lines_count, at;

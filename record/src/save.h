@@ -56,8 +56,8 @@ static inline void lr_print_head(lr_text *text, const lr_run *run)
     lr_put(text, "lock %s threads %u bits %u", run->lock, run->threads, run->bits);
 }
 
-/* What is said of a thread's end. Of a run that was stopped, as by the end of a schedule or for
-   lack of room, nobody knows whether it would have gone on. */
+/* The words on a thread's end. If a run was stopped, as by the end of a schedule or for lack of
+   room, nobody knows whether the thread would have gone on. */
 static inline const char *lr_end_of(const lr_run *run, const lr_log *log)
 {
     if (lr_count_of(log->ended)) return "has ended";
@@ -66,7 +66,7 @@ static inline const char *lr_end_of(const lr_run *run, const lr_log *log)
     return was_stopped ? "was stopped" : "has not ended";
 }
 
-/* A log whose thread has not ended has a comment in the place of its last line. */
+/* A log whose thread has not ended has a comment in place of its last line. */
 static inline void lr_print_log(lr_text *text, const lr_log *log)
 {
     int ended = lr_count_of(log->ended);

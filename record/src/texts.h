@@ -2,7 +2,7 @@
 
 enum { LR_LINE = 128 };
 
-/* The value of a move as a trace has it, in which counters begin at 0. */
+/* The value of a move in a trace, where counters begin at 0. */
 static inline uint64_t lr_value_of(const lr_log *log, const lr_move *move)
 {
     unsigned place = lr_move_place(move);

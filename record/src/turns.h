@@ -1,9 +1,8 @@
 /* One thread runs at a time: how the turn goes from one to the next.
 
-   A thread keeps its turn until a hook of this header passes it. Who is next says `lr_choose`, of
-   which each mode has its own. A thread that goes on itself costs a call; another one costs a
-   semaphore's post and wait, which is what one futex each costs (bench/README.md compares it with
-   other ways). Nothing here is touched but by the thread whose turn it is. */
+   A thread keeps its turn until a hook of this header passes it. `lr_choose` says who is next; each
+   mode has its own. A thread that goes on itself costs a call; another one costs a semaphore's post
+   and wait, a futex each. Only the thread whose turn it is touches anything here. */
 
 #ifndef LR_PATIENCE
 #if LR_EXPLORES
@@ -26,7 +25,7 @@ static inline unsigned lr_after(uint64_t threads, unsigned current)
     return next;
 }
 
-/* What a thread does that does not get on. After a move that is no poll it polls without a note. */
+/* The activity of a thread without progress. After a move that is no poll it polls unnoted. */
 static inline const char *lr_what_it_does(const lr_run *run, unsigned thread)
 {
     const lr_move *last = lr_last_of(&run->logs[thread]);

@@ -7,7 +7,7 @@
 
 static inline int lr_save_files(lr_run *run);
 
-/* What the other process does: it ends in silence if a byte comes. */
+/* The other process: it ends in silence if a byte comes. */
 static inline void lr_keep_watch(lr_run *run, int from)
 {
     char byte;

@@ -1,4 +1,4 @@
-"""The functions of the program itself, as the tests in `calls.rattle` call them.
+"""The program's own functions, which the tests in `calls.rattle` call.
 
 `rt try` runs these in a copy of the crates, with no proof. In the crate itself they would have
 `rt ci` prove the whole program a second time, and a file `.rt` has to be in a crate.

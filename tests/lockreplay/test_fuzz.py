@@ -62,7 +62,7 @@ def test_small_texts(replayer, request):
 
 
 def shortened(pieces, differs):
-    """The pieces that are left when runs of them are dropped for as long as the rest differs."""
+    """Drops runs of pieces as long as the rest still differs."""
     until = time.monotonic() + SHORTENING
     size = len(pieces) // 2
     while size and time.monotonic() < until:
@@ -84,7 +84,7 @@ def store(name, text):
 
 
 def fail_at(replayer, texts, reports, name):
-    """Stores what differs of a round that failed: a text, or texts that are right one by one."""
+    """Stores what differs in a failed round: a text, or texts that are right one by one."""
     for number, text in enumerate(texts):
         if not is_right(replayer, text):
             whole = store(f"{name}-{number}.whole", text)

@@ -28,7 +28,7 @@ LIMITS = (3, 4, 5, 6, 8, 12, 16, 24, 32, 48, 64, 80, 96, 128, 160, 256, 512)  # 
                      batch_of([EMPTY_REPORT] * 65_536), LIMITS[1:]),
 })
 def test_little_memory(replayer, words, text, report, limits):
-    """Memory is short within some limit, and ample within another."""
+    """Memory is short under one limit, and ample under another."""
     replayer.write(empty=EMPTY, spinning=SPINS.text)
     statuses = set()
     for megabytes in limits:
@@ -51,7 +51,7 @@ BAD_LINE = (b"lock rw-fifo threads 64\n0 go\n" + MOVES)[:len(MOVES)]
 
 
 def needed(replayer, text, fault):
-    """The least limit in KB under which the fault of a text is answered."""
+    """The least limit in KB under which the fault of a text is reported."""
     for limit in range(2_048, 65_536, 64):
         done = replayer.run("replay", stdin=text, preexec_fn=little_memory(limit << 10))
         if done == (fault, b"", 1):

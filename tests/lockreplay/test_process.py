@@ -1,7 +1,7 @@
 """`lockreplay` as a process: output, error and status, where devices, words or files fail it.
 
-What is due is written by hand from what the program promises; of the parser's own texts only the
-first words are known.
+Expected texts are written by hand from what the program promises; only the first words of the
+parser's own texts are compared.
 """
 import os
 import shutil
@@ -88,7 +88,7 @@ def test_closed_input(program):
     assert program.run(*BATCH, "empty", "handed_on", **closed) == (due, b"", 0)
 
 
-# Words, input and report, of which writing fails.
+# Words, input, and a report whose write fails.
 WRITES = {
     "replay": (["replay"], SPINS.text, SPINS.report),
     "batch": ([*BATCH, "spinning", "empty"], b"", batch_of([SPINS.report, EMPTY_REPORT])),
@@ -136,7 +136,7 @@ def test_file_that_is_full(program, tmp_path, name, size):
     "a report of 14 MB": (["replay"], CROWD.text, CROWD.report, 65_536),
 })
 def test_reader_that_leaves(program, words, text, report, size):
-    """The reader takes so many bytes of the report, and leaves."""
+    """The reader takes some bytes of the report, and leaves."""
     reader, writer = os.pipe()
     taken = bytearray()
 
@@ -234,7 +234,7 @@ def test_first_and_last_file_that_cannot_be_read(program):
 
 
 def opened_once_read(fifo, process):
-    """The FIFO's end for writing, once the program has opened the other; None if it never does."""
+    """The FIFO's write end, once the program has opened the other; None if it never does."""
     while process.poll() is None:
         try:
             return os.open(fifo, os.O_WRONLY | os.O_NONBLOCK)

@@ -1,8 +1,8 @@
-"""How `lockreplay` writes: a batch in few writes, and a long report of which a write fails.
+"""How `lockreplay` writes: a batch in few writes, and a long report when a write fails.
 
-Of a batch, standard output is a socket that keeps each write as a message, so writes can be
-counted. Reports are as long as what the program lets wait before it writes (65,536 bytes), a byte
-more or less, and three times that; the text is made here from what each schedule is due.
+A batch writes to a socket that keeps each write as a message, so writes can be counted. Reports are
+as long as the program's buffer (65,536 bytes), a byte more or less, and three times that; the
+expected text is made here from the report of each schedule.
 """
 import socket
 import threading
@@ -32,7 +32,7 @@ def polling(threads):
 
 
 def of_length(length):
-    """A schedule whose report has so many bytes: thread 10 polls where one more is wanted."""
+    """A schedule whose report has this size: thread 10 polls where one more byte is wanted."""
     count = max(0, length - 300) // 41
     while len(polling([1] * (count + 1))[1]) <= length:
         count += 1

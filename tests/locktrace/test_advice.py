@@ -1,4 +1,4 @@
-"""What `locktrace check` advises, by the lock and what its thread was about to do.
+"""The advice of `locktrace check`, by the lock and the step that its thread was due to make.
 
 The rows of tests/rows/advice.txt are written by hand, from docs/LOCKS.md.
 """

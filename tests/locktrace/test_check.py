@@ -1,7 +1,7 @@
 """`locktrace check`, and what all commands share: words, texts, formats, files that fail, inputs
 without end, devices that take nothing, little memory, several threads, and a terminal.
 
-What is due is written by hand from packaging/man/locktrace.1 and docs/FORMATS.md.
+Expected texts are written by hand from packaging/man/locktrace.1 and docs/FORMATS.md.
 """
 import json
 import os
@@ -134,7 +134,7 @@ ODD = [chr(code) for code in [*range(1, 32), *b'"\\', 127, 0xE9]]
 @pytest.mark.parametrize("name", [*(f"a{sign}b" for sign in ODD), "".join(ODD),
                                   'a "name"\\\x01\n.trace'], ids=ascii)
 def test_name_in_json(tracer, name):
-    """Each byte that a string of JSON may not have as it is, alone and all together."""
+    """Each byte that a string of JSON has to escape, alone and all together."""
     (tracer.folder / name).write_text(FAULTY)
     text = tracer.run("check", "--format", "json", name)[0]
     assert (text[-1:], [sign for sign in text[:-1] if sign < " "]) == ("\n", [])
@@ -161,7 +161,7 @@ def test_tap(tracer):
         f"not ok {k} - bad\n# line {SHOWN}# line 2: {MISSPELT}\n" for k in range(1, 3_001))),
 })
 def test_long_report(tracer, more, due):
-    """Reports are longer than what the program lets wait before it writes, 65,536 bytes."""
+    """Reports are longer than the program's buffer, 65,536 bytes."""
     tracer.write(bad="lock mcs threads 1\n0 aquire\n")
     assert tracer.run("check", *more, *["bad"] * 3_000) == (due, "", 4)
 
@@ -193,7 +193,7 @@ ESCAPE = f"column 3: '\\x1b[31mswap', expected {ACTION}\n"
         f"{ACTION}\n", "", 4)),
 })
 def test_odd_text(tracer, words, text, due):
-    """Line ends of another system, and bytes that a terminal would take for orders."""
+    """Line ends of another system, and bytes that a terminal would take for commands."""
     stdin = (f"lock mcs threads 2\n0 {text}\n" if text else "lock mcs threads 2\r\n0 acquire\r\n")
     assert tracer.run(*words.split(), stdin=stdin, errors="surrogateescape") == due
 
@@ -227,7 +227,7 @@ FOLDER = ".: Is a directory (os error 21)\n"
         "", f"-:2: no header (NoHeader)\n-:2: {BEGIN}\n", 4)),
 })
 def test_input_without_a_trace(tracer, words, stdin, due):
-    """A file that cannot be read is told with its name and the system's reason."""
+    """A file that cannot be read is reported with its name and the system's reason."""
     assert tracer.run(*words.split(), stdin=stdin) == due
 
 

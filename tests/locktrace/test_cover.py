@@ -1,7 +1,7 @@
 """`locktrace cover`: how often schedules take each kind of transition, and those that are missing.
 
 The names of kinds are those of tests/rows/kinds.txt, and the second replayer says which kinds a
-schedule has. What is said is written by hand from packaging/man/locktrace.1.
+schedule has. Expected texts are written by hand from packaging/man/locktrace.1.
 """
 import json
 import shlex
@@ -93,7 +93,7 @@ def counted(program, schedule):
 
 @pytest.mark.parametrize("lock", search_rows.names())
 def test_command_for_each_kind(tracer, lock):
-    """Of each kind that is missing, the command gives a schedule that has it."""
+    """The command for each missing kind gives a schedule that has it."""
     named = search_rows.names()[lock]
     counts, commands = counted(tracer, f"lock {lock} threads 2\n")
     assert counts == dict.fromkeys(named.values(), 0)

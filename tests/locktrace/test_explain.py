@@ -1,7 +1,7 @@
 """`locktrace explain`: sentences for chosen lines, names of threads, refusals and suggestions.
 
-What is due is written by hand from packaging/man/locktrace.1 and docs/FORMATS.md; each sentence is
-a row of tests/rows/locktrace/explain.txt.
+Expected texts are written by hand from packaging/man/locktrace.1 and docs/FORMATS.md; each sentence
+is a row of tests/rows/locktrace/explain.txt.
 """
 import re
 

@@ -1,6 +1,6 @@
-"""`locktrace find`: how a sketch is read, what is said of it, and the schedules that are found.
+"""`locktrace find`: how a sketch is read, the messages, and the schedules that are found.
 
-What is said is written by hand from packaging/man/locktrace.1 and docs/FORMATS.md. Lengths and
+Messages are written by hand from packaging/man/locktrace.1 and docs/FORMATS.md. Lengths and
 counts of states are those of tests/rows/sketches.txt, and a schedule is a run of the second
 replayer.
 """
@@ -13,7 +13,7 @@ import search_rows
 from spaces import measured, searched
 from tree import cases, ran
 
-# The words after `find`, and what is said: no run has the lines.
+# The words after `find`, and the message: no run has the lines.
 NOWHERE = [
     (["mcs", "2", "0 cas done", "0 swap"],
      "no run of 2 threads with 1 round each has '0 swap' after '0 cas done': "
@@ -46,7 +46,7 @@ OPEN = ("'next_ticket', 'now_serving', 'tail', 'next', 'locked', 'moved', 'waits
         "'entered', 'left'")
 STEPS = "a call (acquire, rlock ..) or a step (read, write, swap, cas, add, section)"
 
-# A line of a sketch that is none, and what is said of it: column, what is there, what could be.
+# A line that no sketch may have, and its message: column, what is there, what could be.
 FAULTS = [
     ("* caz failed", f"  column 3: 'caz', expected {STEPS}; did you mean 'cas'?\n"),
     ("x cas", "  column 1: 'x', expected '*', or a thread's number, from 0 to 255\n"),
@@ -81,10 +81,10 @@ NEVER = [
     ("not 2", "no such thread (NoSuchThread)"),
 ]
 
-# What is said of a `not` that is the last line.
+# The message for a `not` in the last line.
 OPEN_NOT = "'not' holds up to the next line, and there is none (NoNextLine)\n"
 
-# The words after `space`, and what is said of them: they name no lock.
+# The words after `space`, and the message: they name no lock.
 NO_LOCKS = [
     (["ms", "2"], "'lock ms threads 2': not a header (BadHeader)\n  column 6: 'ms', expected "
                   "ticket, mcs, rw-simple or rw-fifo; did you mean 'mcs'?\n"),
@@ -195,7 +195,7 @@ def test_any_rounds_of_a_text(tracer):
 
 @pytest.mark.parametrize("lock", ["ticket", "rw-fifo"])
 def test_space_without_end(tracer, lock):
-    """The counts of wide words have no end. Four threads need words of three bits."""
+    """Counters in wide words only grow. Four threads need words of three bits."""
     output, error, status = tracer.run("find", lock, "4", "--rounds", "any", "--limit", "9",
                                        "0 release" if lock == "ticket" else "0 runlock")
     assert (output, status) == ("", 3)

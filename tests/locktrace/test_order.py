@@ -1,6 +1,6 @@
 """`locktrace order`: the order of a run's logs, its trace and schedules, and logs that have none.
 
-What is said of each is worked out by hand from docs/FORMATS.md and packaging/man/locktrace.1.
+Expected texts are worked out by hand from docs/FORMATS.md and packaging/man/locktrace.1.
 """
 import pytest
 
@@ -24,8 +24,8 @@ AWAITED = ["acquire", "write next left 0", "swap tail found 1", "write locked le
            "write next of 0 left 2", "read locked found 1", "read locked found 0"]
 RETURNED = ["release", "read next found 0", "cas tail done", *SWAPPED[:2], "swap tail found 1"]
 
-# The lock, the moves of threads 0 and 1 with the last lines of their logs, the status, and what is
-# said. A step that the lock cannot make, or that leaves another value, is surely wrong; less so
+# The lock, the moves of threads 0 and 1 with the last lines of their logs, the status, and the
+# message. A step that the lock cannot make, or that leaves another value, is surely wrong; less so
 # are, in this order, an outcome, a value that was found, and a step that waits for another.
 ENDINGS = [
     ("a wrong step beside a cut log", "mcs", SWAPPED,
@@ -52,7 +52,7 @@ ENDINGS = [
                   "thread 1's write found 5 in next of 1; the published algorithm has 0", 3,
                   "held by nobody; queue empty", NEXT.format(0, 4, "0 swap tail found 0", WAITS))),
 ]
-# Of two wrong steps the second is named, whichever thread makes it. `{t}` is its thread, and `{o}`
+# The second of two wrong steps is named, whichever thread makes it. `{t}` is its thread, and `{o}`
 # the other one, of which the line and the next step follow.
 SUSPECTS = [
     ("a refused step and a value", "ticket", ["acquire", "add next_ticket found 5"],
@@ -73,7 +73,7 @@ SUSPECTS = [
       "thread {o}'s section came to 'waits'; the published algorithm's to 'entered'")),
 ]
 TAKEN = "acquire\nadd next_ticket found 0\nread now_serving found 0\ndropped 0\n"
-# What follows the header of thread 1's log, its bytes as they are; the status, and what is said.
+# The bytes after the header of thread 1's log, the status, and the message.
 TEXTS = [
     ("a move without its end", "acquire\nadd next_ticket found 1", 0, MORE.format("1.log", 4)),
     ("half a move without its end", "acquire\nadd next_ti", 0, MORE.format("1.log", 4)),
@@ -220,7 +220,7 @@ def test_folder_that_cannot_be_made(tracer):
 
 
 def test_ten_million_moves(tracer):
-    """They are ordered, and in 200 MB it is said that memory is short."""
+    """They are ordered; within 200 MB the message is that memory is short."""
     tracer.write(**{"long.log": log("ticket", 0, ROUND * 1_666_667 + WHOLE, 1)})
     words = ["order", "long.log", "-o", "long"]
     assert tracer.run(*words) == ("", "", 0)
@@ -257,7 +257,7 @@ def test_parts_of_a_run(tracer):
 
 
 def handed_over(polls):
-    """The logs of two threads that hand the lock over to each other: each has polled in vain when
+    """The logs of two threads that hand the lock over to each other: each has a failed poll when
     the other one leaves, so somebody is in a call all the time. The last one polls `polls` times
     more than that."""
     logs = [[], []]
@@ -276,7 +276,7 @@ def handed_over(polls):
     (3, ""), (4, LEFT_OUT.format("1 move is")), (5, LEFT_OUT.format("2 moves are")),
     (17, LEFT_OUT.format("14 moves are"))])
 def test_moves_left_out(tracer, polls, said):
-    """14 moves for each pair of rounds, but one, and the polls: 65,533 and so many."""
+    """14 moves a pair of rounds, less one, and the polls: 65,533 and those."""
     tracer.write(**{f"thread-{thread}.log": log("ticket", thread, [*moves, *WHOLE])
                     for thread, moves in enumerate(handed_over(polls))})
     assert tracer.run("order", *LOGS, "-o", "made") == ("", said, 0)
@@ -312,7 +312,7 @@ def test_file_that_no_order_wrote(tracer, name):
 
 @pytest.mark.parametrize("moves, said", [(99_998, b""), (100_000, ORDERED)])
 def test_progress_on_a_terminal(tracer, moves, said):
-    """From 100,000 moves on it is said what is done, and then that is cleared."""
+    """From 100,000 moves on, progress is shown and then cleared."""
     calls = [line for n in range(1, moves // 2 + 1)
              for line in (["runlock", "rlock"][n % 2], f"section {n}")]
     tracer.write(**{"one.log": log("rw-simple", 0, [*calls, *WHOLE], 1)})

@@ -62,7 +62,7 @@ def test_limit(tracer, more):
 
 
 def graph_of(text):
-    """By the number of a state, the moves from it with the states that they lead to."""
+    """The moves from each state, by its number, with the states that they lead to."""
     graph = {int(node): {} for node in re.findall(r"^  (\d+) \[label=", text, re.MULTILINE)}
     edges = re.findall(r'^  (\d+) -> (\d+) \[label="(\d+) (\w+)"\]$', text, re.MULTILINE)
     for start, end, thread, word in edges:

@@ -153,7 +153,7 @@ def test_failure(tracer, words, status, said):
 
 
 def test_write_that_fails(tracer):
-    """A schedule, of which no file has room for 100 bytes, or the output; then both are written."""
+    """A schedule of over 100 bytes fails, or the output; then both are written."""
     words = ["tour", "ticket", "1", "-o", "short"]
     with open("/dev/full", "w", encoding="utf-8") as full:
         for how in ({"preexec_fn": short_files(100)}, {"stdout": full}):

@@ -8,7 +8,7 @@ from changed_locks import AS_IT_IS, CHANGES, Searched
 VERDICT = re.compile(r"(?P<illegal>[\d,]+) moves?, and thread \d .+"
                      r"|(?P<stuck>[\d,]+) moves? to where a call can never end: .+"
                      r"|harmless: all (?P<harmless>[\d,]+) states? were searched")
-ROUNDS = 2  # if the program is told of none
+ROUNDS = 2  # by default
 
 
 def read(text):

@@ -9,7 +9,7 @@ from worked_rows import lines_of, pieces_of, too_large
 FAULTS = ["TooLong", "NoHeader", "BadHeader", "BadThreads", "WordsTooNarrow", "BadLine",
           "TooManyMoves"]
 REFUSALS = ["NoSuchThread", "WrongLock", "Busy", "NotHolder", "AlreadyHolds", "NoCall"]
-# What begins the name of one text at least. If a lock has one kind of step, none is wrong.
+# Each begins the name of some text. If a lock has one kind of step, no step is wrong.
 DUE = [*(f"fault-{fault}" for fault in FAULTS),
        *(f"refused-{refusal}-{lock}" for refusal in REFUSALS for lock in LOCKS),
        *(f"refused-WrongStep-{lock}" for lock in LOCKS if len(LOCKS[lock].steps) > 1),

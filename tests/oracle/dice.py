@@ -1,7 +1,7 @@
 """Random choices for generators that draw from a `random.Random`, as hypothesis makes them.
 
-What hypothesis draws is bytes, and every choice of a generator takes the next of them. After the
-last byte all are 0, for the first of each choice. So a value that fails shrinks with its bytes.
+Hypothesis draws bytes, and every choice of a generator takes the next of them. After the last byte
+all are 0, for the first of each choice. So a value that fails shrinks with its bytes.
 """
 import random
 import zlib
@@ -27,14 +27,14 @@ class Dice(random.Random):
         return self.getrandbits(16) / (1 << 16)
 
     def sample(self, population, k):
-        """`Random` would look on for another one, and after the last byte there is no other."""
+        """`Random` would draw again until the item is a new one, for ever after the last byte."""
         rest = list(population)
         return [rest.pop(self.randrange(len(rest))) for _ in range(k)]
 
 
 def drawn(generator, most=1_200):
-    """What a generator draws by at most so many bytes. They are drawn in chunks, each of which can
-    shrink by itself."""
+    """The values of a generator by at most `most` bytes, drawn in chunks that shrink by
+    themselves."""
     chunk = st.binary(min_size=CHUNK, max_size=CHUNK)
     return st.integers(0, most // CHUNK).flatmap(
         lambda count: st.lists(chunk, min_size=count, max_size=count)).map(
@@ -42,9 +42,9 @@ def drawn(generator, most=1_200):
 
 
 def try_random(request, strategy, check, count, at_once=1):
-    """Checks so many random values, or a tenth of them with --quick, and says so in the end. If
-    some are tried at once, the strategy makes lists, which have so many on average. Each test has a
-    seed of its own, which follows from the one that is printed."""
+    """Checks `count` random values, or a tenth with --quick, and reports how many. If `at_once`
+    are tried together, the strategy makes lists of that many on average. Each test has a seed of
+    its own, which follows from the one that is printed."""
     tried, count = [], count // (10 if request.config.getoption("quick") else 1)
 
     @settings(max_examples=count // at_once)

@@ -1,8 +1,9 @@
 """A lock in use: its words, the call that each thread is in the middle of, who holds and who waits.
 
 The words alone decide how a call goes on, by the code in locks/. Holders and queue are kept beside
-them, by what each call came to. The two have to agree whenever a thread enters: it is the first in
-line, and no writer is inside beside it. If they do not, the machine stops with `AssertionError`.
+them, by the outcome of each call. The two have to agree whenever a thread enters: it is the head of
+the queue, if there is one, and no writer is inside beside it. Else the machine stops with
+`AssertionError`.
 """
 from typing import NamedTuple
 
@@ -12,7 +13,7 @@ from locks.steps import WAITS, Words
 
 
 class Made(NamedTuple):
-    """A step that was made. Of a section, which is on all words, no word is told."""
+    """A step that was made. A section is on all words, so it names none."""
     kind: str
     word: object
     found: int  # the word's value before the step
@@ -92,7 +93,7 @@ class Machine:
         return "moved"
 
     def make(self, thread):
-        """Makes the step that is due, and tells of it."""
+        """Makes the step that is due, and describes it."""
         kind, word, _, _ = self.step[thread]
         found = self.words.get(word)
         outcome = self.play(thread, kind)

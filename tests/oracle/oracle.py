@@ -10,7 +10,7 @@ status (0: every move accepted, 1: some report ends with a refusal or a fault).
 It was written from the published algorithms, and in another way than the program, on purpose. The
 program's machines have a phase for each place in a call, a table of steps by phase, and a history
 from which holders and queue follow. Here a call is code as the books print it, a generator that
-stops before each atomic step (locks/), and holders and queue are kept by what the calls came to
+stops before each atomic step (locks/), and holders and queue are kept by the outcomes of calls
 (machine.py). So if the two agree, the result was found in two ways.
 
 Sources: ticket lock and MCS lock, Mellor-Crummey and Scott, ACM TOCS 9(1), 1991; read-write locks

@@ -52,9 +52,9 @@ def is_in_vain(line, last):
 
 
 def turns(dice, threads):
-    """Whose turn it is, without end, and whether the thread may take the lock then. Some threads
-    are slow, and in some runs a thread goes on for a while, or rests before it takes the lock
-    again. So some runs have a queue that does not end, and some have many queues."""
+    """Yields, without end, whose turn it is and whether the thread may take the lock then. Some
+    threads are slow, and in some runs a thread goes on for a while, or rests before it takes the
+    lock again. So some runs have a queue that does not end, and some have many queues."""
     pace = [dice.choice([1, 4, 20]) for _ in range(threads)]
     longest, rest = dice.choice([1, 1, 4, 12]), dice.choice([0, 0, 0.7, 0.95])
     while True:

@@ -36,7 +36,7 @@ class Sketch(NamedTuple):
 
     @property
     def measure(self):
-        """What `measured` has to find of a shortest run."""
+        """The answer of `measured` that is due for a shortest run."""
         occur = sum(not line.startswith("not ") for line in self.lines)
         return self.length, self.length, occur, self.length
 
@@ -85,7 +85,7 @@ def sketches():
 
 
 def names():
-    """By the lock, the name of each kind."""
+    """The name of each kind, by the lock."""
     named = {}
     for lock, kind, name, *_ in rows("kinds"):
         named.setdefault(lock, {})[tuple(kind.split())] = name

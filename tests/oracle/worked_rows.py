@@ -70,7 +70,7 @@ def pieces_of(written):
 
 
 def lines_of(path):
-    """The place and the two parts of each line of a table. What begins with `//` is a remark."""
+    """The place and the two parts of each line of a table. `//` begins a comment."""
     for number, line in enumerate(path.read_text().splitlines(), 1):
         if line and not line.startswith("//"):
             first, arrow, second = line.partition(" => ")

@@ -1,4 +1,4 @@
-"""What is installed and packaged, made once for all tests of this folder. Only root runs them."""
+"""Installed and packaged trees, made once for all tests of this folder. Only root runs them."""
 import os
 import tempfile
 from pathlib import Path
@@ -48,7 +48,7 @@ def made(shared):
 
 @pytest.fixture(scope="session")
 def trees(shared, made):
-    """What `make install` fills, the tarball and the package, unpacked."""
+    """The tree of `make install`, the tarball and the package, unpacked."""
     def fill():
         assert make("install-built", f"DESTDIR={shared}/installed", "PREFIX=/usr/local") == ""
         (shared / "tarball").mkdir(mode=0o755)

@@ -1,4 +1,4 @@
-"""How what is installed and packaged is made, and Debian roots in which commands run."""
+"""Makes what is installed and packaged, and Debian roots in which commands run."""
 import os
 
 from tree import TOP, environment, output, ran
@@ -10,7 +10,7 @@ MANUALS = ["lockreplay.1", "locktrace.1", "lockreplay-schedule.5", "locktrace-tr
 
 
 def make(*words, **how):
-    """What `make` says: of a target that writes a file, the last line is its name."""
+    """The output of `make`, whose last line names the file that a target wrote."""
     how = {"env": environment(), "timeout": 600, **how}
     return output("make", "--no-print-directory", "--silent", *words, cwd=TOP, **how)
 

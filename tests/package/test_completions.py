@@ -93,7 +93,7 @@ CASES = [
     ("locktrace help sp", "locktrace help space "),
 ]
 
-# What each shell reads first. Control-T then writes the line as it is.
+# The first file that each shell reads. Control-T then writes the line as it is.
 SHELLS = {
     "bash": (["bash", "--norc", "--noprofile", "-i"], """
         . /usr/share/bash-completion/bash_completion

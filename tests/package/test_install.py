@@ -1,6 +1,6 @@
-"""What `make install` puts into a folder, and that `make uninstall` takes all of it away again.
+"""`make install` fills a folder, and `make uninstall` takes all of it away again.
 
-Without a part of what is installed nothing is.
+If a part is missing, nothing is installed.
 """
 import re
 import shutil
@@ -12,7 +12,7 @@ from installs import MANUALS, make
 from tree import BUILT, TOP, VERSION, output
 
 LICENCE = "SPDX-License-Identifier: Apache-2.0 OR MIT"
-# What builds each part that is built.
+# The command that builds each part.
 BUILDS = {BUILT["lockreplay"][0]: "cd crates/lockreplay && rt run",
           BUILT["locktrace"][0]: "cd crates/locktrace && rt run",
           BUILT["library"][0]: "cd crates/lk_trace_c && rt lib",
@@ -51,7 +51,7 @@ def test_files(installed):
 
 
 def test_uninstall(tmp_path):
-    """What is another's stays."""
+    """Another's file stays."""
     (tmp_path / "usr/local/bin").mkdir(parents=True)
     (tmp_path / "usr/local/bin/other").write_text("another's\n")
     for target in ("install-built", "uninstall"):
@@ -65,7 +65,7 @@ def test_version(installed, word):
 
 
 def test_licences(installed):
-    """What is copied alone says its licence, and the texts are there."""
+    """A file that is copied alone names its licence, and the texts are there."""
     documents = installed / "share" / "doc" / "lockreplay"
     alone = [*installed.glob("include/**/*.h"), *documents.glob("examples/recording/*.[ch]"),
              *documents.glob("examples/**/*.sh"), *documents.glob("examples/bindings/*"),
@@ -83,7 +83,7 @@ def test_licences(installed):
 @pytest.mark.parametrize("part", [*BUILDS, "record/locktrace.h", "packaging/man/locktrace.1"])
 @pytest.mark.parametrize("is_empty", [False, True])
 def test_missing_part(tmp_path, part, is_empty):
-    """Nothing is installed without one, or with one that a build left empty, and it is named."""
+    """If one is missing, or was left empty by a build, it is named and nothing is installed."""
     copy, root = tmp_path / "copy", tmp_path / "nothing"
     for pattern in [*DOCUMENTS.split(), "packaging/**/*", *BUILDS]:
         for file in filter(Path.is_file, TOP.glob(pattern)):

@@ -34,7 +34,7 @@ def test_manual_page(installed, tmp_path, page):
                   "color summary quiet jobs moves names rounds bits limit runs require"),
 })
 def test_words(installed, name, commands, due):
-    """What a program's help offers is what is due, and each word of it is in the program's page."""
+    """A program's help offers the expected words, and the program's page has each of them."""
     page = (installed / f"share/man/man1/{name}.1").read_text()
     helps = "".join(output(installed / "bin" / name, *command, "--help")
                     for command in ([], *([it] for it in commands.split())))

@@ -1,4 +1,4 @@
-"""What documents of the installed package show, done on a Debian that has the package alone.
+"""Runs what the installed documents show, on a Debian that has the package alone.
 
 In a minimal Debian 12 with a C compiler and the package, the installed documents are copied, and in
 the copy everything is run that each of DOCUMENTS shows. The guide's lock is then built in a folder

@@ -73,7 +73,7 @@ class Release:
                 if file.suffix != ".log"}
 
     def refused(self, file, text):
-        """What a release says while a file has other text."""
+        """The answer of a release while a file has other text."""
         kept = (self.tree / file).read_text()
         (self.tree / file).write_text(text + kept)
         told = self.make()

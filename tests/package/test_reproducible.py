@@ -37,7 +37,7 @@ def debian(request, large):
 
 @pytest.fixture
 def run():
-    """What a command of the shell prints in a tree of a root, which sees the kit."""
+    """The output of a shell command in a tree of a root, which sees the kit."""
     kit = Path(shutil.which("rt")).resolve().parent.parent
 
     def in_tree(root, tree, command):
@@ -63,7 +63,7 @@ def test_artifacts(debian, run, made, tree):
 
 @pytest.mark.parametrize("debian", ["bookworm"], indirect=True)
 def test_build(debian, run):
-    """What was built, but not what was proved, is deleted and built again."""
+    """Builds, but not proofs, are deleted and made again."""
     tree, built = debian / "srv" / "built", [*PACKAGED, BUILT["module"][0]]
     copy_files(tree, ())
     shutil.rmtree(tree / "crates")

@@ -1,6 +1,6 @@
 """The site that `make site` writes: its links and anchors, what it loads, its search, its themes.
 
-It is looked at from disk, as somebody has it who was sent the folder.
+It is read from disk, as by somebody who was sent the folder.
 """
 import re
 from html.parser import HTMLParser
@@ -11,7 +11,7 @@ from installs import make
 from recorders import once
 from tree import EXAMPLES, output
 
-# What a browser loads by itself: all but the links that a reader follows.
+# The links that a browser loads by itself: all but those that a reader follows.
 LOADING = {("script", "src"), ("img", "src"), ("link", "href"), ("iframe", "src"),
            ("source", "srcset"), ("object", "data")}
 CHROMIUM = ("chromium", "--headless", "--no-sandbox", "--disable-gpu", "--virtual-time-budget=9000")
@@ -54,7 +54,7 @@ def documents(site):
 
 
 def fault_of(document, lead, site, documents):
-    """What is wrong with a link from one document to another, or to the page, if anything."""
+    """The fault of a link from one document to another, or to the page, if it has one."""
     path, _, anchor = lead.partition("#")
     file = (document.path.parent / path.partition("?")[0]).resolve() if path else document.path
     if not file.is_file() or not file.is_relative_to(site):

@@ -1,8 +1,8 @@
-"""What is installed, the tarball and the Debian package: what is unpacked runs with nothing else.
+"""The installed tree, the tarball and the Debian package run with nothing else.
 
 Programs run with an empty environment under `chroot`, where the tree and the C library are all
-there is. What is due was made by hand. Programs in C and Python are built on headers and library,
-as a user would build them.
+there is. Expected texts were made by hand. Programs in C and Python are built on headers and
+library, as a user would build them.
 """
 import re
 import shutil
@@ -94,7 +94,7 @@ def test_order(run):
 
 @pytest.mark.parametrize("name", PROGRAMS)
 def test_libraries(tree, name):
-    """The programs ask for the C library alone, and for no version that Debian 12 has not."""
+    """The programs need the C library alone, and no version later than Debian 12's."""
     program = tree.program(name)
     asked = re.findall(r"NEEDED.*\[(.*)\]", output("readelf", "--dynamic", program))
     assert asked == ["libc.so.6"]
@@ -104,7 +104,7 @@ def test_libraries(tree, name):
 
 @pytest.fixture
 def asked(tree):
-    """What pkg-config answers of the packages of the tree."""
+    """The answers of pkg-config on the packages of the tree."""
     path = ":".join(f"{tree.tree}/{folder}/pkgconfig" for folder in FOLDERS)
     return lambda *words: output("pkg-config", *words,
                                  env=environment(PKG_CONFIG_PATH=path)).split()

@@ -1,11 +1,11 @@
-// Who has no mouse, no large screen, or does not see: what has the focus, what is said, what fits.
+// For readers without a mouse, a large screen or sight: the focus, the speech, and what fits.
 
 const tag = (node) => node.id || node.tagName.toLowerCase();
 
 const stops = () => all('*').filter((one) => one.tabIndex >= 0 && one.checkVisibility()
   && !one.disabled).map(tag);
 
-// What has the focus, and whether it is seen to have it.
+// The element that has the focus, and whether it is seen to have it.
 function ring() {
   const one = document.activeElement;
   const { outlineStyle, outlineWidth } = getComputedStyle(
@@ -75,7 +75,7 @@ function colours() {
 // Whether the browser says that the system asks for this.
 const isAsked = (name, wanted) => matchMedia(`(${name}: ${wanted})`).matches;
 
-// What is seen where the system has colours of its own: the bars of lines of code, buttons, and
+// The look where the system has colours of its own: the bars of lines of code, buttons, and
 // the ground of pictures.
 function inForcedColours() {
   const { backgroundColor } = styleOf('#code');

@@ -1,4 +1,4 @@
-// What is shown, and where it is kept: in the address, in the history and in the browser.
+// The view, and where it is kept: in the address, in the history and in the browser.
 
 // Whether this text is shown, and at this place if one is given.
 function shows(letters, place) {

@@ -1,7 +1,7 @@
 """Debian's Chromium and Firefox, headless, spoken to by WebDriver BiDi over a web socket.
 
-What a browser sees of the machine is some families of letters (fonts.conf), and neither a user's
-settings nor the place and the language of the machine.
+A browser sees some of the machine's fonts (fonts.conf), and neither a user's settings nor the place
+and the language of the machine.
 """
 import contextlib
 import json
@@ -16,7 +16,7 @@ import websocket
 FONTS = Path(__file__).with_name("fonts.conf")
 PATIENCE = 120  # seconds
 STARTS = 3
-# What each of the two says where it listens.
+# How each of the two says where it listens.
 LISTENS = re.compile(rb"(?:listening on ws://[\w.]+:|successfully on port )(\d+)")
 EVENTS = ["network.beforeRequestSent", "log.entryAdded"]
 ARGUMENTS = [
@@ -27,9 +27,9 @@ ARGUMENTS = [
 # Few pictures a second are drawn, since nobody looks at them. A test asks for the layout, which is
 # made anew for each answer. At 60 a second a fifth of the work would go into pictures.
 UNSEEN = {"layout.frame_rate": 10}
-# A page is told of fingers, also where there is no screen to touch.
+# A page gets touch events, also where there is no screen to touch.
 TOUCHED = {"dom.w3c_touch_events.enabled": 1}
-# What Firefox calls what a system asks for.
+# Preferences of Firefox for what a system asks for.
 IN_PREFERENCES = {
     ("forced-colors", "active"): ("browser.display.document_color_use", 2),
     ("prefers-reduced-motion", "reduce"): ("ui.prefersReducedMotion", 1),
@@ -38,8 +38,8 @@ IN_PREFERENCES = {
 
 
 class Browser:
-    """A browser, and what it told besides answers. `media` are features that it is told in each tab
-    that the system asks for."""
+    """A browser, and its messages besides answers. `media` are features that each tab is told that
+    the system asks for."""
 
     def __init__(self, port, home, media, capabilities):
         self.home, self.media, self.number, self.told = Path(home), media, 0, []

@@ -1,4 +1,4 @@
-// What the page's module writes into the memory that it is lent, byte by byte:
+// The bytes that the page's module writes into the memory that it is lent:
 //
 //     node tests/page/bytes.mjs MODULE.wasm
 //
@@ -10,7 +10,7 @@ import assert from 'node:assert/strict';
 import { RECORD_BYTES, STATE_BYTES } from '../../page/src/machine/machine.js';
 import { bytesOf, machineOf } from './node.mjs';
 
-// What is in the lent memory before a call.
+// The byte that fills the lent memory before a call.
 const OLD = 0x99;
 
 // Thread 1 of an MCS lock is in the queue, and its record is not linked yet.

@@ -58,8 +58,8 @@ def media():
 
 @pytest.fixture(params=list(BROWSERS))
 def page(request, browsers, media):
-    """The page in one of the browsers. Nothing may have been asked of anybody in the end, and
-    nothing have gone wrong unseen."""
+    """The page in one of the browsers. In the end it must have made no request, and no error may
+    have gone unseen."""
     name = request.module.__name__.removeprefix("test_")
     with browsers.tab(name, request.param, tuple(media.items())) as tab:
         yield tab

@@ -1,4 +1,4 @@
-"""How much letters stand out, as the Web Content Accessibility Guidelines 2.2 count it."""
+"""The contrast of letters, by the Web Content Accessibility Guidelines 2.2."""
 
 
 def luminance(colour):

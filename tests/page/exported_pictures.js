@@ -47,7 +47,7 @@ async function groundOf(parts) {
   return `rgb(${pen.getImageData(3, 3, 1, 1).data.join()})`;
 }
 
-// What an animated picture consists of, and its width as the browser finds it.
+// The parts of an animated picture, and its width as the browser finds it.
 async function animation(from, to) {
   click('#show-take');
   byId('take-from').value = from;

@@ -1,4 +1,4 @@
-// What can be taken away, as it is handed to the browser or to the clipboard.
+// Exports, as they are handed to the browser or to the clipboard.
 
 // Takes it, and gives the name of the file with its bytes as letters.
 async function take(what) {

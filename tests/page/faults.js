@@ -2,10 +2,10 @@
 
 const open = (letters) => show(lettersOf(new TextEncoder().encode(letters)));
 
-// What is offered to be written in place of a line.
+// The text that is offered in place of a line.
 const offered = () => document.querySelector('#verdict [data-mend]')?.dataset.mend ?? null;
 
-// What of a text was taken for markup: elements that the page does not have, and a script that ran.
+// Text that was taken for markup: elements that the page does not have, and a script that ran.
 const markup = () => [count('img, h1 b, main b b, i, main h1, #paper b, main script, main style'),
   window.broken ?? null, byId('title').textContent];
 
@@ -17,7 +17,7 @@ const drawPaper = () => dispatchEvent(new Event('beforeprint'));
 const allText = () => ['main', '#verdict']
   .map((one) => document.querySelector(one).textContent).join('');
 
-// What is wider than the panel or than its own box.
+// Elements that are wider than the panel or than their own box.
 function wide() {
   const { right } = rect(byId('side'));
   return all('#verdict, #verdict *').filter((one) => rect(one).right > right + 1

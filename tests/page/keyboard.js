@@ -1,4 +1,4 @@
-// What is said of each tool that has a key.
+// The tip of each tool that has a key.
 
 const tools = () => Object.fromEntries(all('.tools button:has(kbd)')
   .map((one) => [text(`#${one.id} kbd`), one.title]));

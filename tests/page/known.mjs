@@ -1,9 +1,9 @@
-// What the page reads off records in the place of replays, against replays by the page's module:
+// Runs that the page reads off records, against replays by the page's module:
 //
 //     node tests/page/known.mjs MODULE.wasm
 //
-// Of each example, what is said of its first lines, and of the text without its comments. Of the
-// examples of read-write locks, and of random schedules, the same turns on the other lock, against
+// For each example, the run of its first lines, and of the text without its comments. For the
+// examples of read-write locks, and for random schedules, the same turns on the other lock, against
 // those found move by move, each by a replay; and how many replays both ways took.
 
 import assert from 'node:assert/strict';
@@ -38,7 +38,7 @@ const playsOf = (machine, act) => {
   return { result, plays: machine.plays - before };
 };
 
-// What is shown of a run: its report, the lines of its moves, and its first and last state.
+// The view of a run: its report, the lines of its moves, and its first and last state.
 function shownOf(run) {
   if (!run.hasLock) return [reportOf(run)];
   const threads = Array.from({ length: run.threads }, (_, thread) => thread);
@@ -57,8 +57,8 @@ function beginnings(text) {
   return ends.flatMap((at) => [text.slice(0, at), text.slice(0, at + 1)]);
 }
 
-// Of a text that is known to begin with it nothing is played, unless no move or the refused one is
-// in it.
+// A known text that begins with this one saves its replay, unless it has no move or the refused
+// one.
 function checkBeginnings(machine, text) {
   const whole = new Run(machine, text);
   for (const part of beginnings(text)) {
@@ -82,7 +82,7 @@ function checkWithout(machine, text) {
   }
 }
 
-// The same turns on the other lock, where the machine is asked before each.
+// The same turns on the other lock, if the machine is asked before each.
 function moveByMove(machine, run) {
   const { records } = run;
   const calls = Array.from({ length: run.threads }, () => []);

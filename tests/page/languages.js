@@ -22,7 +22,7 @@ function cutNow() {
 
 const cut = (name) => atEachPlace(name, cutNow);
 
-// What a stretch of a lane means, by its kind, as the legend has it.
+// The meaning of a stretch of a lane, by its kind, as the legend has it.
 const signs = () => Object.fromEntries(all('#legend > span').filter((one) => (
   one.querySelector('.span'))).map((one) => [one.querySelector('.span').classList[1],
   plain(one.textContent)]));

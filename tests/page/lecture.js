@@ -31,7 +31,7 @@ function compared() {
   return [Math.min(...letters), below.top - above.top].map((one) => one / innerHeight);
 }
 
-// What of the picture of memory is seen whole.
+// The parts of the picture of memory that are seen whole.
 const seenOfMemory = () => all('#memory-picture text')
   .filter((one) => inside(rect(one), rect(byId('memory')))).map((one) => plain(one.textContent));
 

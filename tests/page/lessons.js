@@ -14,7 +14,7 @@ function atMove() {
 }
 
 
-// What is written in the picture of memory, and what each line of code is marked with.
+// The texts in the picture of memory, and the marks of each line of code.
 const memoryAt = (moves) => moves.map((move) => {
   go(move);
   return [texts('#memory-picture text'), texts('#code-lines .code-line')];

@@ -1,5 +1,5 @@
-// What the page's modules that know no lock give, in Node. Each value was made by hand, from what
-// the head of the module says.
+// The page's modules that know no lock, in Node. Each value was made by hand, from the head of the
+// module.
 //
 //     node tests/page/lib.mjs
 

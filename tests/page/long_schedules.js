@@ -20,7 +20,7 @@ const mean = (act, times) => timed(() => {
 
 const least = (rounds, act) => Math.min(...Array.from({ length: rounds }, act));
 
-// Of a text from its bytes on, after a lesson, since a text that is shown is not played again.
+// Loads a text from its bytes on, after a lesson, since a text that is shown is not played again.
 function loads(letters, rounds) {
   const text = bytesOf(letters);
   return least(rounds, () => {
@@ -30,7 +30,7 @@ function loads(letters, rounds) {
   });
 }
 
-// Of a step, the mean of some from each of these places; and of a jump.
+// The mean time of some steps from each of these places; and the time of a jump.
 function steps(places, times, rounds) {
   const stretches = places.map((from) => least(rounds, () => {
     timed(() => go(from));
@@ -40,8 +40,8 @@ function steps(places, times, rounds) {
   return [...stretches, jumps];
 }
 
-// Of an edit of a text of 354,000 bytes, at whose end a letter is typed. To set the field is the
-// browser's, and is not counted.
+// Types a letter at the end of a text of 354,000 bytes. The browser's own work to set the field is
+// not counted.
 function edits(rounds) {
   show(`${BEGUN}${'1 read\n'.repeat(50560)}`);
   return least(rounds, (_, round) => {
@@ -61,8 +61,8 @@ function typedAtCaret(letter) {
   return settle;
 }
 
-// Of each key of a line that is typed some times at the end of 10,004 moves, and of the pause after
-// it, in which the text is played: the least of the times.
+// The least time of each key of a line that is typed some times at the end of 10,004 moves, and of
+// the pause after it, in which the text is played.
 function typing(line, times) {
   show(`${BEGUN}${'1 read\n'.repeat(10000)}`);
   inMode('own');

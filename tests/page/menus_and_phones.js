@@ -1,4 +1,4 @@
-// What a reader does every day: menu, files, phones and low windows.
+// The daily work of a reader: menu, files, phones and low windows.
 
 const isMenu = () => document.body.classList.contains('menu');
 

@@ -1,4 +1,4 @@
-// What the page reads off a lock's code, names and records, in Node. It was made by hand, from
+// Facts that the page reads off a lock's code, names and records, in Node; made by hand, from
 // docs/LOCKS.md and reports: the moves of each lock, what threads are called, where two runs
 // differ, what threads are doing, which write ended which wait, what is said below memory, and that
 // a count wraps around.
@@ -68,7 +68,7 @@ for (const { name, text } of examples().filter((one) => ARROWS[one.name])) {
   assert.equal(arrowsBetween(arrows, ends, 1, to - 1).length, 0);
 }
 
-// What each thread is doing, and from which move to which; an MCS record is linked by the second
+// The activity of each thread, and from which move to which; an MCS record is linked by the second
 // write after the swap. What goes on at the end goes on beyond the last move.
 const SPANS = {
   'mcs-late-link': [['call 1 3', 'holds 3 15'], ['call 4 8', 'queue 8 16', 'holds 16 17']],

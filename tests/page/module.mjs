@@ -2,7 +2,7 @@
 //
 //     node tests/page/module.mjs MODULE.wasm [SCHEDULE...]
 //
-// Of each example: the whole report, as it was written by hand; the words that a record names,
+// For each example: the whole report, as it was written by hand; the words that a record names,
 // against the states before and after it; the states that the page reads off the records, with
 // allowed calls, against those that the machine writes; who waits, against what is answered to the
 // same moves with the due step after them, and so each thread's allowed calls and due step at the
@@ -26,7 +26,7 @@ const MOST_WORDS = 129;
 const A_WRITER = 3;
 const MCS = 1;
 
-// What the lent memory holds after `play` was handed room for so many bytes.
+// The contents of the lent memory after `play` was handed room for so many bytes.
 function playRaw(machine, text, recordBytes, stateBytes) {
   const recordsAt = STATE_BYTES + 64;
   machine.text = null;
@@ -65,7 +65,7 @@ function checkThread(records, move, after) {
   assert.equal(records.due(move), after.dueStep(thread));
 }
 
-// Who waits has just polled in vain, or is in the queue and would poll in vain now.
+// A thread that waits has just polled in vain, or is in the queue and would poll in vain now.
 function checkWaits(machine, text, run, move, after) {
   const { records } = run;
   const thread = records.thread(move);
@@ -81,7 +81,7 @@ function checkWaits(machine, text, run, move, after) {
 const textUpTo = (text, line) => new TextDecoder('latin1').decode(text).split('\n')
   .slice(0, line).join('\n');
 
-// Who is not linked is in the queue, and the `next` of the thread before it does not name it.
+// An unlinked thread is in the queue, and the `next` of its predecessor does not name it.
 function checkLinks(run, move, after) {
   if (after.kind !== MCS) return;
   after.queue.slice(1).forEach((thread, i) => {
@@ -92,7 +92,7 @@ function checkLinks(run, move, after) {
   });
 }
 
-// What is read off the records of the state after a move, and what the machine says of it.
+// The state after a move as it is read off the records, and as the machine has it.
 function checkMoment(run, move) {
   const threads = Array.from({ length: run.threads }, (_, thread) => thread);
   const words = Array.from({ length: MOST_WORDS }, (_, index) => index);

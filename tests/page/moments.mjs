@@ -2,11 +2,11 @@
 //
 //     node tests/page/moments.mjs MODULE.wasm
 //
-// Of each row of tests/rows/sketches.txt: the length of the run that is found, or the number of
-// states if there is none; the run is accepted by `play`, and has the lines. Of each kind of
+// For each row of tests/rows/sketches.txt: the length of the run that is found, or the number of
+// states if there is none; the run is accepted by `play`, and has the lines. For each kind of
 // transition: its name, as in tests/rows/kinds.txt, and after how many moves the run that its
-// sketch finds takes it, and the run from a new lock to this kind, as it says too. Of
-// each row of tests/rows/soon.txt: the same of a run from a state. Then what is answered if memory,
+// sketch finds takes it, and the run from a new lock to this kind, as it says too. For
+// each row of tests/rows/soon.txt: the same for a run from a state. Then the answers if memory,
 // moves or a line are at fault.
 
 import assert from 'node:assert/strict';

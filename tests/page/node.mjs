@@ -1,4 +1,4 @@
-// What the tests in Node share: the machine of the module that is named first on the command line,
+// Shared by the tests in Node: the machine of the module that is named first on the command line,
 // examples, and texts as bytes.
 
 import { readFileSync, readdirSync } from 'node:fs';

@@ -1,4 +1,4 @@
-// What is printed.
+// The printed pages.
 
 const drawPaper = () => dispatchEvent(new Event('beforeprint'));
 

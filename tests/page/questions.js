@@ -1,4 +1,4 @@
-// What is beside a question.
+// The parts beside a question.
 
 const seen = (selector) => all(selector).filter((one) => one.checkVisibility())
   .map((one) => plain(one.textContent)).join(' ');

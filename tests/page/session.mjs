@@ -179,8 +179,8 @@ edited.keepRemarks();
 assert.deepEqual([edited.stale, edited.remarks.ask.get(3)], [[], 'Who holds?']);
 assert.equal(edited.twin().machine, machine);
 
-// What is known of a run is not played again: the same text, and the beginning of one. A run of no
-// move, and a refused one, are played.
+// A known run saves a replay: of the same text, and of its beginning. A run of no move, and a
+// refused one, are played.
 let plays = 0;
 const counting = { play: (...words) => { plays += 1; return machine.play(...words); } };
 const known = new Run(counting, text(...TWO));

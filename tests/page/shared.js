@@ -1,5 +1,5 @@
-// What tests of the page share. Each function is called by its name inside the page, with values of
-// JSON. The .js file of a test is read after this one.
+// Functions that tests of the page share. Each is called by its name inside the page, with values
+// of JSON. The .js file of a test is read after this one.
 
 const port = window.lockreplay?.test;
 const byId = (id) => document.getElementById(id);
@@ -12,14 +12,14 @@ const styleOf = (selector) => getComputedStyle(document.querySelector(selector))
 const inside = (one, other) => one.left >= other.left - 1.5 && one.right <= other.right + 1.5
   && one.top >= other.top - 1.5 && one.bottom <= other.bottom + 1.5;
 
-// What the page's rules against strangers refuse is told as an error.
+// Reports as an error what the page's Content-Security-Policy refuses.
 function reportViolations() {
   addEventListener('securitypolicyviolation', ({ violatedDirective, blockedURI }) => {
     console.error(`${violatedDirective}: ${blockedURI}`);
   });
 }
 
-// What an earlier test has left in this browser.
+// Clears what an earlier test left in this browser.
 function forget() {
   if (location.protocol === 'file:') localStorage.clear();
 }
@@ -30,13 +30,13 @@ const isMarked = () => localStorage.getItem('mark') === 'set';
 
 const isThere = () => document.readyState === 'complete' && Boolean(window.lockreplay);
 
-// A document is complete before its page has begun, which waits for the letters.
+// A document is complete before its page has begun, which waits for the fonts.
 function isAt(url) {
   const hasBegun = url.startsWith('about:') ? document.readyState === 'complete' : isThere();
   return hasBegun && location.href.split('#')[0] === url;
 }
 
-// Before the page's script: letters that come late.
+// Before the page's script: fonts that load late.
 function delayLetters() {
   const { load } = FontFace.prototype;
   FontFace.prototype.load = async function later() {

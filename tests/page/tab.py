@@ -44,7 +44,7 @@ class Tab:
         return self.browser.ask(method, context=self.context, **params)
 
     def js(self, name, *values):
-        """What a function gives of these values, all of them as JSON."""
+        """The result of a function of these values, all of them as JSON."""
         function = (f"async (values) => {{ {self.scripts}\n"
                     f"return JSON.stringify(await {name}(...JSON.parse(values)) ?? null); }}")
         answer = self.browser.ask(
@@ -84,8 +84,8 @@ class Tab:
             f"{name}{values} is not {wanted!r}, but {self.js(name, *values)!r}"))
 
     def open(self, fragment="", path=PAGE):
-        """Loads the page, or a changed one, also if it is there: one does not just go to another
-        fragment of it."""
+        """Loads the page, or a changed one, anew even if it is open: a new fragment alone would not
+        load it."""
         self.path = path
         if self.js("isThere"):
             self.load("about:blank")
@@ -93,13 +93,13 @@ class Tab:
         self.no_longer("forget")
 
     def load(self, url):
-        """Goes to a page and waits for it. The browser's own word that it is there can be lost
-        where another process takes the tab over, so the page itself is asked."""
+        """Goes to a page and waits for it. The browser's own event can be lost where another
+        process takes the tab over, so the page itself is asked."""
         self.ask("browsingContext.navigate", url=url, wait="none")
         self.wait(lambda: self.tried("isAt", url.partition("#")[0]), lambda: f"{url} did not load")
 
     def tried(self, name, *values):
-        """What a function gives. While a page is on its way nobody may answer."""
+        """The result of a function. While a page loads nobody may answer."""
         self.browser.socket.settimeout(ASKED_AGAIN)
         try:
             return self.js(name, *values)
@@ -161,7 +161,7 @@ class Tab:
         self.js("undo")
 
     def shown(self, **wanted):
-        """What is shown, once these parts of it are as wanted."""
+        """The view, once these parts of it are as wanted."""
         return self.until("shownWith", wanted)
 
     # What a test takes from a browser
@@ -186,7 +186,7 @@ class Tab:
         self.browser.end_tab()
 
     def strangers(self):
-        """What was asked of anybody but the page, or went wrong unseen, since the last time."""
+        """Requests beyond the page, and errors that were not shown, since the last time."""
         self.browser.ask("session.status")
         told, self.browser.told = self.browser.told, []
         events = [(one["method"], one["params"]) for one in told if "method" in one]

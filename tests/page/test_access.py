@@ -56,7 +56,7 @@ def test_what_is_read_aloud(page):
 
 
 def test_the_names_of_the_foot(page):
-    """Each button does what it is called."""
+    """Each button does what its name says."""
     page.open("#lesson=mcs-late-link&move=3")
     for name, place in [("One move forward", 4), ("One move back", 3), ("Last move", 16),
                         ("First move", 0)]:
@@ -68,7 +68,7 @@ def test_everything_has_a_name(page):
     """Each control and part, and each picture; and each move is spoken."""
     page.open(LATE_LINK)
     assert page.js("nameless") == []
-    # What the question asks for is spoken once its answer is shown.
+    # A fact that the question asks for is spoken once its answer is shown.
     assert "compare-and-swap fails" not in page.text("#spoken")
     page.press("a")
     spoken = page.text("#spoken")
@@ -128,7 +128,7 @@ def test_colours_of_the_system(page, media, theme):
     assert contrast(shown["letters"], shown["ground"]) >= 4.5, shown
 
 
-# What a move is shown by: a word and a link that it changes, the line of code and the thread on its
+# Signs of a move: a word and a link that it changes, the line of code and the thread on its
 # way to the next one; who enters, and the arrow from the write that let it.
 MOVED = {
     "#lesson=mcs-late-link&move=3": [

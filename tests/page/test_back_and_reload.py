@@ -57,7 +57,7 @@ def test_a_paste_that_is_no_schedule(page):
 
 
 def test_a_paste_without_a_text(page):
-    """As of a picture: it does not empty a schedule of one's own."""
+    """A pasted picture does not empty a schedule of one's own."""
     page.open(LESSON)
     page.show(MINE)
     page.js("paste", "")
@@ -107,7 +107,7 @@ def test_a_long_schedule(page):
 
 
 def test_a_link_from_disk(page):
-    """Who copies it is told that it names a file of this disk."""
+    """A reader who copies it is told that it names a file of this disk."""
     page.open(LESSON)
     page.press("l")
     assert "on your disk" in page.until("notice")

@@ -26,7 +26,7 @@ SWAPPED = ["1 swap\n0 cas\n", "0 cas\n1 swap\n"]
 
 
 def test_an_edit_leaves_out_what_no_longer_holds(page):
-    """What was typed stays in the field; written back, all holds again; or it is kept as it is."""
+    """The typed text stays in the field; written back, all holds again; or it is kept as it is."""
     page.open("#lesson=mcs-late-link&move=16")
     before = page.shown()["held"]
     page.press("e")

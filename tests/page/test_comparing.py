@@ -101,7 +101,7 @@ def test_what_it_needs(page):
 
 
 def test_nothing_is_offered_to_itself(page):
-    """Of two schedules that are kept, the other one."""
+    """The other one of two schedules that are kept."""
     page.open("#lesson=ticket-hand-over&move=5")
     for title, thread in [("First", 0), ("Second", 1)]:
         page.show(f"#! title {title}\nlock ticket threads 2\n{thread} acquire\n")

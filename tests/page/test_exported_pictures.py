@@ -17,7 +17,7 @@ def tree_of(page, *parts):
 
 
 def texts(tree):
-    """What each text of a picture says; its style is none."""
+    """The words of each text of a picture; its style is none."""
     found = tree.iter("{http://www.w3.org/2000/svg}text")
     return [" ".join(" ".join(one.itertext()).split()) for one in found]
 

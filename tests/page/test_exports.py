@@ -1,4 +1,4 @@
-"""What can be taken away: pictures, the report, a frame; and what the page says of itself."""
+"""Exports: pictures, the report, a frame; and what the page says of itself."""
 import xml.etree.ElementTree
 
 import pytest

@@ -3,7 +3,7 @@ import pytest
 
 HEADER = "lock ticket threads 2\n"
 CALLED = f"{HEADER}0 acquire\n"
-# A text, the line that is marked, how many moves come before it, and what is said of it.
+# A text, the line that is marked, how many moves come before it, and the message.
 FAULTS = [
     ("lock MCS threads 2\n0 acquire\n", 1, 0,
      ["Unknown lock MCS", "Did you mean “mcs”?", "BadHeader"]),
@@ -156,7 +156,7 @@ def test_markup_is_text(page):
     f"{HEADER}0 {'x' * 5000}\n", f"lock {'y' * 900} threads 2\n", f"{'9' * 300} add\n"],
     ids=["move", "lock", "number"])
 def test_a_long_word_stays_inside(page, text):
-    """Whatever is found in a line is broken where the panel ends."""
+    """Any text found in a line is broken where the panel ends."""
     page.open()
     page.js("open", text)
     assert page.js("wide") == []

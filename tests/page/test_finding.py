@@ -26,7 +26,7 @@ def ask(page, **fields):
 
 
 def shown_lines(page):
-    """What is shown, and the lines of its text that are no comments."""
+    """The view, and the lines of its text that are no comments."""
     shown = page.shown()
     return shown, [line for line in shown["text"].splitlines() if not line.startswith("#")]
 

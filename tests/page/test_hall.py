@@ -119,7 +119,7 @@ def chosen_and_opened_again(page):
     page.open(f"{LATE_LINK}&theme=dark")
     assert page.js("theme") == "dark"
     page.js("mark")
-    # What opening writes into the address is written by then.
+    # Opening has written the address by then.
     page.js("leave")
     page.press("d")
     page.until("addressEnds", "&theme=light")

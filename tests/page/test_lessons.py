@@ -108,7 +108,7 @@ def test_what_was_there(page, lesson, wrote):
     assert page.js("wrote", list(wrote)) == list(wrote.values())
 
 
-# Of the late link: what some moves did, with the threads that they name.
+# Sentences on some moves of the late link, with the threads that they name.
 SENTENCES = {
     8: "Bob swaps the tail and finds Ann; it is in the queue from here on, though no word of "
        "Ann's record says so.",

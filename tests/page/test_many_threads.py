@@ -45,7 +45,7 @@ def test_what_moves_is_in_view(page, lockreplay, lock, threads):
 
 
 def test_idle_lanes_are_folded(page):
-    """Of twenty threads, all of which move once, only those that are busy in view have lanes."""
+    """Twenty threads move once, and only those that are busy in view have lanes."""
     page.open()
     lines = ["lock ticket threads 20"]
     for thread in range(20):
@@ -83,7 +83,7 @@ def test_the_line_a_thread_makes_next(page, lock, call, line):
 
 
 def test_marks_beside_a_line(page):
-    """Of eight threads at one line of code five are marked, and three counted."""
+    """Five of eight threads at one line of code are marked, and three counted."""
     page.open()
     page.show("lock ticket threads 8\n" + "".join(f"{thread} acquire\n" for thread in range(8)), 8)
     assert page.js("texts", "#code-lines .more") == ["+3"]

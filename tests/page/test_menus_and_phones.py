@@ -1,4 +1,4 @@
-"""What a reader does every day: the menu, files that are dropped, long titles and texts, phones,
+"""The daily work of a reader: the menu, files that are dropped, long titles and texts, phones,
 and low windows."""
 import pytest
 
@@ -124,7 +124,7 @@ def test_a_long_title(page):
 
 
 def test_a_text_that_is_too_large(page):
-    """What is said in its place is seen whole."""
+    """The text in its place is seen whole."""
     page.open(LESSON)
     page.show("lock ticket threads 2\n0 acquire\n0 add\n1 acquire\n1 add\n" + "1 read\n" * 65000)
     said, wrap = page.js("instead")
@@ -198,7 +198,7 @@ def test_nothing_is_off_a_low_screen(page, width, height):
 
 
 def test_ticks_that_would_be_a_bar(page):
-    """Of many entries the slider shows none; of few each."""
+    """The slider shows each of few entries, and none of many."""
     page.open("#lesson=ticket-wraps-at-2-bits&move=28")
     ticks = "#slider-picture .tick.enters"
     assert page.js("count", ticks) == 5
@@ -208,7 +208,7 @@ def test_ticks_that_would_be_a_bar(page):
 
 
 def test_without_the_machine(page):
-    """What needs it cannot be chosen, and the banner goes if one asks."""
+    """A tool that needs it cannot be chosen, and the banner goes if one asks."""
     page.before("withoutMachine")
     page.resize(1366, 768)
     page.open(LESSON)

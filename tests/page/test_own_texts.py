@@ -65,7 +65,7 @@ def test_dropped_and_pasted(page):
 
 
 def test_saved(page, tmp_path):
-    """What is saved is the schedule, byte for byte."""
+    """The schedule is saved byte for byte."""
     data = b"# \xff no text\r\nlock ticket threads 1\n0 acquire"
     path = tmp_path / "mine.txt"
     path.write_bytes(data)

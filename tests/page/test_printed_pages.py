@@ -59,7 +59,7 @@ def turns(threads, count):
 
 @pytest.mark.parametrize("threads, count", [(2, 1500), (8, 60), (12, 60), (64, 381), (64, 65536)])
 def test_a_long_schedule(page, threads, count):
-    """Of a long schedule as many moves around the current one as twelve sheets have room for."""
+    """A long schedule has as many moves around the current one as fit on twelve sheets."""
     page.open()
     page.show(turns(threads, count), count // 2)
     number = sheets(page.pdf())
@@ -85,7 +85,7 @@ def test_memory_and_code(page):
 
 
 def test_an_exercise_sheet(page):
-    """What a thread called is there; what came of it, and the answers, are blanks."""
+    """The calls of threads are there; their outcomes, and the answers, are blanks."""
     page.open(LATE_LINK)
     assert page.js("print", "exercise") == "exercise"
     rows, said = page.js("rows"), page.js("words", "#paper")
@@ -98,7 +98,7 @@ def test_an_exercise_sheet(page):
 
 
 def test_after_an_exercise_sheet(page):
-    """What the browser's own command prints has answers again."""
+    """The browser's own command prints answers again."""
     page.open(LATE_LINK)
     page.js("print", "exercise")
     page.js("drawPaper")

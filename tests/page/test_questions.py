@@ -1,4 +1,4 @@
-"""What a question asks for is not beside it before its answer is shown, in neither view."""
+"""A fact that a question asks for is in neither view before its answer is shown."""
 import re
 
 import pytest
@@ -101,7 +101,7 @@ def test_a_step_stops_once(page, look, key):
 
 
 def test_the_end_waits_for_the_answer(page):
-    """What one learns would say it, if the last move has a question."""
+    """The lesson's point would say it, if the last move has a question."""
     page.open()
     page.show(f"#! learn Who comes first.\n{OWN}", 5)
     ended = ("count", "#now .last")

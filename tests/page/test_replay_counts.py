@@ -62,7 +62,7 @@ def test_no_play_for_what_is_known(page):
     ("#lesson=simple-second-writer&move=7", "g", WITH_THE_OTHER_LOCK)],
     ids=["play", "text", "two locks"])
 def test_plays_of_acts(page, link, key, acts):
-    """Of what a click, a key or typing does, after the page has settled."""
+    """The replays of a click, a key or typing, after the page has settled."""
     page.open(link)
     page.press(key)
     assert [(what, page.js("playsOf", act)) for what, act, _ in acts] == [

@@ -31,7 +31,7 @@ def test_without_a_link(page):
 
 
 def test_a_link_opens_its_lesson(page):
-    """By whose title the window goes."""
+    """The window has its title."""
     page.open("#lesson=mcs-late-link&move=3")
     assert not page.js("isOpen") and page.text("title") == "The late link - lockreplay"
 

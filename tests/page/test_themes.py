@@ -22,7 +22,7 @@ def test_themes(page, is_dark):
 
 
 def test_without_colour(page):
-    """What a colour says, a pattern, a shape or a word says as well."""
+    """Each meaning of a colour has a pattern, a shape or a word as well."""
     page.open("#lesson=fifo-reader-waits-behind-writer&move=6")
     line, reads, call = page.js("fills", ["queue", "reads", "call"])
     assert "hatch" in line and "ruled" in reads and "url" not in call

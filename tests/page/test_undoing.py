@@ -63,7 +63,7 @@ def test_a_letter_in_the_text_is_no_undo(page):
 
 
 def test_edits_are_one_change(page):
-    """What was typed, one letter after another, is undone at once."""
+    """A text typed one letter after another is undone at once."""
     page.open("#lesson=ticket-hand-over&move=5")
     page.press("e")
     lesson = page.shown()

@@ -62,7 +62,7 @@ def answered(name):
     return sorted(asked & answered)
 
 
-# Of each lesson that has a lock, the moves whose question has an answer.
+# The moves, in each lesson that has a lock, whose question has an answer.
 ASKED_IN = {name: answered(name) for name, report in LESSONS.items()
             if not report.startswith(("fault", "refused"))}
 

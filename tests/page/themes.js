@@ -38,7 +38,7 @@ function namesDrawn(letters) {
   };
 }
 
-// What comes, drawn faintly. A colour over another, of which it takes a share.
+// Later moves, drawn faintly. A colour over another, of which it takes a share.
 
 const numbers = (colour) => colour.match(/[\d.]+/g).slice(0, 3).map(Number);
 

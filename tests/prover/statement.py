@@ -112,7 +112,7 @@ def read_all():
 
 
 def reached(files, root):
-    """What is reached from a definition, itself among it."""
+    """The definitions reached from one, itself included."""
     seen, waiting = set(), [root]
     while waiting:
         module, name = waiting.pop()

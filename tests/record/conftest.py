@@ -33,7 +33,7 @@ def tour(shared, locktrace):
 
 
 def pytest_sessionfinish(session):
-    """Writes what was found of planted mistakes, if that was asked for."""
+    """Writes what was found of planted mistakes, if asked to."""
     reporter = session.config.pluginmanager.get_plugin("terminalreporter")
     if reporter is None or not session.config.getoption("write_planted"):
         return

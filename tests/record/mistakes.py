@@ -1,4 +1,4 @@
-"""The mistakes of the recorders' suite: where each shows, and by how much.
+"""The mistakes of the recorders' suite: where each shows, and how often.
 
 A mistake is a patch, mistakes/RECORDER/EXAMPLE/NAME.patch, which `git apply` takes. It shows in a
 seeded run's trace, in a line that a function of signs.py finds, or the run hangs.
@@ -40,8 +40,8 @@ IN_C = [Mistake("c", *of) for of in (
     ("rw_simple", "ignores-readers", signs.writes_beside_another, MOST, None, True),
     ("rw_fifo", "passes-announced-writer", signs.passes_a_writer, MOST, None, True),
 )]
-# A reader that wakes nobody shows only where no other writer comes, whose unlock wakes all, and
-# where nobody is woken for nothing instead.
+# A reader that wakes nobody shows only if neither the unlock of another writer, which wakes all,
+# nor a spurious wakeup hides it.
 IN_RUST = [Mistake("rust", *of) for of in (
     ("ticket", "waits-while-less", signs.enters_at_another_ticket, EACH, None, False),
     ("ticket", "serves-the-next-ticket", signs.serves_another_ticket(8), EACH, 1, True),

@@ -46,7 +46,7 @@ def language(compiler, standard="17"):
 
 
 def compile_c(compiler, source, target, *flags, library=None, standard="17"):
-    """What the compiler says: nothing if it has no error and no warning."""
+    """The compiler's output: empty if it has no error and no warning."""
     done = ran(compiler, *language(compiler, standard), *WARNINGS, "-O2", "-pthread", *flags, "-o",
                target, source, *(["-x", "none", library] if library else []))
     return done.stderr + (f"status {done.returncode}" if done.returncode else "")
@@ -125,7 +125,7 @@ class InRust(Recorder):
         return self.folder / "crate"
 
     def cargo(self, *words, tool="cargo", crate=None, level="3"):
-        """What Debian's cargo says: nothing if all is well. It is as old as any that the crate is
+        """The output of Debian's cargo: empty if all is well. It is as old as any that the crate is
         for, it is offline, and a warning is an error."""
         flags = "-D warnings"
         crate = crate or self.crate
@@ -165,7 +165,7 @@ RECORDERS = {"c": InC, "rust": InRust}
 
 
 class Judge:
-    """What the two programs say of traces and logs."""
+    """The verdicts of the two programs on traces and logs."""
 
     def __init__(self, locktrace, lockreplay):
         self.locktrace, self.lockreplay = locktrace, lockreplay
@@ -177,7 +177,7 @@ class Judge:
         return int(at.group(1)) if at and done.returncode == 1 else None
 
     def accepts(self, traces):
-        """Whether `check`, which is silent then, accepts all of these."""
+        """Asserts that `check` accepts all of these, and is silent."""
         done = ran(self.locktrace, "check", *traces)
         assert (done.stdout[:300], done.stderr[:300], done.returncode) == ("", "", 0)
         return True
@@ -189,13 +189,13 @@ class Judge:
         return ordered, done.returncode
 
     def waits(self, schedule):
-        """How many moves of a schedule wait, which `lockreplay` accepts whole."""
+        """How many moves of a schedule wait; asserts that it is accepted."""
         report = ran(self.lockreplay, "replay", input=schedule).stdout
         assert report.splitlines()[-1].startswith("end ")
         return report.count(" waits ")
 
     def waits_in_order(self, target):
-        """The same of the order that is found for a right lock's logs."""
+        """The same for the order that is found for a right lock's logs."""
         ordered, status = self.order(target)
         assert status == 0
         schedules = sorted(ordered.glob("*.schedule"))

@@ -27,7 +27,7 @@ def enters_at_another_ticket(moves):
 
 
 def serves_another_ticket(bits):
-    """A release writes something else than one more than it read, in words of so many bits."""
+    """A release writes other than one more than it read, in words of this many bits."""
     def first(moves):
         served = {}
         for number, (thread, *move) in moves:
@@ -55,7 +55,7 @@ def polls_again(moves):
 
 
 def makes(*words):
-    """The first move of a kind that the lock has not, or not there."""
+    """The first move of a kind that the lock does not have, or not there."""
     def first(moves):
         return next((number for number, (_, *move) in moves if move[:len(words)] == list(words)),
                     None)
@@ -63,7 +63,7 @@ def makes(*words):
 
 
 def loses_a_write(word):
-    """A swap or an addition finds something else than what was left in its word."""
+    """A swap or an addition finds another value than the one left in its word."""
     def first(moves):
         left = "0"
         for number, (_, *move) in moves:
@@ -97,7 +97,7 @@ def links_unlocked(moves):
 
 
 def grants_to_another(moves):
-    """A grant goes to another record than the one that the release read."""
+    """A grant goes to a record other than the one that the release read."""
     successor = {}
     for number, (thread, *move) in moves:
         if move[:2] == ["read", "next"]:

@@ -1,4 +1,4 @@
-/* Whether the threads of a run of real threads get on.
+/* Whether the threads of a run of real threads make progress.
 
    Time alone does not say so: on a loaded machine a thread that could go on may not run for
    seconds. A thread is stuck if nobody has noted anything while it was asleep at every one of
@@ -20,7 +20,7 @@ enum { MOST_TASKS = 256, LOOKS_ASLEEP = 10, TICKS = 5, TICK = 10000 };
 struct task {
     long id;
     unsigned long noted_at, last; /* its ticks when something was noted, and at the last look */
-    int asleep;                   /* at so many looks, one after another */
+    int asleep;                   /* at this many looks, one after another */
     int is_seen;
 };
 

@@ -18,7 +18,7 @@ pytestmark = pytest.mark.slow
 HERE = Path(__file__).parent
 GUIDE = (TOP / "docs" / "GUIDE.md").read_text()
 SANITIZERS = ["address,undefined", "thread"]
-# Which of a macro's arguments is done without the header.
+# The argument of each macro that is evaluated without the header.
 MONITOR = {"LR_LOCK": 0, "LR_UNLOCK": 0, "LR_WAIT": 2, "LR_SIGNAL": 1, "LR_BROADCAST": 1}
 OPTIONS = {"OFF": [], "VALUES": ["-DLR_NOISE"], "SEED": ["-DLR_PCT=3", "-DLR_SPURIOUS=9"],
            "FOLLOW": ["-DLR_CHECK"], "EXPLORE": ["-DLR_MOVES=9", "-DLR_SPURIOUS=0"]}
@@ -86,7 +86,7 @@ def object_code(compiler, source, target, *flags):
             + output("size", "-A", target))
 
 
-# What calls the lock of an example, in the place of driver.h.
+# Calls the lock of an example, in place of driver.h.
 CALLER = """#include <pthread.h>
 #include <sched.h>
 #include <stdint.h>
@@ -142,8 +142,8 @@ def test_nothing_is_left_of_the_header(tmp_path, compiler, example, level):
     "LR_CALL(acquire)", "LR_READ(now_serving, it)", "LR_WRITE_OF(locked, 1, it)",
     "LR_SECTION(it, waits)"])
 def test_note_is_short(tmp_path, compiler, note):
-    """A note of free threads costs a few instructions, without a call or a barrier: what is seldom
-    is elsewhere. At 3 GHz, and 5 instructions a cycle, so many take 2.4 ns."""
+    """A note of free threads costs a few instructions, without a call or a barrier: rare cases are
+    elsewhere. At 3 GHz, and 5 instructions a cycle, 36 take 2.4 ns."""
     (tmp_path / "note.c").write_text(f'#include "{TOP}/record/lockreplay_record.h"\n'
                                      f"void noted(long it);\n"
                                      f"void noted(long it) {{ (void)it; {note}; }}\n")
@@ -158,8 +158,8 @@ def test_note_is_short(tmp_path, compiler, note):
 
 @pytest.mark.parametrize("compiler", COMPILERS)
 def test_header(tmp_path, compiler):
-    """What header.c asks for in vain is said in its order."""
-    # What clang's sanitizers need is in a package of another name in each Debian.
+    """The header refuses what header.c asks for, in its order."""
+    # The libraries of clang's sanitizers are in a package of another name in each Debian.
     sanitizers = [] if compiler.startswith("clang") else ["-fsanitize=address,undefined"]
     assert output(compiler, *language(compiler), *WARNINGS, "-g", "-pthread", *sanitizers, "-o",
                   tmp_path / "header", HERE / "header.c") == ""
@@ -200,7 +200,7 @@ def test_guide_by_seed(guide, judge):
 
 
 def test_guide_by_threads(guide, judge):
-    """Of free threads one may come after the other: these are tried again."""
+    """Free threads may run one after another: then the run is tried again."""
     folder = guide("VALUES")
     assert any(ran("./try", 3, 1000, 1, "logs", cwd=folder).stderr == ""
                and judge.waits_in_order(folder / "logs") for _ in range(20))

@@ -47,7 +47,7 @@ def both(shared, library):
 
 
 def answer_of(check, text, room=ROOM):
-    """All that a check says of a text."""
+    """The whole answer of a check to a text."""
     steps, answer = (Step * room)(), Answer()
     fault = check.lt_check(text, ctypes.c_size_t(len(text)), steps, ctypes.c_size_t(room),
                            ctypes.byref(answer))
@@ -65,7 +65,7 @@ def worked_texts():
 
 
 def test_worked_texts(both):
-    """Of a text with too many moves the source says so; the library makes them."""
+    """The source reports too many moves; the library makes them."""
     texts = dict(worked_texts())
     answers = {name: [answer_of(check, text, len(text)) for check in both]
                for name, text in texts.items()}

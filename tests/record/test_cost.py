@@ -1,4 +1,4 @@
-"""What a note of the header in C costs a thread that runs as it likes, in memory and in a file.
+"""The cost of a note of the header in C to a thread that runs freely, in memory and in a file.
 
 `bench/recording.py` measures it in nanoseconds, which a quiet machine is needed for. Here it is
 compared with the round of a ticket lock, whose four operations take about 12 ns where a note may

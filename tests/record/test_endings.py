@@ -15,7 +15,7 @@ from test_modes import HERE
 pytestmark = pytest.mark.slow
 
 LEFT = "lockreplay_record: the program ended before its run was saved: its moves until then are in "
-# What thread 1 does, and the signal or the status with which its program ends.
+# The action of thread 1, and the signal or the status with which its program ends.
 ENDS = {"abort()": -signal.SIGABRT, "raise(SIGKILL)": -signal.SIGKILL, "exit(0)": 0, "exit(7)": 7,
         "_Exit(0)": 0, "raise(SIGSEGV)": -signal.SIGSEGV, "assert(0)": -signal.SIGABRT}
 
@@ -35,7 +35,7 @@ def built(tmp_path, library):
 @pytest.mark.parametrize("mode", ["VALUES", "SEED", "EXPLORE"])
 @pytest.mark.parametrize("body", ENDS)
 def test_crash(built, judge, mode, body):
-    """What was noted until then is saved, whole and right."""
+    """The notes up to then are saved, whole and right."""
     program, logs = built(mode, body)
     done = ran(program, 2, 9, 1, logs)
     said = re.sub(r"^endings: .* Assertion `0' failed\.\n", "", done.stderr)
@@ -81,7 +81,7 @@ def test_thread_that_ends_in_a_call(built):
 
 @pytest.mark.parametrize("mode", ["VALUES", "SEED"])
 def test_full_log(built, judge, mode):
-    """What is in the logs is right, and the status is 3."""
+    """The contents of the logs are right, and the status is 3."""
     body = "for (int i = 0; i < 2000; i++) { release(); acquire(); }"
     program, logs = built(mode, body)
     done = ran(program, 2, 5, 1, logs)

@@ -1,8 +1,8 @@
 """Explored runs: all runs of a few threads with few preemptions.
 
-Of a right lock in Rust they have to be those that explored_runs.py finds, each as often. Of a lock
-with a mistake some run has to be refused or to hang, with as many preemptions as are due, and with
-no fewer. Examples can check their runs by themselves, and then refuse the same.
+For a right lock in Rust they have to be those that explored_runs.py finds, each as often. For a
+lock with a mistake some run has to be refused or to hang with the expected number of preemptions,
+and none with fewer. Examples can check their runs by themselves, and then refuse the same.
 """
 import re
 import shutil

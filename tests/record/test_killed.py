@@ -1,4 +1,4 @@
-"""Threads that run as they like, and whose processes are killed: their logs.
+"""The logs of threads that run as they like, and whose processes are killed.
 
 In C they are made of the run's notes. The lock of endings.c is right, and is built with what its
 thread 1 does in its fourth round. In Rust they are written while the run goes on.
@@ -38,7 +38,7 @@ def build(tmp_path):
 
 @pytest.fixture
 def ordered(locktrace):
-    """Has the logs of a folder ordered, which are all that is there: the moves of each."""
+    """Orders the logs of a folder, which has nothing else: the moves of each."""
     def order(logs):
         assert sorted(path.name for path in logs.iterdir()) == ["thread-0.log", "thread-1.log"]
         done = ran(locktrace, "order", *sorted(logs.iterdir()), "-o", logs.parent / "ordered")
@@ -111,7 +111,7 @@ def test_all_killed(build, ordered, tmp_path):
 
 @pytest.mark.parametrize("byte", [0, 255])
 def test_lost_page(build, ordered, tmp_path, byte):
-    """What is no note, as where a page did not come to the disk, ends a log."""
+    """A log ends before bytes that are no note, as of a page that did not come to the disk."""
     program, logs = build(GOES_ON), tmp_path / "logs"
     with started(program, logs) as process:
         kill_all(process, logs)
@@ -125,7 +125,7 @@ def test_lost_page(build, ordered, tmp_path, byte):
 
 
 def test_recover_waits(build, ordered, tmp_path):
-    """Of a run that goes on the logs are those that it saves itself."""
+    """A run that goes on saves its own logs."""
     body = 'struct timespec ms = {0, 300000000}; puts("going"); fflush(stdout); nanosleep(&ms, 0)'
     program, logs = build(body, "-D_GNU_SOURCE"), tmp_path / "logs"
     with started(program, logs) as process:

@@ -1,6 +1,7 @@
-"""What the header in C says of wrong words and calls, and where a lock leaves a schedule.
+"""Messages of the header in C on wrong words and calls, and where a lock leaves a schedule.
 
-Rows of this file say what is due. Points are tried at each atomic operation, in C and in C++.
+Rows of this file have the expected messages. Points are tried at each atomic operation, in C and in
+C++.
 """
 import re
 import shutil
@@ -17,7 +18,7 @@ pytestmark = pytest.mark.slow
 
 HERE = Path(__file__).parent
 
-# What the command line defines, and what the compiler then says.
+# Definitions on the command line, and the message of the compiler.
 OLD = "a mode is a value of LR_MODE, as in -DLR_MODE=SEED"
 NONE = "LR_MODE is not one of OFF, VALUES, SEED, FOLLOW and EXPLORE"
 WORDS = [

@@ -1,4 +1,4 @@
-"""What a refusal says of the published lock: its step in the place of the one that differs.
+"""A refusal names the step of the published lock in place of the one that differs.
 
 Each message is shown by an example in C with a mistake, and by one in Rust as far as mistakes of
 these are planted; record/rust/tests/published.rs has all of them.
@@ -69,7 +69,7 @@ def compiled(shared):
 
 @pytest.fixture
 def searched(compiled, tmp_path):
-    """Explores an example in C after a change: what is said."""
+    """The message after an example in C with a change is explored."""
     def search(example, counts, change):
         copy = tmp_path / SOURCES.relative_to(TOP)
         output("cp", "-R", "--parents", SOURCES.relative_to(TOP), tmp_path, cwd=TOP)
@@ -118,8 +118,8 @@ def test_linker_says_what_is_missing(tmp_path):
     assert "lr_compile_record_locktrace_c_too" in said and "lt_check" in said
 
 
-# A trace and the record of the step that the lock has instead of the last one: of which line and
-# thread, what it found and left, which step on which word, and what came of it.
+# A trace and the record of the step that the lock has instead of the last one: its line and thread,
+# what it found and left, which step on which word, and its outcome.
 MCS, OUT = "lock mcs threads 2\n", "0 acquire\n0 write\n0 swap\n0 release\n"
 QUEUED = "0 acquire\n0 write\n0 swap\n1 acquire\n1 write\n1 swap\n1 write\n1 write\n"
 TICKET, RW = "lock ticket threads 2\n", "lock rw-simple threads 2\n"

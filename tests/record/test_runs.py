@@ -1,7 +1,7 @@
 """Recorded runs of the locks in C and in Rust: of right locks, and of locks with a mistake.
 
-Of a right lock every run has to be accepted: the trace of a run whose order is known, the order
-found for the threads' logs, and each schedule of it; and threads have to have waited. Of a wrong
+For a right lock every run has to be accepted: the trace of a run whose order is known, the order
+found for the threads' logs, and each schedule of it; and threads have to have waited. For a wrong
 one the trace has to be refused at the line where the mistake is first seen, which signs.py finds by
 itself, and its logs have no order.
 """
@@ -39,7 +39,7 @@ def waits(recorder, judge, target, example, mode, number):
 
 @pytest.mark.parametrize("recorder, example, mode, number", ONE_BY_ONE, indirect=["recorder"])
 def test_right_lock(recorder, judge, tmp_path, example, mode, number):
-    """Of free threads one may come after the other, which shows little: these are tried again."""
+    """Free threads may run one after another, which shows little: then the run is tried again."""
     tries = range(MOST_TRIES if mode in recorder.free else 1)
     assert any(waits(recorder, judge, tmp_path / str(attempt), example, mode,
                      number + 100 * attempt) for attempt in tries)
@@ -48,7 +48,7 @@ def test_right_lock(recorder, judge, tmp_path, example, mode, number):
 @pytest.mark.parametrize("recorder, example", [of for of in EXAMPLES if of.values[0] == "rust"],
                          indirect=["recorder"])
 def test_right_lock_by_priorities(recorder, judge, tmp_path, example):
-    """In few of these runs somebody waits, since a thread goes on as long as it can."""
+    """Threads wait in few of these runs, since a thread goes on as long as it can."""
     found = [waits(recorder, judge, tmp_path / str(seed), example, "pct", seed)
              for seed in recorder.runs["pct"][2]]
     assert any(found)

@@ -33,7 +33,7 @@ MISTAKES = {
 
 
 def cargo(*words, folder):
-    """What Debian's cargo says, which is as old as any that the crate is for."""
+    """The output of Debian's cargo, which is as old as any that the crate is for."""
     return ran("/usr/bin/cargo", *words, "--offline", cwd=folder, timeout=600, env=environment(
         PATH="/usr/bin:/bin", RUSTC="/usr/bin/rustc", RUSTFLAGS="-D warnings",
         RUSTDOC="/usr/bin/rustdoc", CARGO_HOME=str(folder.parent / "cargo"),

@@ -15,8 +15,8 @@
  *                 armed.
  *                 Without the library it is granted: no request was refused.
  *
- * What counts as a request is what a program asks for by malloc, realloc, aligned_alloc, memalign
- * or posix_memalign, other than by the sizes above. A program in Rattle uses malloc and realloc
+ * A request is a call of malloc, realloc, aligned_alloc, memalign or posix_memalign, other than
+ * with the sizes above. A program in Rattle uses malloc and realloc
  * alone (`nm -D`); alignments above 16 are refused before. calloc is let through and not counted:
  * the C library calls it when it starts a thread. Freeing and shrinking with realloc(p, 0) are no
  * requests.
@@ -40,8 +40,8 @@
  * Nth is refused. When the program ends, the line of that round is appended, and a line
  * `requests K` with how many it made. test_memory.py runs the built program so.
  *
- * Not held to: a product that asks for exactly one of these sizes. No test here leads to such a
- * request.
+ * A program that itself asks for exactly one of these sizes would be misread. No test here leads to
+ * such a request.
  */
 #define _GNU_SOURCE
 #include <errno.h>

@@ -32,7 +32,7 @@ def probe(library):
 
 
 def log_of(library, folder, *words):
-    """What the library notes of a program that ends well."""
+    """The notes of the library on a program that ends well."""
     log = folder / "log"
     done = ran(*words, env=environment(REFUSE_LOG=str(log), LD_PRELOAD=str(library)))
     assert done.returncode == 0, done.stdout + done.stderr

@@ -14,7 +14,7 @@ def either(words):
     return f"{', '.join(others)} or {last}"
 
 
-# What files say, wherever their lines break.
+# Texts that files have, wherever their lines break.
 SAID = {
     "record/src/lockreplay_record.h": [f"call) {either(CALLS)}", f"The lock is {either(LOCKS)};"],
     "record/rust/Cargo.lock": [f'name = "lockreplay-record" version = "{VERSION}"'],
@@ -26,8 +26,8 @@ SAID = {
         f"FIRST_STEP = {MOVES[STEPS['Read']]};",
         "ANSWER = {{ accepted: {}, refused: {}, fault: {}, short: {} }};".format(*ANSWERS)],
 }
-# Of a file, what is between two patterns, and the words that a third one finds there. The order of
-# a list is due too.
+# A file, two patterns, and the words that a third one finds between them. The order of a list is
+# compared too.
 ALL, ITEM, KEY = (r"\A", r"\Z"), r"^\.It Li (\w+)", r"(\w+): ['`]"
 LISTS = (
     ("VERSION", *ALL, ".+", [RELEASE]),
@@ -58,7 +58,7 @@ LISTS = (
 
 
 def faults():
-    """What a file does not say, or names otherwise."""
+    """Texts that a file lacks, or names otherwise."""
     for path, texts in SAID.items():
         said = " ".join(read(path).split())
         yield from (f"{path}: it does not say {text}" for text in texts if text not in said)

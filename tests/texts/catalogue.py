@@ -26,7 +26,7 @@ def found(pattern, text):
 
 
 def between(text, before, after):
-    """What is between two patterns, where they are first."""
+    """The text between the first matches of two patterns."""
     texts = re.findall(f"{before}(.*?){after}", text, re.DOTALL | re.MULTILINE)
     if not texts:
         raise LookupError(f"there is nothing between {before!r} and {after!r}")
@@ -66,7 +66,7 @@ del OUTCOMES["Called"]  # of a call
 # the message of each fault of a trace, without its name
 MESSAGES = {WORDS[variant]: text for text, variant in found(
     r'#\[error\("(.*?) \(\{name\}\)".*\n    (\w+)', read(f"{TRACE}/trace.rt"))}
-# What may follow the word of a lock in a trace, after `of` and its thread; and the words of locks
+# Parts that may follow the word of a lock in a trace, after `of` and its thread; and words of locks
 # that a trace names, which come before these parts. A monitor's are in no trace.
 DUE = read(f"{TRACE}/due.rt")
 OPEN, (OF, *PARTS) = (found(r'"(\w+)"', between(DUE, before, r"\];\n"))
@@ -79,7 +79,7 @@ DIFFERS, OF_TEXTS, OF_SIZE = map(numbers, ("difference_number", "fault_number", 
 FAULTS = {**OF_TEXTS, **OF_SIZE}
 PHASES, LOCK_CODES, HOLDERS = map(numbers, ("phase_code", "lock_code", "holding_code"))
 EXPECTED = {name.lower(): number for name, number in numbers("expected_code").items()}
-# What the page's module answers; the bits of a record's thread; and what there is for no word.
+# Answers of the page's module; the bits of a record's thread; and the number for no word.
 ANSWERS = [*numbers("answer_of").values(), *(int(found(rf"\({name} ≡ (\d+)\)", read(path))[0])
            for name, path in (("answer", "crates/lk_page/specs/Written.antt"),
                               ("result", "crates/lk_page/src/lib.rt")))]

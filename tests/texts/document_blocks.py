@@ -7,7 +7,7 @@ FENCE = re.compile(r"\s*(```+)(\S*)\s*")
 
 
 class BadDocument(Exception):
-    """What is wrong with a document, and in which line."""
+    """A fault of a document, and its line."""
 
 
 @dataclass

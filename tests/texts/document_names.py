@@ -11,11 +11,11 @@ import re
 from document_blocks import without_blocks
 
 SKIPPED = {".git", "out", "target", "node_modules", "__pycache__"}
-TEXTS = (".rt", ".rs", ".antt", ".py", ".js", ".mjs", ".c", ".h", ".sh", ".html", ".css",
-         ".schedule", ".report", ".txt", "Makefile", "control")
-FILE = re.compile(r"[\w./*-]+\.(md|py|rt|antt|sh|c|h|js|mjs|html|schedule|report|txt|edit|patch|"
-                  r"png|log|trace)")
-# What defines a name, in Rattle, in its definitions, and in the other languages.
+TEXTS = (".rt", ".rattle", ".rs", ".antt", ".py", ".js", ".mjs", ".c", ".h", ".sh", ".html",
+         ".css", ".schedule", ".report", ".txt", "Makefile", "control")
+FILE = re.compile(r"[\w./*-]+\.(md|py|rt|rattle|antt|sh|c|h|js|mjs|html|schedule|report|txt|edit|"
+                  r"patch|png|log|trace)")
+# Definitions of a name, in Rattle, in its definitions, and in the other languages.
 DEFINED = [re.compile(pattern, re.MULTILINE) for pattern in (
     r"^\s*(?:export )?(?:pub(?:\(\w+\))? )?(?:unsafe )?(?:extern \"C\" )?"
     r"(?:fn|struct|enum|trait|type|mod|const|static|class|function|let) (?:mut )?(\w+)",
@@ -33,7 +33,7 @@ PUBLIC = re.compile(r"^\s*pub (?:fn|struct|enum|trait|type|mod|const) (\w+)", re
 # A trait's functions and an enum's variants are public if the trait or the enum is.
 INSIDE = re.compile(r"^pub (?:trait|enum) .*?^\}", re.MULTILINE | re.DOTALL)
 INNER = re.compile(r"^    (?:fn (\w+)|([A-Z]\w*)[(,{ ])", re.MULTILINE)
-# What documents name that is no part of the repository: the kit, the C library, other programs.
+# Names in documents from outside the repository: the kit, the C library, other programs.
 OUTSIDE = set("""
     ArrayVec AllocError BufWriter Vec String Mutex Global Display SIGPIPE WebAssembly include_str
     include_bytes thiserror arrayvec atomic_table memchr itoa clap fetch_and_store qnode QNode
@@ -64,7 +64,7 @@ def slug(title):
 
 
 class Names:
-    """What is there: files, targets, and the names of the sources."""
+    """Files, targets, and the names of the sources."""
 
     def __init__(self, top):
         self.top = top
@@ -132,7 +132,7 @@ class Names:
         return name in self.words or name in OUTSIDE
 
     def link_fault(self, target, document):
-        """What is wrong with a relative link, if anything."""
+        """The fault of a relative link, if it has one."""
         path, _, anchor = target.partition("#")
         file = (document.parent / path).resolve() if path else document
         if not file.exists():

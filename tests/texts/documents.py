@@ -69,7 +69,7 @@ class Room:
         return [(text.splitlines(), int(status)) for text, status in zip(parts[::2], parts[1::2])]
 
     def printed(self, script):
-        """What a script prints that is run in the folder."""
+        """The output of a script that is run in the folder."""
         return subprocess.run(["bash", script], cwd=self.path, env=self.environment, text=True,
                               stdin=subprocess.DEVNULL, stdout=subprocess.PIPE, check=False,
                               stderr=subprocess.STDOUT, timeout=self.seconds,
@@ -123,7 +123,7 @@ def faults_of_block(block, room):
 
 
 def faults_of(document, room, names):
-    """What is wrong with a document, each with the number of its line."""
+    """The faults of a document, each with the number of its line."""
     lines = document.read_text().splitlines()
     try:
         for block in blocks_of(lines):

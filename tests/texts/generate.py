@@ -30,7 +30,7 @@ class Words(list):
 
 
 def word(text, **more):
-    """What a form may have of a word."""
+    """The parts of a word that a form may have."""
     return {"word": text, "WORD": re.sub("(?<=[a-z])(?=[A-Z])", "_", text).upper(), **more}
 
 
@@ -45,7 +45,7 @@ TEXTS = {text: int(number) for number, text in found(
     r'(\d+) => "(.*)"', read("crates/lk_trace_c/src/numbers.rt"))}
 TEXTS.update((f"{name}: {message}", REFUSED[name]) for name, message in found(
     r'=> "(\w+)" "(.*)"', read("crates/lk_locks/src/refusals.rt")))
-# What the page calls the bits of a record's thread.
+# The page's names for the bits of a record's thread.
 BIT_NAMES = {"holds": "HOLDS", "is_queued": "IN_QUEUE", "writes": "AS_WRITER",
              "is_unlinked": "UNLINKED", "waits": "WAITS"}
 LISTS = {
@@ -157,7 +157,7 @@ def filled(path, region, lists, form):
 
 
 def faults_in(path, is_check):
-    """What is wrong with a file. Its regions are compared if this is a check, and else filled."""
+    """The faults of a file. Its regions are compared if this is a check, and else filled."""
     text, forms = (TOP / path).read_text(encoding="utf-8"), iter(REGIONS[path])
     marked, due = [it["lists"] for it in REGION.finditer(text)], [it[0] for it in REGIONS[path]]
     if marked != due:
@@ -171,7 +171,7 @@ def faults_in(path, is_check):
 
 
 def faults(is_check):
-    """What is wrong with any file."""
+    """The faults of all files."""
     return [*(it for path in REGIONS for it in faults_in(path, is_check)), *by_hand.faults()]
 
 

@@ -1,4 +1,4 @@
-"""What is written twice agrees.
+"""Texts that are written twice agree.
 
 The code of docs/LOCKS.md is no copy: each line names a phase and the kind of its step, as the
 definitions `operation` and `after_call` of crates/lk_locks do. Operations of the ticket lock have

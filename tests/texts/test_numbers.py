@@ -1,4 +1,4 @@
-"""What the README counts of the definitions is there."""
+"""The count of definitions in the README is right."""
 import re
 
 from tree import TESTS, TOP, output

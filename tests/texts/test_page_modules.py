@@ -15,7 +15,7 @@ MODULES = {path.relative_to(SOURCES).as_posix(): path.read_text()
 FOLDERS = re.findall(r"(?m)^\| `(\w+)` \| \w", (TOP / "page" / "README.md").read_text().split(
     "## What is where")[1].split("## ")[0])
 IMPORT = re.compile(r"(?m)^(?:import|\}).* from '([^']+)';$")
-# What is given to functions that draw, and remembered by the page.
+# Values that the page remembers and gives to functions that draw.
 REMEMBERED = "page|session|quiz|comparing|playing|stepping|lecture|modes|editing|address|looks|run"
 CHANGES = re.compile(rf"\b(?:{REMEMBERED})(?:\.\w+)*\.\w+ (?:[-+|&?*]{{0,2}})= "
                      rf"|\bObject\.assign\((?:{REMEMBERED})\b"

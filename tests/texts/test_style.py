@@ -22,10 +22,10 @@ FILES = [TOP / name for name in output("git", "ls-files", "-co", "--exclude-stan
                                        cwd=TOP).splitlines() if (TOP / name).is_file()]
 KINDS = (".rt", ".rs", ".antt", ".py", ".js", ".mjs", ".c", ".h", ".pml", ".sh", ".md")
 COLUMNS, LINES, BODY = 100, 400, 40
-# What is made of other files, which are looked at instead.
+# Files made of others, which are checked instead.
 MADE = {TOP / "record" / name for name in ("lockreplay_record.h", "locktrace.c")}
 
-# What a file of each kind opens with, after a line `#!`.
+# The opening of a file of each kind, after a line `#!`.
 HEADS = {
     ".rt": ("//!", "//"), ".antt": ("--",), ".py": ('"""',), ".sh": ("#",), ".md": ("# ",),
     ".js": ("//", "/*"), ".mjs": ("//", "/*"), ".c": ("/*", "//"), ".h": ("/*", "//"),

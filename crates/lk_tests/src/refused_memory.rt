@@ -1,17 +1,16 @@
 //! Each request for memory refused in turn, in each call by itself, and calls that ask for none.
 //! tests/lockreplay/test_memory.py refuses each of the built program, on every worked row.
 
+mod of_gates;
 mod of_locks;
 mod of_replays;
+pub mod of_rows;
 mod of_searches;
 mod of_workers;
 
 use crate::holding::holds;
-use crate::locks::new_keeper;
-use crate::refusing::{MOST_REQUESTS, is_refusing, met_none, refuse, was_refused};
-use lk_locks::{Keeper, LockKind, Move, Op, PlayFault, Refusal, StepKind};
+use crate::refusing::{MOST_REQUESTS, met_none, refuse, was_refused};
 use lk_replay::{ReadFault, read_schedule};
-use lk_words::WordArray;
 use of_replays::{TEXTS, Text};
 use std::alloc::Global;
 use std::process::Abort;
@@ -22,6 +21,7 @@ use std::thread::Threads;
 #[derive(Clone, Copy)]
 enum Call {
     MakeRoom,
+    Play,
     ReadSchedule,
     ReportOf,
     ReadText,
@@ -32,8 +32,9 @@ enum Call {
     Explore,
 }
 
-const WITHOUT_A_TEXT: [Call; 5] = [
+const WITHOUT_A_TEXT: [Call; 6] = [
     Call::MakeRoom,
+    Call::Play,
     Call::OpenDraws,
     Call::OpenLock,
     Call::ReplayMany,
@@ -57,6 +58,7 @@ fn once<R: Abort + Threads + Sync>(
 ) -> bool {
     match call {
         Call::MakeRoom => of_locks::make_room(rt, alloc, number),
+        Call::Play => of_locks::play(rt, alloc, number),
         Call::ReadSchedule => of_replays::read(rt, alloc, number, text),
         Call::ReportOf => of_replays::report(rt, alloc, number, text),
         Call::ReadText => of_replays::read_input(rt, alloc, number, text),
@@ -88,65 +90,6 @@ fn each_request_refused_in_each_call(rt: HostRuntime) {
             each_request(&rt, alloc, call, text);
         }
     }
-}
-
-const ENTERS: [Move; 3] = [
-    Move::Call(Op::Acquire),
-    Move::Step(StepKind::Add),
-    Move::Step(StepKind::Read),
-];
-
-// Thread 0 is inside, and each of the threads 1 to 59 has called: each refusal is due at once.
-const REFUSED: [(u8, Move, Refusal); 7] = [
-    (64, Move::Call(Op::Acquire), Refusal::NoSuchThread),
-    (0, Move::Step(StepKind::Section), Refusal::WrongLock),
-    (1, Move::Call(Op::Acquire), Refusal::Busy),
-    (60, Move::Call(Op::Release), Refusal::NotHolder),
-    (0, Move::Call(Op::Acquire), Refusal::AlreadyHolds),
-    (0, Move::Step(StepKind::Read), Refusal::NoCall),
-    (
-        1,
-        Move::Step(StepKind::Read),
-        Refusal::WrongStep {
-            next: StepKind::Add,
-        },
-    ),
-];
-
-fn enters(keeper: &mut Keeper<WordArray>) -> bool {
-    for action in ENTERS {
-        if keeper.play(0, action).is_err() {
-            return false;
-        }
-    }
-    for thread in 1..60u8 {
-        if keeper.play(thread, Move::Call(Op::Acquire)).is_err() {
-            return false;
-        }
-    }
-    keeper.entries().len() == 62
-}
-
-fn refuses(keeper: &mut Keeper<WordArray>) -> bool {
-    for (thread, action, refusal) in REFUSED {
-        if keeper.play(thread, action) != Err(PlayFault::Refused(refusal)) {
-            return false;
-        }
-    }
-    keeper.entries().len() == 62
-}
-
-// After 62 entries the next move asks for memory, since room is made for 64 at once.
-#[test]
-fn no_request_in_a_refused_play(rt: HostRuntime) {
-    let alloc = rt.alloc();
-    let mut keeper = new_keeper(alloc, LockKind::Ticket, 64, 64);
-    assert!(rt; enters(&mut keeper));
-    refuse(alloc, 1);
-    assert!(rt; refuses(&mut keeper) && !was_refused(alloc));
-    refuse(alloc, 1);
-    let is_refused = keeper.play(60, Move::Call(Op::Acquire)).is_err();
-    assert!(rt; was_refused(alloc) == is_refused && is_refusing(alloc) == is_refused);
 }
 
 // A header's fault, or a text that is too long.

@@ -163,7 +163,8 @@ pub struct Notes {
 impl Notes {
     /// Nothing is said.
     pub fn new(alloc: Global) -> Notes
-        ensures { result.notes.items ≡ [] }
+        ensures none { result.notes.items ≡ [] }
+        ensures whole { result.is_whole ≡ true }
     {
         Notes {
             alloc,
@@ -224,7 +225,7 @@ impl Notes {
     }
 
     /// Whether memory was refused for none of them.
-    pub fn is_whole(&self) -> bool
+    pub(crate) fn is_whole(&self) -> bool
         ensures { result ≡ self.now.is_whole }
     {
         self.is_whole

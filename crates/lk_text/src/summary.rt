@@ -48,7 +48,7 @@ fn moved_in(moved: &[bool]) -> usize
 
 impl Summary {
     /// Nothing was counted.
-    pub fn new() -> Summary
+    pub(crate) fn new() -> Summary
         ensures { result ≡ new_summary }
     {
         Summary {
@@ -129,7 +129,7 @@ impl Summary {
     }
 
     /// The number of threads that moved.
-    pub fn threads(&self) -> usize
+    pub(crate) fn threads(&self) -> usize
         ensures { result ≡ moved_in self.now.moved }
     {
         moved_in(&self.moved)

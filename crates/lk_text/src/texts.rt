@@ -5,7 +5,7 @@
 //! without a result.
 
 ghost use Rattle.std.specs.Prelude.{◌≡◌, ◌++◌, ℕ, List, [], Option, None, Some, IfOk, true};
-ghost use Rattle.std.specs.Prelude.{if◌then◌else◌, string_bytes};
+ghost use Rattle.std.specs.Prelude.{◌↔◌, if◌then◌else◌, string_bytes};
 
 use crate::escapes::put_escaped;
 use crate::failures::Failure;
@@ -50,7 +50,7 @@ impl Text {
 
     /// Whether the text is empty. One for which memory was refused is not.
     pub fn is_empty(&self) -> bool
-        ensures { result ≡ true → self.now ≡ Some [] }
+        ensures { result ≡ true ↔ self.now ≡ Some [] }
     {
         self.is_whole && self.text.is_empty()
     }
@@ -76,7 +76,7 @@ impl Text {
     }
 
     /// Notes that memory was refused for a part.
-    pub fn lose(&mut self)
+    pub(crate) fn lose(&mut self)
         ensures { self.new ≡ None }
     {
         self.is_whole = false;

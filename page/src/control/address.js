@@ -155,7 +155,7 @@ export class Address {
     return keptSchedules();
   }
 
-  // Of one that is listed the text may be gone: there was no room for it, or another tab took it.
+  // The text of a listed one may be gone: there was no room for it, or another tab took it.
   openKept(name) {
     const found = keptSchedule(name);
     if (!found) return tell(T.gone);

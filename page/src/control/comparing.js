@@ -40,7 +40,7 @@ export class Comparing {
 
   get isOn() { return this.kind !== null; }
 
-  // What there is to compare with.
+  // The run that there is to compare with.
   kinds() {
     const { session: { run, origin, machine } } = this.page;
     const branched = run.hasLock && origin.run.hasLock

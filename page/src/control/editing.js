@@ -15,8 +15,8 @@ export class Editing {
     this.editor = new Editor((text, line) => this.edited(text, line), (line) => this.caretAt(line));
   }
 
-  // Of several files the first is shown. Of the others as many as have room are kept, and listed
-  // with the lessons.
+  // The first of several files is shown. As many others as have room are kept, and listed with the
+  // lessons.
   async openFiles([first, ...others]) {
     const { address, session } = this.page;
     const opened = [];

@@ -15,7 +15,7 @@ import { tikzOf } from '../view/tikz.js';
 
 const T = texts.take;
 const SHARPER = 2;
-// Of several moves: at most so many, each so long on the screen, and the last one longer.
+// For several moves: at most so many, each so long on the screen, and the last one longer.
 const MOST = 40;
 const SHOWN = { each: 1200, last: 3000 };
 const FRAME = { width: 960, height: 480 };
@@ -42,7 +42,7 @@ async function png({ width, height, text }, size = { width, height }) {
   return new Uint8Array(await blob.arrayBuffer());
 }
 
-// What is in the picture, as the dialog says it.
+// The parts of the picture, as the dialog says it.
 const wantedNow = () => Object.fromEntries(
   ['take-title', 'take-legend', 'take-code', 'take-answered'].map((id) => inputOf(id))
     .map(({ name, checked }) => [name, checked]));
@@ -59,7 +59,7 @@ function stretchNow(page) {
   return [from, Math.min(to, from + MOST - 1)];
 }
 
-// That not all of these moves are drawn, if that is so.
+// Says so if not all of these moves are drawn.
 function cutNow(page) {
   const [from, to] = askedNow(page);
   const count = to - from + 1;
@@ -113,7 +113,7 @@ function saveMoves(page, ending, bytes, type) {
   if (cutNow(page)) tell(cutNow(page));
 }
 
-// What each export does.
+// The action of each export.
 export function exportsOf(page) {
   const { session, address } = page;
   return {

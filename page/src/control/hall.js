@@ -1,4 +1,4 @@
-// What a lecturer does in hall mode by key or by clicker: blanks the screen, fills it, and leaves.
+// Actions of a lecturer in hall mode, by key or clicker: blank the screen, fill it, and leave.
 
 import { texts } from '../texts/texts.js';
 import { looks } from '../model/looks.js';

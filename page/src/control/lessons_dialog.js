@@ -65,7 +65,7 @@ const waysView = (isStored) => html`<section class="ways">${WAYS.map((way) => ht
   type="button" data-way="${way}" ${isStored && way !== 'plans' && 'disabled'}><b>${
   T.ways[way][0]}</b><span>${T.ways[way][1]}</span></button>`)}</section>`;
 
-// What is refused, which one reads up, and does not begin with.
+// Refusals, which a reader looks up, and does not begin with.
 function refusedView(lessons, current) {
   const groups = ['refused', 'fault'].map((group) => html`<div><h4>${T.groups[group]}</h4>
     ${listOf(lessons.filter((one) => one.group === group), current)}</div>`);

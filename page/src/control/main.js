@@ -43,7 +43,7 @@ function writeTexts() {
   tellTools(all('.tools button'));
 }
 
-// What a tool does is said where one points at it, as the list of keys says it.
+// A tool says what it does where one points at it, as the list of keys does.
 function tellTools(tools) {
   const does = new Map(texts.keys.list);
   for (const node of tools) {
@@ -52,8 +52,8 @@ function tellTools(tools) {
   }
 }
 
-// Pictures are laid out by the widths of letters, so these come first. A browser that blocks the
-// page's own letters shows it in the system's.
+// Pictures are laid out by the widths of letters, so fonts come first. A browser that blocks the
+// page's own fonts shows it in the system's.
 export async function start(data) {
   await Promise.allSettled([...document.fonts].map((face) => face.load()));
   begin(data);

@@ -1,5 +1,5 @@
-// Of a long list as much is shown as has room: what is kept, its neighbours, and both ends. What is
-// between is folded, and counted.
+// A long list is shown as far as it has room: what is kept, its neighbours, and both ends. The rest
+// is folded, and counted.
 
 // Places in the order in which they are wanted: by the distance to a kept one or to an end.
 function wantedOrder(count, kept) {

@@ -104,7 +104,7 @@ function widestRecord(names) {
 
 /** @typedef {ReturnType<typeof layOut>} Places */
 
-// Of more records than have room some are folded: `places` has for each thread where it is.
+// Records that have no room are folded: `places` has for each thread where it is.
 /** @param {View} view @param {State} state */
 function layOut(view, state) {
   const room = view.width - 2 * RECORD.left;
@@ -286,7 +286,7 @@ function leastWidth(view, state) {
   return 2 * RECORD.left + beside * record + (beside - 1) * gapNow();
 }
 
-// Who is at rest and has no record.
+// Threads that are at rest and have no record.
 /** @param {View} view */
 function restingNote(view, hidden) {
   if (hidden.length > MOST_NAMED) return atRest(texts.threads(hidden.length));

@@ -25,7 +25,7 @@ export function dueLine(lines, state, thread) {
   return { step, number: at + 1, code: lines[at].code.trim() };
 }
 
-// What the thread could do instead.
+// The moves that the thread could make instead.
 /** @param {State} state */
 function possibleMoves(state, thread) {
   const due = state.dueStep(thread);

@@ -8,7 +8,7 @@ import { lockOf } from './locks.js';
 
 /** @typedef {import('../model/session.js').View} View */
 
-// What fills the places of a sentence. A word's place has its value after the move.
+// The values for the places of a sentence. A word's place has its value after the move.
 /** @param {import('./locks.js').Named} view */
 function valuesOf(view, move) {
   const { run, names } = view;

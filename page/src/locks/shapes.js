@@ -60,7 +60,7 @@ export const foldedToken = (x, y, view, folded) => html`<g class="fold">
     width="30" height="26" rx="6"/><text class="note" x="${x}" y="${y + 4.5}"
     text-anchor="middle">+${folded.length}</text></g>`;
 
-// What a word's box has beside its value.
+// The parts of a word's box beside its value.
 export const BOX_EDGES = 12;
 
 // A word of memory as a box: plain, read by this move, or changed by it. A name that is too long

@@ -41,7 +41,7 @@ const wordName = (word) => wordNames(NAME)[word];
 const held = (state, name) => state.word(wordNamed(NAME, name));
 const valueText = (_, value) => String(value);
 
-// Who has a ticket, in the order of the queue that the machine names.
+// The threads that have a ticket, in the order of the queue that the machine names.
 /** @param {State} state */
 const holdersOfTickets = (state) => state.queue.map((thread) => ({
   thread, number: state.phaseNumber(thread), name: OWN_VARIABLE[PHASES[state.phase(thread)]],

@@ -45,7 +45,7 @@ export const HANDS = {
   outer: { name: 'outer', from: 0.54, to: 0.8 },
 };
 
-// What a hand is for.
+// The meaning of a hand.
 export const handLegend = (x, y, name, label) => html`<path class="hand ${name}"
     d="M${x} ${y}h26"/><text class="note" x="${x + 36}" y="${y + 4}">${label}</text>`;
 

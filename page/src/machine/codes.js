@@ -36,7 +36,7 @@ export const REFUSALS = [
   '', 'NoSuchThread', 'WrongLock', 'Busy', 'NotHolder', 'AlreadyHolds', 'NoCall', 'WrongStep',
   // end
 ];
-// What may come next in a header or a move.
+// The words that may come next in a header or a move.
 export const EXPECTED = [
   // generated: expected by number
   '', 'lock', 'name', 'threads', 'count', 'bits', 'width', 'thread', 'action', 'end',

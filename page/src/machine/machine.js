@@ -140,7 +140,7 @@ export class State {
   phase(thread) { return this.bytes[threadAt(thread)]; }
   dueStep(thread) { return this.bytes[threadAt(thread) + 1]; }
   allows(thread, call) { return (this.bytes[threadAt(thread) + 2] >> call & 1) === 1; }
-  // Of an MCS lock: the words of the thread's record, and the value that names it.
+  // For an MCS lock: the words of the thread's record, and the value that names it.
   nextWord(thread) { return this.bytes[threadAt(thread) + 3]; }
   lockedWord(thread) { return this.bytes[threadAt(thread) + 4]; }
   recordName(thread) { return this.bytes[threadAt(thread) + 5]; }

@@ -39,8 +39,8 @@ const asked = (slices) => slices.flatMap(({ at, length }) => [BigInt(at), BigInt
 // A move of a run by its code: 512 times that of the move, and its thread.
 const moveOf = (code) => `${code & 255} ${MOVES[code >> 9]}`;
 
-// What a search answers that begins in a state of this lock, its number, and the run that it found,
-// as lines of a schedule. `call` gives the module the text and the memory.
+// The answer of a search from a state of this lock, its number, and the run that it found, as lines
+// of a schedule. `call` gives the module the text and the memory.
 function searched(machine, state, mostCells, text, call) {
   const width = 4 + state.wordCount + 2 * state.threads;
   const states = Math.min(MOST_STATES, Math.floor(mostCells / width));

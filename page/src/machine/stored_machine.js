@@ -1,6 +1,6 @@
 // What the machine answered when the page was built, for a browser that cannot run it: the
-// lessons' texts with their records, and of the states in the beginning and at the end what differs
-// from the one before; and of the lines with a fault where they stop.
+// lessons' texts with their records; for the states in the beginning and at the end the difference
+// from the one before; and for the lines with a fault where they stop.
 
 import { fromBase64, sameBytes, toBase64 } from '../lib/bytes.js';
 import { ANSWER } from './codes.js';
@@ -78,7 +78,7 @@ export class StoredMachine {
     const records = new State(bytes).answer === ANSWER.fault ? new Uint8Array() : kept.records;
     return { state: new State(bytes), records };
   }
-  // Where a line stops of which the build asked it.
+  // Where a line stops, if the build asked for it.
   stop(line, isMove) {
     return this.stops.find((one) => one.line === line && one.isMove === isMove).stop;
   }

@@ -1,6 +1,6 @@
-// The write that ended a wait, and the step that found it. Whether a thread waits after a move of
-// its own, its record says. A wait begins with the first such move and goes on through failed
-// polls. It was ended by the last change of a word that is polled.
+// The write that ended a wait, and the step that found it. A move's record says whether its thread
+// waits after it. A wait begins with the first such move and goes on through failed polls. It was
+// ended by the last change of a word that is polled.
 
 import { placeAfter } from '../lib/ascending.js';
 import { NO_WORD, OUTCOME } from '../machine/codes.js';

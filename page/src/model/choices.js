@@ -1,4 +1,5 @@
-// Who may move next: for each thread its due step, or the calls that the machine would accept.
+// The moves that may come next: for each thread its due step, or the calls that the machine would
+// accept.
 
 import { CALLS, MOST_BYTES, MOST_MOVES, MOVES } from '../machine/codes.js';
 import { ownWords } from '../machine/locks_code.js';

@@ -28,7 +28,7 @@ export function commonMoves(one, other) {
 export const otherLock = (run) => run.hasLock && run.count <= MOST_MOVES
   && OTHER[LOCK_NAMES[run.kind]];
 
-// What the report says of a move, without its number.
+// The report's line on a move, without its number.
 /** @param {Run} run */
 function said(run, move) {
   const state = run.state(move);

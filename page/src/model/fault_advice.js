@@ -1,6 +1,6 @@
 // What is wrong with a text, in words: what was found, what could be there, and if it is plain a
-// line to write instead. That there is a fault, in which line, and at which column the line stops,
-// the machine says. Which numbers it takes the build asked it.
+// line to write instead. The machine says whether there is a fault, in which line, and at which
+// column the line stops. The build asked it which numbers it takes.
 
 import { bytesOf, lineOf } from '../lib/bytes.js';
 import { nearestWord } from '../lib/nearest_word.js';

@@ -74,7 +74,7 @@ export function keepSchedule(name, text, place, title) {
     .slice(0, MOST_KEPT).filter((one) => { room -= one.size; return room > 0; });
   const names = list.map((one) => one.name);
   before.filter((one) => !names.includes(one.name)).forEach((one) => store(keyOf(one.name), null));
-  // What is oldest makes room.
+  // The oldest makes room.
   while (list.length && !store(keyOf(name), coded)) store(keyOf(list.pop().name), null);
   store(LIST, JSON.stringify(list));
 }

@@ -1,4 +1,4 @@
-// What the reader wants to see: which parts, how large, and whether what comes. A link carries it
+// What the reader wants to see: which parts, how large, and whether later moves. A link carries it
 // beside the schedule, so that it opens as it was shown.
 
 export const PARTS = ['time', 'memory', 'code', 'now'];

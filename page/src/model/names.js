@@ -1,4 +1,4 @@
-// What threads and the values of words are called.
+// The names of threads and of the values of words.
 
 import { texts } from '../texts/texts.js';
 
@@ -20,7 +20,7 @@ export class Names {
     return alike.length === 1 ? first(name) : String(thread);
   }
   short(thread) { return this.given.get(thread) ?? texts.shortThread(thread); }
-  // Of many only the first few, and how many more.
+  // Only the first few of many, and how many more.
   few(threads) {
     const more = threads.length - FEW;
     if (more < 2) return this.list(threads);

@@ -1,5 +1,5 @@
 // The same calls on the other read-write lock. In each of its turns a thread makes there the step
-// that is due, or the next of its calls. What is due after a move the machine alone says. So the
+// that is due, or the next of its calls. The machine alone says what is due after a move. So the
 // moves are guessed and played, and the next guesses follow the records as far as they were right.
 // A guess that was wrong costs a replay, and all others together cost one.
 
@@ -9,7 +9,7 @@ import { otherLock } from './compare_runs.js';
 import { moveText } from './report.js';
 import { Run, runOf } from './run.js';
 
-// What a thread may do after a move, and before its first one.
+// The moves that a thread may make after a move, and before its first one.
 const after = ({ records }, move) => ({
   due: records.due(move), phase: records.phase(move), allows: (call) => records.allows(move, call),
 });
@@ -17,8 +17,8 @@ const atFirst = ({ begun }, thread) => ({
   due: begun.dueStep(thread), allows: (call) => begun.allows(thread, call),
 });
 
-// A guess at what comes of a move there: the same as here, unless the last move of this kind there
-// ended in another way.
+// A guess at a move's outcome there: the same as here, unless the last move of this kind ended
+// differently there.
 /** @param {Run} run */
 function guess(run, move, kind, there) {
   const here = after(run, move);
@@ -35,7 +35,7 @@ class OtherSchedule {
     this.known = known;
     this.threads = Array.from({ length: run.threads }, (_, thread) => atFirst(known, thread));
     this.lines = [];
-    // What came of the last move of each kind there: of a call, or of a step from a phase.
+    // The outcome of the last move of each kind there: of a call, or of a step from a phase.
     this.seen = new Map();
     this.follows = true;
   }

@@ -1,4 +1,4 @@
-// Of an MCS lock: whose a word is, and whose record a value names. The module says of each thread
+// In an MCS lock: whose a word is, and whose record a value names. The module says of each thread
 // which words its record has and which value names it; the tail is the word that is nobody's.
 
 export class OwnedWords {

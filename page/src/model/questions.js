@@ -1,7 +1,6 @@
 // The questions of the quiz: which moves are asked for, and what of them. Calls are not: their
-// outcome is always the same. Of what is asked no answer that is always the same, and neither "as
-// it is now", is right more than half of the time; since a wrong answer takes a point away, such
-// answers earn nothing.
+// outcome is always the same. No answer that is always the same, nor "as it is now", is right more
+// than half of the time; since a wrong answer takes a point away, such answers earn nothing.
 
 import { OUTCOMES } from '../machine/codes.js';
 import { holdersText, queueText } from './report.js';
@@ -18,7 +17,7 @@ export const truthOf = {
   queue: (run, move) => queueText(run.state(move)),
 };
 
-// What may be asked of a move: {kind, move, truth, same: whether it is as before}.
+// The questions on a move: {kind, move, truth, same: whether it is as before}.
 /** @param {Run} run */
 function questionOf(run, move, kind) {
   const truth = truthOf[kind](run, move);

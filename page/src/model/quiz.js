@@ -17,7 +17,7 @@ export class Quiz {
     this.name = '';
   }
 
-  // What a reload brings back, as a text; null if there is nothing.
+  // The state that a reload brings back, as a text; null if there is none.
   get saved() {
     const { on, name, sheets } = this;
     if (!on && ![...sheets.values()].some(({ answers }) => answers.size)) return null;
@@ -33,7 +33,7 @@ export class Quiz {
     Object.assign(this, { on, name });
   }
 
-  // From the move that is shown on it is asked: what came before was seen.
+  // Asks from the move that is shown on: earlier ones were seen.
   toggle(session) {
     this.on = !this.on;
     this.clear();
@@ -91,7 +91,7 @@ export class Quiz {
     return { right, wrong, points: Math.max(0, right - wrong) };
   }
 
-  // What was answered wrongly of the schedule that is shown.
+  // The wrong answers on the schedule that is shown.
   get wrong() { return [...this.sheet.answers.values()].filter(({ right }) => !right); }
 
   // For the teacher: who, when and where, and every answer, as a text.

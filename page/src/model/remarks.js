@@ -1,6 +1,6 @@
 // What a schedule's comments say to this page: `#! title ..`, `#! learn ..`, `#! name 0 ..`,
 // `#! say 3 ..`, `#! ask 15 ..`, `#! answer 15 ..`. To the reader of schedules they are skipped
-// lines like all that begin with `#`. What has several lines of the same kind and number is one
+// lines like all that begin with `#`. Several lines of the same kind and number are one
 // text.
 
 import { lettersOf } from '../lib/bytes.js';
@@ -11,7 +11,7 @@ import { translatedText } from '../texts/language.js';
 const HASH = '#'.charCodeAt(0);
 const WHOLE = /^#! (?<what>title|learn) (?<text>.+)$/;
 const REMARK = /^#! (?<what>say|ask|answer|name) (?<number>0|[1-9][0-9]{0,4}) (?<text>.+)$/;
-// What a question hides up to its answer; one that does not say it hides `memory`.
+// The parts that a question hides until its answer; by default `memory`.
 const PARTS = ['sentence', 'facts', 'memory', 'standing'];
 const HIDES = /^hide (?<parts>[a-z]+(?: [a-z]+)*) : (?<asked>.+)$/;
 const UNSAID = ['memory'];
@@ -70,7 +70,7 @@ export function remarksOf(text) {
   return inLanguage(remarks);
 }
 
-// Of a lesson the same in the language of the page.
+// The same for a lesson, in the language of the page.
 function inLanguage(remarks) {
   for (const name of ['title', 'learn', 'about']) remarks[name] = translatedText(remarks[name]);
   for (const texts of [remarks.say, remarks.ask, remarks.answer]) {

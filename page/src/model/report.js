@@ -1,4 +1,4 @@
-// Lines of the report, from what the machine answered.
+// Lines of the report, from the machine's answers.
 
 import { MOVES, OUTCOMES } from '../machine/codes.js';
 

@@ -135,7 +135,7 @@ function refusalOf(state, text) {
   return { name, line: state.line, wanted: state.wantedStep, thread: Number(thread), word };
 }
 
-// What can be stepped through of a text with a fault: the lines before it.
+// The part of a text with a fault that can be stepped through: the lines before it.
 function playablePart(text, fault) {
   if (fault.name === 'TooLong') {
     const most = text.subarray(0, MOST_BYTES);

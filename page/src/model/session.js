@@ -1,4 +1,4 @@
-// What is shown: one schedule, the move that is shown, and everything derived from the two.
+// The view: one schedule, the move that is shown, and everything derived from the two.
 
 import { lettersOf, throughLine, withoutLines } from '../lib/bytes.js';
 import { LOCK_NAMES } from '../machine/codes.js';
@@ -11,7 +11,7 @@ import { runOf } from './run.js';
 import { BoundRemarks } from './stale_remarks.js';
 
 /**
- * What texts and pictures are drawn from: a run at one of its places, and what is wished of it.
+ * The source of texts and pictures: a run at one of its places, and what is wished of it.
  * @typedef {import('./run.js').Run} Run
  * @typedef {object} Wishes
  * @property {boolean} [answered] whether the answer to the move's question is shown
@@ -69,12 +69,12 @@ export class Session {
     this.origin = { run: this.run, title: this.remarks.title || lesson };
   }
 
-  // A text that was made from this one: of its remarks those are left that still hold.
+  // A text that was made from this one, with the remarks that still hold.
   derive(text, lesson, move) {
     this.load(text, lesson, move);
   }
 
-  // What `restore` brings back.
+  // The state that `restore` brings back.
   get shown() {
     const { run: { text }, lesson, place, boundRemarks, origin } = this;
     return { text, lesson, place, boundRemarks, origin };
@@ -107,7 +107,7 @@ export class Session {
     this.run = run;
     this.lesson = lesson;
     this.stale = this.boundRemarks.stale(this.run);
-    // What is saved and linked.
+    // The text that is saved and linked.
     this.held = withoutLines(text, this.stale);
     this.remarks = remarksOf(this.held);
     this.names = new Names(this.remarks.name);

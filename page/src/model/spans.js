@@ -1,4 +1,4 @@
-// What a thread was doing between its moves: in a call, in the queue, holding, not linked.
+// The activity of a thread between its moves: in a call, in the queue, holding, not linked.
 // All of it is read off the records that the machine wrote; a stretch of moves is found by
 // bisection.
 

@@ -1,6 +1,6 @@
 // The state after a move, read off the records. A thread is as its last move left it, and a word
 // as the last move that touched it left it; before such a move both are as in the beginning. That
-// holds since nobody but a thread itself changes its phase, or lets it hold, join or leave.
+// holds since only a thread itself changes its phase, and its holding, joining and leaving.
 
 import { lastUpTo } from '../lib/ascending.js';
 import { AS_WRITER, HOLDS, IN_QUEUE } from '../machine/codes.js';

@@ -1,4 +1,4 @@
-// What each key does, in English.
+// The action of each key, in English.
 
 export const keys = {
   title: 'Keys',

@@ -1,4 +1,4 @@
-// What the page says of lessons, lesson plans and lectures, in English.
+// The page's words on lessons, lesson plans and lectures, in English.
 
 export const lessons = {
   title: 'Lessons',

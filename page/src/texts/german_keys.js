@@ -1,4 +1,4 @@
-// What each key does, in German.
+// The action of each key, in German.
 
 export const germanKeys = {
   title: 'Tasten',

@@ -1,4 +1,4 @@
-// What the page says of each lock, in German, by the names of the English sentences.
+// The page's words on each lock, in German, by the names of the English sentences.
 
 export const germanLocks = {
   ticket: {

@@ -1,5 +1,5 @@
-// What the page says, in English, but for what it says of one lock alone: that is in the lock's
-// file. {..} is what the machine or the schedule gave.
+// The page's sentences in English, but for those of one lock alone, which are in the lock's file.
+// {..} is a value from the machine or the schedule.
 
 import { MOST_BYTES, MOST_MOVES } from '../machine/codes.js';
 import { keys } from './english_keys.js';

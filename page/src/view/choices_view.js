@@ -36,7 +36,7 @@ export function choicesView(session, every) {
     <ul class="threads">${threads.map(row)}</ul>`;
 }
 
-// Of each kind of move that can be reached in how many moves.
+// In how many moves each kind of move can be reached.
 export function nextKindsView({ ways, whole }) {
   const rows = ways.map(([name, moves], at) => html`<li><button type="button"
     data-next-kind="${at}">${T.inMoves(moves.length)}</button> ${name}</li>`);
@@ -46,7 +46,7 @@ export function nextKindsView({ ways, whole }) {
 const headerOf = (lock, threads, bits) => (
   `lock ${lock} threads ${threads}${String(bits) === '64' ? '' : ` bits ${bits}`}\n`);
 
-// The header of a new schedule. Whether it is one the machine says.
+// The header of a new schedule; the machine says whether it is one.
 export function newHeader(form) {
   const { lock, threads, bits } = Object.fromEntries(new FormData(form));
   return headerOf(lock, threads, bits);

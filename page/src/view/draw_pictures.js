@@ -1,5 +1,5 @@
 // Draws the pictures into the room that they have. The room may depend on what is drawn, so it is
-// measured again afterwards, and what it no longer fits is drawn anew.
+// measured again afterwards, and a picture that no longer fits is drawn anew.
 
 import { byId, inputOf } from '../lib/elements.js';
 import { show, write } from '../lib/markup.js';
@@ -169,7 +169,7 @@ const SCALES = [1.3, 1.2, 1.1, 1, 0.9, 0.8, 0.7, 0.65];
 // In a window that is very low also these.
 const LOW = [0.55, 0.5];
 const NARROWEST = 300;
-// Of more threads than these the picture is folded at once, at one scale.
+// With more threads than these the picture is folded at once, at one scale.
 const MANY_THREADS = 12;
 const SCALE_OF_MANY = 0.8;
 

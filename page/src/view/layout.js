@@ -16,7 +16,7 @@ const GUTTER = { least: 122, share: 0.16 };
 export const NAME_EDGES = { left: 20, right: 10 };
 const COLUMN = { compared: 19, narrowest: 16, least: 44, most: 66, widest: 120 };
 export const LANE = { tallest: 85, lowest: 38, compared: 26, foot: 6 };
-// Of more threads than these only those that move are drawn.
+// With more threads than these only those that move are drawn.
 const MANY_THREADS = 8;
 // How far along the view the current move is in a long schedule.
 const HERE = 0.6;
@@ -57,7 +57,7 @@ export function gutterOf(names, width) {
   return Math.max(GUTTER.least, Math.min(wanted, Math.floor(GUTTER.share * width)));
 }
 
-// Of many threads those that move in view, or that are in a call or hold the lock.
+// If there are many threads, those that move in view, or that are in a call or hold the lock.
 function busyLanes({ run, move }, lanes, first, last) {
   if (lanes.length <= MANY_THREADS) return lanes;
   const busy = lanes.filter((thread) => thread >= run.threads

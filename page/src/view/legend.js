@@ -1,4 +1,4 @@
-// What the signs of the lanes mean. Each lock names those that it has beside the common ones.
+// The meanings of the signs of the lanes. Each lock names those that it has beside the common ones.
 
 import { html } from '../lib/markup.js';
 import { texts } from '../texts/texts.js';

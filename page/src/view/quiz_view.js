@@ -9,7 +9,7 @@ import { moveText } from '../model/report.js';
 
 const T = texts.quiz;
 
-// What the form says; nothing if nothing was chosen or typed.
+// The answer in the form; nothing if nothing was chosen or typed.
 export function givenOf(form) {
   const given = new FormData(form);
   return String(given.get('outcome') ?? given.get('answer')).trim();
@@ -45,7 +45,7 @@ export function resultView({ kind, truth, given, right }, outcome) {
   kind === 'queue' ? T.whyQueue : T.why[outcome]}</p>`}</div>`;
 }
 
-// What there is to do between two questions: to go on to the next one.
+// The action between two questions: to go on to the next one.
 function howView(quiz, session) {
   if (quiz.asks(session)) return null;
   const before = quiz.limit();

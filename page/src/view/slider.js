@@ -47,7 +47,7 @@ function ticks(view, width) {
     .filter((ofKind) => ofKind.length <= width / CLOSEST).flat();
 }
 
-// Of each run the ticks that were found last.
+// The ticks of each run that were found last.
 const known = new WeakMap();
 
 /** @param {View} view */

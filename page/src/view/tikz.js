@@ -29,12 +29,12 @@ const BOLD = 550;
 
 const rounded = (number) => Math.round(number * 100) / 100;
 
-// What LaTeX has no letter for is a question mark.
+// A letter that LaTeX does not have is a question mark.
 const texOf = (text) => [...text.replace(SPECIAL, (one) => ESCAPES[one])]
   .map((letter) => SIGNS[letter] ?? (/[\u0000-\u024f\u2013-\u2026]/.test(letter) ? letter : '?'))
   .join('');
 
-// The ground of a pattern, which TikZ has not.
+// The ground of a pattern, which TikZ does not have.
 const GROUNDS = { hatch: '--wait-under', ruled: '--read' };
 
 function groundOf(paint) {

@@ -9,8 +9,8 @@ use crate::moves::{Step, Word};
 use crate::plain::{Counter, Plain};
 
 /// An atomic of the standard library, with the same operations. In a seeded run another thread may
-/// have its turn before each of them. If it was said which [`Word`] of the lock it is, each
-/// operation is also noted, with what it found and left.
+/// have its turn before each of them. If it is marked as a [`Word`] of the lock, each operation is
+/// also noted, with what it found and left.
 ///
 /// ```
 /// use lockreplay_record::{AtomicBool, AtomicU32, Word};
@@ -25,7 +25,7 @@ use crate::plain::{Counter, Plain};
 ///     now_serving: AtomicU32::new(0).noted(Word::NowServing),
 /// };
 ///
-/// /// It is the other way round than the published one.
+/// /// It is the opposite of the published flag.
 /// static GRANTED: AtomicBool = AtomicBool::new(false)
 ///     .noted_as(Word::Locked, |granted| u64::from(!granted));
 /// # let _ = (&LOCK.next_ticket, &LOCK.now_serving, &GRANTED);
@@ -155,7 +155,7 @@ impl<A: Plain> Atomic<A> {
     #[track_caller]
     pub fn store(&self, value: A::Value, order: Ordering) {
         let (turn, owner) = self.begin();
-        // What a pointer is to has to be known before: afterwards another thread may have it.
+        // The pointer's record is looked up first: afterwards another thread may have it.
         let left = self.value(&turn, value);
         self.plain.store(value, order);
         self.end(&turn, owner, true, |word| [Step::write(word, left)]);
@@ -178,7 +178,7 @@ impl<A: Plain> Atomic<A> {
     ///
     /// # Errors
     ///
-    /// What it found, if that was not `old`.
+    /// The value that it found, if that was not `old`.
     #[track_caller]
     pub fn compare_exchange(
         &self,
@@ -194,11 +194,11 @@ impl<A: Plain> Atomic<A> {
         result
     }
 
-    /// A compare-and-swap that may fail for no reason. Such a failure is no step, and is not noted.
+    /// A compare-and-swap that may fail spuriously. Such a failure is no step, and is not noted.
     ///
     /// # Errors
     ///
-    /// What it found, if it did not write.
+    /// The value that it found, if it did not write.
     #[track_caller]
     pub fn compare_exchange_weak(
         &self,
@@ -218,12 +218,12 @@ impl<A: Plain> Atomic<A> {
         result
     }
 
-    /// Loads, and tries to store what comes of it, until another thread does not come between. Each
-    /// try is an operation of its own.
+    /// Loads, and tries to store the new value, until no other thread comes between. Each try is an
+    /// operation of its own.
     ///
     /// # Errors
     ///
-    /// What it found, if nothing comes of that.
+    /// The value that it found, if the function gave `None`.
     #[track_caller]
     pub fn fetch_update(
         &self,

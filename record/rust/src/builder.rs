@@ -1,4 +1,4 @@
-//! What is asked of a run before it is opened, and how it is opened.
+//! The options of a run, and how it is opened.
 // SPDX-License-Identifier: Apache-2.0 OR MIT
 
 use std::path::PathBuf;
@@ -21,7 +21,7 @@ use crate::tape::{Tape, POLLS_WRITTEN};
 use crate::turns::{Rule, Turns};
 use crate::wakes::Wakes;
 
-/// What is asked of a run before it is opened.
+/// The options of a run before it is opened.
 #[derive(Clone, Debug)]
 #[must_use = "a run is opened by `open`"]
 pub struct RunBuilder {
@@ -63,10 +63,10 @@ impl RunBuilder {
         RunBuilder { room: moves, ..self }
     }
 
-    /// By [`Mode::Seed`] and [`Mode::Pct`]: one turn in so many wakes a thread that waits for a
-    /// notification, though nobody gave it; none does if that is 0. So a thread is seen that does
-    /// not look again after its wait. If this is not said, one turn in 8 does with an even seed.
-    /// Runs that are [explored](RunBuilder::explore) have such wakes unless that is 0.
+    /// Spurious wakeups, with [`Mode::Seed`] and [`Mode::Pct`]: one turn in so many wakes a thread
+    /// that waits for a notification, though nobody gave it; 0 means none. They show a thread that
+    /// does not look again after its wait. By default, one turn in 8 has one with an even seed.
+    /// Runs that are [explored](RunBuilder::explore) have them unless this is 0.
     pub fn spurious(self, one_in: usize) -> RunBuilder {
         RunBuilder { spurious: Some(one_in), ..self }
     }
@@ -105,10 +105,10 @@ impl RunBuilder {
         self.open_by(rule, chooser, number)
     }
 
-    /// All runs in which at most so many times another thread takes the turn of one that could go
-    /// on: so many *preemptions*. The threads run by turns, whatever the mode. A thread that polled
-    /// in vain, finding the same in one atomic twice in a row, cannot go on until another steps.
-    /// One that waits for a notification may wake up without it, which counts as a preemption.
+    /// All runs with at most so many *preemptions*: turns taken from a thread that could go on. The
+    /// threads run by turns, whatever the mode. A thread that polled in vain, finding the same in
+    /// one atomic twice in a row, cannot go on until another steps. One that waits for a
+    /// notification may wake up without it, which counts as a preemption.
     ///
     /// Runs with fewer preemptions come first. Each has to be run before the next one is asked for,
     /// with a new lock. If none is refused and none hangs, no run of these threads with so

@@ -25,7 +25,7 @@ pub(crate) struct Step {
     pub(crate) word: u32,
 }
 
-/// What the check answers. A fault of 0 is none.
+/// The answer of the check. A fault of 0 is none.
 #[repr(C)]
 #[derive(Debug, Default)]
 pub(crate) struct Answer {
@@ -83,7 +83,7 @@ impl Run {
         if !self.0.mode.has_order() {
             return Err(Error::NoOrder);
         }
-        // One more, for what the published lock does in the place of a move that is refused.
+        // One more, for the step of the published lock in place of a move that is refused.
         let mut steps = vec![Step::default(); self.0.turns.stage().order().len() + 1];
         let answer = answer_to(&self.trace()?, &mut steps);
         if answer.fault != 0 {
@@ -141,8 +141,8 @@ fn move_at(moves: &[Made], index: u64) -> String {
 fn answer_to(text: &str, steps: &mut [Step]) -> Answer {
     let mut answer = Answer::default();
     let _alone = ALONE.lock().unwrap_or_else(PoisonError::into_inner);
-    // SAFETY: the check reads so many bytes of the text, and writes at most so many records and the
-    // answer, which have the layouts of record/locktrace.h. It keeps no pointer.
+    // SAFETY: the check reads the bytes of the text, and writes at most `steps.len()` records and
+    // the answer, which have the layouts of record/locktrace.h. It keeps no pointer.
     unsafe { lt_check(text.as_ptr(), text.len(), steps.as_mut_ptr(), steps.len(), &mut answer) };
     answer
 }
@@ -150,12 +150,12 @@ fn answer_to(text: &str, steps: &mut [Step]) -> Answer {
 #[allow(unsafe_code)]
 fn text_of(fault: u32) -> String {
     let mut text = [0; MOST_BYTES];
-    // SAFETY: the check writes at most so many bytes.
+    // SAFETY: the check writes at most `text.len()` bytes.
     let length = unsafe { lt_fault_text(fault, text.as_mut_ptr(), text.len()) };
     String::from_utf8_lossy(text.get(..length).unwrap_or(&text)).into_owned()
 }
 
-/// What is wrong with how a thread ended: inside a call, or not at all though its call is over.
+/// The fault of how a thread ended: inside a call, or not at all though its call is over.
 fn beside(run: &Shared, steps: &[Step]) -> Option<Error> {
     let stage = run.turns.stage();
     let (missing, is_cut) = (stage.missing(), stage.is_cut);

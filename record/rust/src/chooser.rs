@@ -1,4 +1,4 @@
-//! Who says whose turn is next, when one thread runs at a time.
+//! The choice of whose turn is next, when one thread runs at a time.
 // SPDX-License-Identifier: Apache-2.0 OR MIT
 
 use crate::draw::Draw;
@@ -8,12 +8,12 @@ use crate::path::{Effect, Path};
 use crate::priorities::Priorities;
 use crate::tape::Added;
 
-/// So many turns in vain, one after another, and the run hangs.
+/// The run hangs after this many turns in vain, one after another.
 const PATIENCE: u32 = 20_000;
-/// The same if all runs are explored, since there no draw can leave out a thread that gets on.
+/// The same if all runs are explored: there no draw can leave out a thread that makes progress.
 const PATIENCE_OF_A_PATH: u32 = 1_000;
 
-/// Who says whose turn is next.
+/// Chooses whose turn is next.
 #[derive(Debug)]
 pub(crate) enum Chooser {
     /// The numbers of a seed.

@@ -48,7 +48,7 @@ impl<V> Name<V> {
     }
 }
 
-/// What a thread records with.
+/// The means by which a thread records.
 #[derive(Debug)]
 pub(crate) struct Recorder {
     pub(crate) shared: Arc<Shared>,
@@ -82,7 +82,7 @@ pub(crate) fn with<R>(record: impl FnOnce(&mut Recorder) -> R) -> Option<R> {
     place(|current| current.as_mut().map(record)).flatten()
 }
 
-/// Begins to record, in the place of what recorded before.
+/// Begins to record, in place of any recorder before.
 pub(crate) fn install(recorder: Recorder) {
     place(|current| *current = Some(recorder));
 }

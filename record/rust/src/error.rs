@@ -1,4 +1,4 @@
-//! What can be wrong with how the crate is used, each with a sentence.
+//! Mistakes in the use of the crate, each with a sentence.
 // SPDX-License-Identifier: Apache-2.0 OR MIT
 
 use std::error;
@@ -47,17 +47,17 @@ pub enum Error {
     Stopped,
     /// A thread could not be started.
     Start(io::Error),
-    /// A line of a text is none of a schedule.
+    /// A line of a text is not a line of a schedule.
     NoSchedule {
         /// Its number, from 1.
         line: usize,
     },
     /// A schedule is of another lock, or of other threads or counters, than the run.
     OtherRun {
-        /// What the run is of, as the header of its trace.
+        /// The run's lock, threads and counters, as the header of its trace.
         run: String,
     },
-    /// Wakes for nothing were asked for in a mode that has no seed.
+    /// Spurious wakeups were asked for in a mode that has no seed.
     NoSeed,
     /// A run was to be checked whose moves have no known order.
     NoOrder,
@@ -67,7 +67,7 @@ pub enum Error {
         line: u64,
         /// Where in the source its move was made, and the move: `src/lock.rs:41, '0 cas ..'`.
         made: String,
-        /// What is wrong with it, and what the published lock does there.
+        /// The fault, and the step of the published lock there.
         reason: String,
     },
     /// A thread that has come through its call, by the lock's machine, has not ended.
@@ -141,7 +141,7 @@ impl fmt::Display for Error {
 }
 
 impl Error {
-    /// What is wrong with the moves of a run, or with those of its schedule.
+    /// A fault of the moves of a run, or of those of its schedule.
     fn fmt_of_moves(&self, out: &mut fmt::Formatter<'_>) -> fmt::Result {
         match self {
             Error::NoSchedule { line } => write!(out, "line {line} is no line of a schedule"),

@@ -20,7 +20,7 @@ pub struct Departure {
     did: Did,
 }
 
-/// What a thread did in the place of its line's move.
+/// The action of a thread in place of its line's move.
 #[derive(Clone, Copy, Debug, PartialEq, Eq)]
 enum Did {
     Make(Kind),

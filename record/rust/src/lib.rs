@@ -8,7 +8,7 @@
 //!
 //! 1. Take the atomics from this crate in place of those of the standard library, and say once
 //!    which [`Word`] of the lock each of them is. A read-write lock takes [`Mutex`] and [`Condvar`]
-//!    from here, and [notes](MutexGuard::note) what came of each section.
+//!    from here, and [notes](MutexGuard::note) the outcome of each section.
 //! 2. Say where each [`call`] begins. In an MCS lock, say which record is the thread's
 //!    [own](own_record).
 //! 3. Open a [`Run`] in some [`Mode`], let its [threads](Run::threads) work, and
@@ -77,9 +77,9 @@
 //! ends where a move is not that of its line. [`RunBuilder::explore`] makes all runs of a few
 //! threads with few preemptions. Each run's [trace](Run::trace) is for `locktrace check`.
 //!
-//! Threads of a monitor may be woken for nothing ([`RunBuilder::spurious`]). With the
-//! feature `check`, which the build needs a C compiler for, `Run::check` checks a run in the
-//! process, and `explore` all runs of a lock's test: no other tool is needed.
+//! Threads of a monitor may have spurious wakeups ([`RunBuilder::spurious`]). With the feature
+//! `check`, for which the build needs a C compiler, `Run::check` checks a run in the process, and
+//! `explore` all runs of a lock's test: no other tool is needed.
 //!
 //! A run that hangs ends all the same: a seeded one when nothing but failed polls was seen for
 //! 20,000 turns ([`Ending::Hangs`]), others when their time is over ([`Ending::Stopped`]). The

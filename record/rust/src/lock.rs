@@ -74,7 +74,7 @@ impl FromStr for Lock {
     }
 }
 
-/// What the first line of a run's texts says.
+/// The contents of the first line of a run's texts.
 #[derive(Clone, Copy, Debug)]
 pub(crate) struct Header {
     pub(crate) lock: Lock,

@@ -21,8 +21,8 @@ pub enum Mode {
     /// synchronization.
     Free,
     /// As `Free`, but before one operation in eight a thread yields, sleeps for up to 0.1 ms or
-    /// spins, by numbers of this seed. That makes rare interleavings less rare. A run cannot be had
-    /// again, since the threads are real.
+    /// spins, by numbers of this seed. That makes rare interleavings less rare. A run cannot be
+    /// repeated, since the threads are real.
     Noise(u64),
     /// Each operation and its note are made under one mutex, so their order is known. It is slower
     /// and more orderly than a real run.
@@ -36,7 +36,7 @@ pub enum Mode {
     /// steps are enough for a mistake, a run of n threads and k turns notices it with a probability
     /// of at least 1 / (n k^(depth - 1)) (Burckhardt and others, ASPLOS 2010).
     Pct {
-        /// What is drawn is of this seed.
+        /// The seed of all draws.
         seed: u64,
         /// How many orderings are enough for the mistakes that are looked for; 1 or more.
         depth: usize,

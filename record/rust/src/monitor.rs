@@ -49,7 +49,7 @@ struct Counted<T> {
     sections: Sections,
 }
 
-/// What a [`Mutex`] has, until this is dropped.
+/// The contents of a [`Mutex`], until this is dropped.
 #[must_use = "the section ends when this is dropped"]
 pub struct MutexGuard<'a, T> {
     plain: sync::MutexGuard<'a, Counted<T>>,
@@ -59,8 +59,8 @@ pub struct MutexGuard<'a, T> {
 
 /// A condition variable for a [`Mutex`].
 ///
-/// With one thread at a time a thread that waits runs again when it is notified, or is now and then
-/// [woken for nothing](crate::RunBuilder::spurious). So a run in which a notification is missing
+/// With one thread at a time a thread that waits runs again when it is notified, or has a [spurious
+/// wakeup](crate::RunBuilder::spurious) now and then. So a run in which a notification is missing
 /// hangs.
 #[derive(Debug, Default)]
 pub struct Condvar {
@@ -117,7 +117,7 @@ impl<T> Mutex<T> {
         self.plain.is_poisoned()
     }
 
-    /// What is in the mutex, which nobody else can have now.
+    /// The contents of the mutex, which nobody else can have now.
     ///
     /// # Errors
     ///
@@ -129,7 +129,7 @@ impl<T> Mutex<T> {
         }
     }
 
-    /// What is in the mutex.
+    /// The contents of the mutex.
     ///
     /// # Errors
     ///

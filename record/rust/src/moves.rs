@@ -114,17 +114,17 @@ impl Step {
         Step { owner: Some(thread), ..self }
     }
 
-    /// What the operation found.
+    /// The value that the operation found.
     pub const fn with_found(self, found: u64) -> Step {
         Step { found: Some(found), ..self }
     }
 
-    /// What the operation left.
+    /// The value that the operation left.
     pub const fn with_left(self, left: u64) -> Step {
         Step { left: Some(left), ..self }
     }
 
-    /// The same, with values as a counter of so many bits has them that began at `start`.
+    /// The same, with the values of a counter of `bits` bits that began at `start`.
     #[cfg(feature = "record")]
     pub(crate) fn in_bits(self, bits: u32, start: u64) -> Step {
         let of_counter = |value: u64| value.wrapping_sub(start) & (u64::MAX >> (64 - bits));

@@ -7,7 +7,7 @@ use std::time::Duration;
 
 use crate::draw::Draw;
 
-/// At one operation in so many a thread is held up.
+/// A thread is held up at one operation in this many.
 const ONE_IN: u64 = 8;
 const MOST_NANOSECONDS: u64 = 100_000;
 const MOST_SPINS: u64 = 5_000;

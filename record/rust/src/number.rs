@@ -8,10 +8,10 @@ use std::time::{SystemTime, UNIX_EPOCH};
 use crate::draw::Draw;
 use crate::mode::Mode;
 
-/// How many runs have a number of the time, which two of one process may have in common.
+/// How many runs have a number from the time, which two runs of one process may have in common.
 static OPENED: AtomicU64 = AtomicU64::new(0);
 
-/// Of the time; or of the seed or the schedule, if that decides the run.
+/// From the seed or the schedule if that decides the run, else from the time.
 pub(crate) fn of(mode: &Mode) -> u64 {
     match mode {
         Mode::Seed(seed) | Mode::Pct { seed, .. } => Draw::new(*seed).next(),

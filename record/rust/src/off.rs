@@ -1,4 +1,4 @@
-//! What `current` has, if nothing is recorded: nothing is left of it.
+//! The items of `current`, if nothing is recorded: nothing is left of them.
 // SPDX-License-Identifier: Apache-2.0 OR MIT
 
 use std::marker::PhantomData;

@@ -1,11 +1,11 @@
-//! Who is next in a run that is explored: the choices that are given, and then no preemption.
+//! The next thread of a run that is explored: by the given choices, and then without preemption.
 // SPDX-License-Identifier: Apache-2.0 OR MIT
 
 /// A place in a run where one of several threads could go on.
 #[derive(Clone, Debug)]
 pub(crate) struct Decision {
     options: Vec<usize>,
-    /// Those who wait for a notification. One of them in its place is woken for nothing.
+    /// Those who wait for a notification. To choose one of them instead is a spurious wakeup.
     asleep: Vec<usize>,
     /// The thread that had the turn, if it could go on. Another one in its place is a preemption.
     running: Option<usize>,
@@ -62,7 +62,7 @@ pub(crate) type Way = Vec<usize>;
 #[derive(Debug)]
 pub(crate) struct Path {
     way: Way,
-    /// Whether threads are woken for nothing.
+    /// Whether there are spurious wakeups.
     wakes: bool,
     made: Vec<Decision>,
     /// Whether anything was done since the last decision.
@@ -78,7 +78,7 @@ impl Path {
     }
 
     /// Who of those who are ready goes on. A thread that polled in vain does not, as long as there
-    /// is another one; if all did, they poll by turns. One that is asleep may be woken for nothing.
+    /// is another one; if all did, they poll by turns. One that is asleep may wake up spuriously.
     pub(crate) fn choose(
         &mut self,
         holder: Option<usize>,

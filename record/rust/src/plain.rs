@@ -1,4 +1,4 @@
-//! What the atomics of the standard library have in common.
+//! The common interface of the atomics of the standard library.
 // SPDX-License-Identifier: Apache-2.0 OR MIT
 
 use std::fmt::Debug;

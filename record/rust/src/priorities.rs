@@ -12,7 +12,7 @@ use crate::path::{after, Effect, Stuck};
 #[derive(Debug)]
 pub(crate) struct Priorities {
     draw: Draw,
-    /// Of each thread; the greatest goes first.
+    /// The priority of each thread; the greatest goes first.
     of: Vec<usize>,
     /// At which turns the thread that runs becomes the last.
     changes: Vec<usize>,
@@ -21,7 +21,7 @@ pub(crate) struct Priorities {
 }
 
 impl Priorities {
-    /// Draws an order of the threads, and `depth - 1` turns of the first so many.
+    /// Draws an order of the threads, and `depth - 1` turns of the first `steps`.
     pub(crate) fn of(seed: u64, threads: usize, depth: usize, steps: usize) -> Priorities {
         let mut draw = Draw::new(seed);
         let mut of = Vec::with_capacity(threads);

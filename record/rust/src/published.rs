@@ -1,4 +1,4 @@
-//! What the published lock does in the place of a move that is refused.
+//! The step of the published lock in place of a move that is refused.
 // SPDX-License-Identifier: Apache-2.0 OR MIT
 
 use crate::check::{Answer, Step, WAITS};
@@ -44,7 +44,7 @@ pub(crate) fn told(lock: Lock, moves: &[Made], steps: &[Step], answer: &Answer) 
     said.map_or_else(String::new, |said| format!(": {said}"))
 }
 
-/// Of a call that comes before the last one is over, or of a step after it: the move before it.
+/// For a call before the last one is over, or a step after it: the move before it.
 fn told_of_call(moves: &[Made], steps: &[Step], at: usize, fault: u32) -> Option<String> {
     let (thread, made, _) = moves.get(at)?;
     let last = moves.get(..at)?.iter().rposition(|(by, ..)| by == thread)?;

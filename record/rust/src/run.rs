@@ -24,14 +24,14 @@ use crate::save;
 use crate::tape::Tape;
 use crate::turns::{Stopped, Turns};
 
-/// What all threads of a run share.
+/// Shared by all threads of a run.
 #[derive(Debug)]
 pub(crate) struct Shared {
     pub(crate) number: u64,
     pub(crate) header: Header,
-    /// Of a run that is explored `Ordered`: nothing but its moves says how it can be had again.
+    /// `Ordered` for a run that is explored: nothing but its moves says how to repeat it.
     pub(crate) mode: Mode,
-    /// At one turn in so many a thread is woken for nothing, if that was asked for.
+    /// One turn in this many has a spurious wakeup, if that was asked for.
     pub(crate) spurious: Option<usize>,
     /// The number at which the lock's counters began.
     pub(crate) start: u64,
@@ -85,7 +85,7 @@ pub enum Ending {
 pub struct Run(pub(crate) Arc<Shared>);
 
 impl Run {
-    /// A run of this lock by so many threads, 1 to 64.
+    /// A run of this lock by 1 to 64 threads.
     pub fn of(lock: Lock, threads: usize) -> RunBuilder {
         RunBuilder::of(Header { lock, threads, bits: MOST_BITS })
     }
@@ -224,7 +224,7 @@ impl Run {
     }
 }
 
-/// What became of a thread: a panic of the work goes on, and being stopped is no fault.
+/// The end of a thread: a panic of the work goes on, and a stop is no fault.
 fn ended(handle: ScopedJoinHandle<'_, Result<(), Error>>) -> Result<(), Error> {
     match handle.join() {
         Ok(Err(Error::Stopped)) => Ok(()),

@@ -27,7 +27,7 @@ pub(crate) enum Phase {
     Cut,
 }
 
-/// Who is next.
+/// The next thread, if one is.
 #[derive(Clone, Copy, Debug, PartialEq, Eq)]
 pub(crate) enum Next {
     Thread(usize),
@@ -56,7 +56,7 @@ pub(crate) struct Stage {
 }
 
 impl Stage {
-    /// A stage with memory for the order of so many moves.
+    /// A stage with memory for the order of `moves` moves.
     pub(crate) fn new(
         threads: usize,
         moves: usize,
@@ -104,7 +104,7 @@ impl Stage {
         self.threads_that(|phase| phase != Phase::Ended)
     }
 
-    /// Chooses who is next of the threads that can run.
+    /// Chooses the next of the threads that can run.
     pub(crate) fn next(&mut self) -> Next {
         self.turns += 1;
         self.wake_for_nothing();
@@ -123,8 +123,8 @@ impl Stage {
         }
     }
 
-    /// What is said of a thread's end. Of a run that was stopped nobody knows whether it would have
-    /// gone on.
+    /// The words on a thread's end. If the run was stopped, nobody knows whether the thread would
+    /// have gone on.
     pub(crate) fn end_of(&self, thread: usize) -> &'static str {
         match self.phase(thread) {
             Some(Phase::Ended) => "has ended",

@@ -12,8 +12,8 @@ use crate::moves::Move;
 /// Where a move was made.
 pub(crate) type Source = &'static Location<'static>;
 
-/// How often a poll that finds the same is written, one after another. One that should have ended
-/// the waiting is seen by the second: the lock's machine has no such step any more.
+/// How many equal polls in a row are written. The second shows a poll that should have ended the
+/// wait: the lock's machine has no such step any more.
 pub(crate) const POLLS_WRITTEN: u32 = 2;
 
 /// The moves of a thread, up to the room that there is for them.
@@ -32,7 +32,7 @@ pub(crate) struct Tape {
     ended: bool,
 }
 
-/// What became of a move.
+/// The fate of a move.
 #[derive(Clone, Copy, Debug, PartialEq, Eq)]
 pub(crate) enum Added {
     /// It is in the log.
@@ -46,7 +46,7 @@ pub(crate) enum Added {
 }
 
 impl Tape {
-    /// A tape with memory for so many moves, all of which was touched, and so many equal polls.
+    /// A tape with touched memory for `room` moves, that writes `polls_written` equal polls.
     pub(crate) fn with_room(room: usize, polls_written: u32) -> Result<Tape, Error> {
         let moves = touched(room, Move::Call(crate::moves::Call::Acquire))?;
         let sources = touched(room, Location::caller())?;
@@ -119,7 +119,7 @@ impl Tape {
     }
 }
 
-/// An empty list with memory for so many of these, all of which was touched.
+/// An empty list with memory for `room` of these, all of it touched.
 fn touched<T: Clone>(room: usize, filled: T) -> Result<Vec<T>, Error> {
     let mut list = Vec::new();
     list.try_reserve_exact(room).map_err(|_| Error::OutOfMemory { logs: 1, room })?;

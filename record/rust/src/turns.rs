@@ -18,7 +18,7 @@ use crate::stage::{Next, Phase, Stage};
 use crate::tape::Added;
 use crate::wakes::Wakes;
 
-/// What a stopped thread unwinds with.
+/// The payload with which a stopped thread unwinds.
 #[derive(Debug)]
 pub(crate) struct Stopped;
 
@@ -60,7 +60,7 @@ pub(crate) struct Turns {
 }
 
 impl Turns {
-    /// The turns of so many threads, with memory for the order of so many moves.
+    /// The turns of threads, with memory for the order of their moves.
     pub(crate) fn new(
         rule: Rule,
         chooser: Chooser,

@@ -1,4 +1,4 @@
-//! Wakes for nothing: of threads that wait for a notification which nobody gave.
+//! Spurious wakeups: of threads that wait for a notification which nobody gave.
 //!
 //! POSIX and the standard library allow them, so a thread has to look again after each wait.
 // SPDX-License-Identifier: Apache-2.0 OR MIT
@@ -8,10 +8,10 @@ use crate::error::Error;
 use crate::lock::MOST_THREADS;
 use crate::mode::Mode;
 
-/// At one turn in so many an even seed wakes a thread, if nothing else is asked for.
+/// By default an even seed wakes a thread at one turn in this many.
 const BY_ITSELF: usize = 8;
 
-/// Whom a seed wakes for nothing, and when.
+/// Whom a seed wakes spuriously, and when.
 #[derive(Debug)]
 pub(crate) struct Wakes {
     draw: Draw,
@@ -19,8 +19,8 @@ pub(crate) struct Wakes {
 }
 
 impl Wakes {
-    /// At one turn in so many, by numbers of the run's seed other than those of its turns. Nothing,
-    /// if that is 0. If nothing is asked for, even seeds have some.
+    /// At one turn in `asked`, by numbers of the run's seed other than those of its turns; none if
+    /// that is 0. By default even seeds have some.
     pub(crate) fn of(mode: &Mode, asked: Option<usize>) -> Result<Option<Wakes>, Error> {
         let seed = match (mode, asked) {
             (Mode::Seed(seed) | Mode::Pct { seed, .. }, _) => *seed,

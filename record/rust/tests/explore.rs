@@ -136,7 +136,7 @@ fn misses(setup: RunBuilder, preemptions: usize) -> Result<bool, Error> {
     Ok(is_missed.into_inner() > 0)
 }
 
-/// A wake for nothing counts as a preemption.
+/// A spurious wakeup counts as a preemption.
 #[test]
 fn wakes_for_nothing_are_explored() -> Result<(), Error> {
     let setup = || Run::of(Lock::RwSimple, 2);

@@ -324,7 +324,7 @@ fn a_wait_without_a_second_look_is_seen_by_a_wake_for_nothing() -> Result<(), Er
     Ok(())
 }
 
-/// With enough wakes for nothing nobody has to notify. Without them the run hangs.
+/// With enough spurious wakeups nobody has to notify. Without them the run hangs.
 #[test]
 fn a_wake_for_nothing_takes_the_place_of_a_notification() -> Result<(), Error> {
     for (spurious, due) in [(0, Ending::Hangs(vec![0, 1])), (1, Ending::Complete)] {

@@ -1,4 +1,4 @@
-"""What there is to know of a lock: its name, its words, its calls and steps."""
+"""A lock as the oracle knows it: its name, its words, its calls and steps."""
 from typing import NamedTuple
 
 
@@ -23,7 +23,7 @@ STEPS = {"read", "write", "swap", "cas", "add", "section"}
 class Lock:
     """`calls` are generators, the code of each call, and `steps` the kinds of step that they make.
     `words` are the names of the lock's words, and `record` those of the words that each thread has.
-    In the queue of a queue lock its holder is the first; else who enters leaves the queue."""
+    The holder of a queue lock is the head of its queue; else a thread that enters leaves it."""
 
     def __init__(self, name, calls, steps, words, record=(), is_holder_in_line=False):
         self.name, self.steps, self.words, self.record = name, steps, words, record

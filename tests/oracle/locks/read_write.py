@@ -1,7 +1,7 @@
-"""What the two read-write locks share, after Herlihy and Shavit, The Art of Multiprocessor
+"""Shared by the two read-write locks, after Herlihy and Shavit, The Art of Multiprocessor
 Programming, chapter 8: a monitor's flag, which is set while a writer is inside or announced.
 
-Different here: who waits for the flag waits before it counts itself or sets the flag. `downgrade`,
+Different here: a thread waits for the flag before it counts itself or sets the flag. `downgrade`,
 by which a writer becomes a reader in one section, is this project's own.
 """
 from locks.steps import section

@@ -1,8 +1,8 @@
 """Words of memory, and the atomic steps that the code of a lock makes on them.
 
 The code of a call is a generator. It yields a step, and is sent what the step answers: the value
-that was found, or whether a compare-and-swap wrote. What a step is on is a word's name, or its name
-and the thread whose record it belongs to. A section of a monitor is on all words.
+that was found, or whether a compare-and-swap wrote. A step names its word, with the thread if the
+word is in a thread's record. A section of a monitor is on all words.
 """
 from functools import cache
 from typing import Callable, NamedTuple
@@ -40,7 +40,7 @@ def read(word):
 
 
 def poll(word, is_awaited):
-    """A read that is made again while it does not find what is awaited."""
+    """A read that is repeated until it finds what is awaited."""
     def make(words):
         found = words[word]
         return found if is_awaited(found) else WAITS

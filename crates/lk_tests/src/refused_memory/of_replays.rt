@@ -1,6 +1,5 @@
 //! The answers of reading a text and of reporting if memory is refused.
 
-use crate::devices::Output;
 use crate::holding::holds;
 use crate::refusing::{refuse, was_refused};
 use lk_replay::{
@@ -8,6 +7,8 @@ use lk_replay::{
     status_of,
 };
 use std::alloc::Global;
+use std::io;
+use std::io::Write;
 use std::process::Abort;
 
 /// A text, its report, and how that ends.
@@ -82,6 +83,28 @@ pub fn read_input(rt: &impl Abort, alloc: Global, number: usize, (text, _, _): T
     refused
 }
 
+// Takes the bytes that it expects, and no memory.
+#[derive(Drop)]
+struct Output<'a> {
+    rest: &'a [u8],
+}
+
+impl<'a> Write for Output<'a> {
+    fn write(&mut self, buf: &[u8]) -> io::Result<usize> {
+        match self.rest.strip_prefix(buf) {
+            Some(rest) => {
+                self.rest = rest;
+                Ok(buf.len())
+            }
+            None => Ok(0),
+        }
+    }
+
+    fn flush(&mut self) -> io::Result<()> {
+        Ok(())
+    }
+}
+
 // Whether all was written and it ended so, or memory was refused and nothing was written.
 fn ends_as(
     answer: &Result<Ending, RunFault>,
@@ -98,7 +121,9 @@ fn ends_as(
 
 pub fn run_all(rt: &impl Abort, alloc: Global, number: usize, text: Text) -> bool {
     let mut input = text.0.as_bytes();
-    let mut output = Output::new(text.1.as_bytes());
+    let mut output = Output {
+        rest: text.1.as_bytes(),
+    };
     refuse(alloc, number);
     let answer = run(alloc, &mut input, &mut output);
     let refused = was_refused(alloc);

@@ -5,7 +5,7 @@ ghost use Rattle.lk_search.specs.Sketches.{Lines};
 
 use crate::holding::holds;
 use crate::refusing::{refuse, was_refused};
-use crate::searches::ticket_lock;
+use lk_locks::{LockKind, Shape};
 use lk_search::{Bounds, Heap, Rounds, SearchFault, Space, TourFault, tour};
 use std::alloc::Global;
 use std::process::Abort;
@@ -13,9 +13,10 @@ use std::process::Abort;
 fn small_space(alloc: Global) -> Result<Space<'static, Heap>, SearchFault>
     ensures { IfOk result (λ space. space.bounds.goal ≡ Lines []) }
 {
+    // it has 41 states
     Space::explore(
         Heap::new(alloc)?,
-        ticket_lock(),
+        Shape::new(LockKind::Ticket, 2, 64),
         Bounds::new(Rounds::UpTo(1), &[]),
         41,
     )

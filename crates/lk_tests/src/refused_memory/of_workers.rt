@@ -2,9 +2,9 @@
 
 ghost use Rattle.std.specs.Prelude.{◌≤◌, length};
 
+use crate::batches::{Counts, FIVE, REPORTS, texts_of};
 use crate::holding::holds;
 use crate::refusing::{refuse, was_refused};
-use crate::workers::batches::{Counts, FIVE, REPORTS, texts_of};
 use lk_workers::{Draws, LiveTicket, batch_text, replay_many};
 use std::alloc::{AllocError, Global};
 use std::process::Abort;

@@ -4,7 +4,7 @@
 //!     EXAMPLE follow SCHEDULES FOLDER
 //!     EXAMPLE explore THREADS ROUNDS PREEMPTIONS FOLDER [RUNS]
 //!
-//! `wakes` is `seed` with more wakes for nothing. The logs go to FOLDER. Of schedules that are
+//! `wakes` is `seed` with more spurious wakeups. The logs go to FOLDER. Of schedules that are
 //! followed and of runs that are explored, the traces do; with the feature `check` these runs are
 //! checked here, and the trace of one that is not well is all that is saved. Status: 0 all threads
 //! ended, every schedule was followed, no run was refused; 1 some threads hang, after SECONDS (60)
@@ -32,7 +32,7 @@ const USAGE: &str =
        EXAMPLE explore THREADS ROUNDS PREEMPTIONS FOLDER [RUNS]";
 /// A log has room for so many moves a round.
 const MOST_MOVES: usize = 256;
-/// With `wakes`, one turn in so many wakes a thread for nothing.
+/// With `wakes`, one turn in so many has a spurious wakeup.
 const WAKES_ONE_IN: usize = 4;
 
 /// A lock under test. Its default is a new one.

@@ -1,12 +1,8 @@
-//! Batches: worked reports, and a begin and an end of each text.
+//! Texts of a batch with their worked reports, and a gate that counts begins and ends.
 
-ghost use Rattle.std.specs.Prelude.{◌≤◌, length};
-
-use lk_workers::{Gate, OpenGate, batch_text, replay_many};
+use lk_workers::Gate;
 use std::alloc::{AllocError, Global};
 use std::sync::atomic::{AtomicU32, Ordering};
-use std::test::Fail;
-use std::thread::Threads;
 
 pub const NO_MOVES: &str = "lock ticket threads 1\n";
 
@@ -103,56 +99,4 @@ impl Gate for Counts {
     fn end(&self, number: u32) {
         self.add(number, END);
     }
-}
-
-// Whether the batch of the texts is this.
-fn is_batch<R: Threads + Sync>(
-    rt: &R,
-    alloc: Global,
-    texts: &[Vec<u8>],
-    workers: u8,
-    due: &str,
-) -> Result<bool, AllocError>
-    requires workers { (1 ≤ workers) × (workers ≤ 8) }
-    requires texts { length texts.now ≤ 65536 }
-{
-    let reports = replay_many(rt, alloc, texts, workers, &OpenGate)?;
-    Ok(batch_text(alloc, &reports)?.as_slice() == due.as_bytes())
-}
-
-#[test]
-fn batches_of_five_and_of_none(rt: HostRuntime) -> Result<(), Fail> {
-    let texts = texts_of(rt.alloc(), &FIVE)?;
-    assert!(rt; texts.len() == 5);
-    for workers in [1u8, 2, 8] {
-        let are_right = is_batch(&rt, rt.alloc(), &texts, workers, REPORTS)?
-            && is_batch(&rt, rt.alloc(), &[], workers, "")?;
-        assert!(rt; are_right, "{workers} workers");
-    }
-    Ok(())
-}
-
-fn is_each_once<R: Threads + Sync>(
-    rt: &R,
-    alloc: Global,
-    texts: &[Vec<u8>],
-    workers: u8,
-) -> Result<bool, AllocError>
-    requires workers { (1 ≤ workers) × (workers ≤ 8) }
-    requires texts { length texts.now ≤ 65536 }
-{
-    let gate = Counts::new(alloc, texts.len())?;
-    let reports = replay_many(rt, alloc, texts, workers, &gate)?;
-    Ok(reports.len() == texts.len() && gate.agree(Some(1)))
-}
-
-#[test]
-fn each_text_once(rt: HostRuntime) -> Result<(), Fail> {
-    let texts = texts_of(rt.alloc(), &[ONE_ENTERS; 100])?;
-    assert!(rt; texts.len() == 100);
-    for workers in [1u8, 2, 8] {
-        let is_once = is_each_once(&rt, rt.alloc(), &texts, workers)?;
-        assert!(rt; is_once, "{workers} workers");
-    }
-    Ok(())
 }

@@ -2,7 +2,7 @@
 
 ghost use Rattle.std.specs.Prelude.{◌≤◌, length};
 
-use super::batches::{FIVE, texts_of};
+use crate::batches::{FIVE, texts_of};
 use crate::refusing::{is_refusing, refuse, was_refused};
 use lk_workers::{Gate, replay_many};
 use std::alloc::Global;

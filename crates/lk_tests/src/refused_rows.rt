@@ -1,11 +1,7 @@
-//! Moves that a machine, a keeper and a replay refuse, after the accepted ones of each row, and the
-//! texts of refusals. tests/rows/refusals.txt has each two that can meet, on each lock.
+//! Worked rows of refused moves, after the accepted ones of each row. tests/rows/refusals.txt has
+//! each two refusals that can meet, on each lock.
 
-use crate::holding::holds;
 use crate::rows::Row;
-use Refusal::{AlreadyHolds, Busy, NoCall, NoSuchThread, NotHolder, WrongLock, WrongStep};
-use lk_locks::{PlayFault, Refusal, StepKind};
-use std::alloc::{AllocError, Global};
 
 pub static REFUSED: [Row; 13] = [
     Row {
@@ -188,38 +184,3 @@ pub static REFUSED: [Row; 13] = [
         words: &[0, 0, 1],
     },
 ];
-
-const ADD: Refusal = WrongStep {
-    next: StepKind::Add,
-};
-
-const TEXTS: [(Refusal, &str); 7] = [
-    (NoSuchThread, "no such thread"),
-    (WrongLock, "the lock has no such operation or step"),
-    (Busy, "the thread has a pending call"),
-    (NotHolder, "the thread does not hold the lock in that mode"),
-    (AlreadyHolds, "the thread holds the lock already"),
-    (NoCall, "the thread has no pending call"),
-    (ADD, "the thread's next step is a different one"),
-];
-
-fn is_text(told: Result<String, AllocError>, text: &str) -> bool {
-    match told {
-        Ok(told) => told.as_str() == text,
-        Err(_) => false,
-    }
-}
-
-fn is_shown(alloc: Global, fault: PlayFault, text: &str) -> bool {
-    is_text(format!(in alloc; "{fault}"), text)
-}
-
-#[test]
-fn texts_of_refusals(rt: HostRuntime) {
-    for (refusal, text) in TEXTS {
-        let is_told = is_text(format!(in rt.alloc(); "{refusal}"), text);
-        let fault = PlayFault::Refused(refusal);
-        holds(&rt, is_told && is_shown(rt.alloc(), fault, text), text);
-    }
-    assert!(rt; is_shown(rt.alloc(), PlayFault::OutOfMemory, "out of memory"));
-}
