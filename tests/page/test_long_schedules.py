@@ -2,8 +2,8 @@
 key within a line takes 50 ms at most, an edit is settled soon, and what Undo keeps has a bound.
 
 Loading goes from the bytes of the file to the page laid out, a step from the button's click to the
-page laid out; a step's time is the mean of twelve. The least of some rounds is bounded, so that
-other work on the machine counts little.
+page laid out; a step's time is the mean of twelve. The least of some rounds is bounded. If it is
+too long, more rounds are measured, so that other work on the machine counts little.
 """
 import random
 
@@ -12,7 +12,7 @@ import pytest
 import schedules
 
 LOAD_MS, STEP_MS, KEY_MS, PAUSE_MS, EDIT_MS = 1000, 50, 50, 150, 450
-STEPS, ROUNDS, EDITS = 12, 3, 5
+STEPS, ROUNDS, EDITS, TRIES = 12, 3, 5, 5
 PLACES = [0, 30000, 65500]
 CHOICES = 60
 MOST_BYTES = 16_000_000
@@ -25,12 +25,23 @@ def text_of(lock, threads, count):
     return "\n".join(lines) + "\n"
 
 
+def least(measure, bounds):
+    """The least time of each key, pause or stretch, of some tries; one is enough if it is short."""
+    times = measure()
+    for _ in range(TRIES - 1):
+        if all(time <= bound for time, bound in zip(times, bounds, strict=True)):
+            break
+        times = list(map(min, times, measure()))
+    return times
+
+
 @pytest.mark.parametrize("lock", schedules.NAMES)
 def test_loads_and_steps(page, record_property, lock):
     page.open()
-    load = page.js("loads", text_of(lock, 64, 65536), ROUNDS)
+    text = text_of(lock, 64, 65536)
+    [load] = least(lambda: [page.js("loads", text, ROUNDS)], [LOAD_MS])
     page.js("inMode", "lessons")
-    steps = page.js("steps", PLACES, STEPS, ROUNDS)
+    steps = least(lambda: page.js("steps", PLACES, STEPS, ROUNDS), [STEP_MS] * (len(PLACES) + 1))
     record_property("measured", f"load {load:.0f} ms, step {max(steps):.0f} ms")
     assert page.shown()["moves"] == 65536
     assert load <= LOAD_MS and max(steps) <= STEP_MS, (load, steps)
@@ -44,7 +55,9 @@ def test_typing(page, record_property):
     twice the time of another key, 38 to 42 ms on a quiet processor and 60 on a loaded one, also in
     a field to which nobody listens, and not in the middle of a text: that work is the browser's."""
     page.open()
-    times = page.js("typing", "1 read\n", ROUNDS)
+    line = "1 read\n"
+    bounds = [PAUSE_MS, PAUSE_MS] + [KEY_MS, PAUSE_MS] * (len(line) - 1)
+    times = least(lambda: page.js("typing", line, ROUNDS), bounds)
     begun, key, pause = times[0], max(times[2::2]), max(times[1::2])
     record_property("measured", f"key {key:.0f} ms, a line's first {begun:.0f} ms, "
                                 f"pause {pause:.0f} ms")
@@ -55,9 +68,9 @@ def test_typing(page, record_property):
 
 def test_an_edit_of_a_long_text(page, record_property):
     page.open()
-    least = page.js("edits", EDITS)
-    record_property("measured", f"an edit {least:.0f} ms")
-    assert page.js("size") > 353_000 and least <= EDIT_MS, least
+    [edit] = least(lambda: [page.js("edits", EDITS)], [EDIT_MS])
+    record_property("measured", f"an edit {edit:.0f} ms")
+    assert page.js("size") > 353_000 and edit <= EDIT_MS, edit
 
 
 def test_what_undo_keeps(page):
