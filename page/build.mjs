@@ -6,7 +6,7 @@
 //     node page/build.mjs MODULE.wasm --check    fails if the page is not what this would write
 //
 // It needs Node alone and fetches nothing. The same sources and module give the same bytes
-// anywhere.
+// anywhere: the module is packed anew only if the page that is there has another one.
 
 import { createHash } from 'node:crypto';
 import { readFileSync, readdirSync, writeFileSync } from 'node:fs';
@@ -17,6 +17,7 @@ import { bundle } from './build/bundle.mjs';
 import { facesOf } from './build/fonts.mjs';
 import { kindsOf } from './build/kinds.mjs';
 import { lessonsOf, storedOf } from './build/lessons.mjs';
+import { packed } from './build/packing.mjs';
 import { plansOf } from './build/plans.mjs';
 import { rangesOf } from './build/ranges.mjs';
 import { termsOf } from './build/terms.mjs';
@@ -48,7 +49,7 @@ function build(module) {
   const locks = read('..', 'docs', 'LOCKS.md');
   const [code, ranges] = [codeOf(locks), rangesOf(module)];
   const data = {
-    module: module.toString('base64'), code, words: wordsOf(locks), kinds: kindsOf(module), lessons,
+    module: packed(module, PAGE), code, words: wordsOf(locks), kinds: kindsOf(module), lessons,
     stored: storedOf(module, lessons, ranges, linesOf(code)), ranges,
     translations: { de: JSON.parse(read('..', 'examples', 'lessons.de.json')) },
     plans: plansOf(join(HERE, '..', 'examples', 'plans.json'), lessons),

@@ -4,11 +4,15 @@
 //     node tests/page/lib.mjs
 
 import assert from 'node:assert/strict';
+import { mkdtempSync, rmSync, writeFileSync } from 'node:fs';
+import { tmpdir } from 'node:os';
+import { join } from 'node:path';
+import { packed } from '../../page/build/packing.mjs';
 import { animated } from '../../page/src/lib/animated_png.js';
 import { lastUpTo, placeAfter } from '../../page/src/lib/ascending.js';
 import {
   beforeLine, beginsWith, bytesOf, fromLink, lettersOf, lineOf, linesIn, sameBytes, toBase64,
-  toLink, withoutLines,
+  toLink, unpacked, withoutLines,
 } from '../../page/src/lib/bytes.js';
 import { folding } from '../../page/src/lib/folding.js';
 import { html } from '../../page/src/lib/markup.js';
@@ -52,6 +56,26 @@ for (const [found, word] of Object.entries(NEAREST)) {
 assert.deepEqual([1, 2, 3, 6, 7].map((number) => placeAfter([2, 3, 6], number)), [0, 1, 2, 3, 3]);
 assert.deepEqual([1, 2, 5, 6].map((number) => lastUpTo([2, 3, 6], number)), [0, 2, 3, 6]);
 assert.equal(lastUpTo(undefined, 9), 0);
+
+// Raw deflate, whose one block has two letters as they are. A page keeps it, though another packing
+// is shorter, unless it is of other bytes or more comes after it.
+const PACKED = [1, 2, 0, 0xfd, 0xff, 0x6f, 0x6b];
+assert.equal(letters(await unpacked(Uint8Array.from(PACKED))), 'ok');
+await assert.rejects(unpacked(Uint8Array.from(PACKED.slice(1))));
+const folder = mkdtempSync(join(tmpdir(), 'page-'));
+const page = join(folder, 'page.html');
+const packedBeside = (word, held) => {
+  writeFileSync(page, `start({"module":"${held}"})`);
+  return packed(Buffer.from(word), page);
+};
+const HELD = Buffer.from(PACKED).toString('base64');
+assert.equal(packedBeside('ok', HELD), HELD);
+for (const [word, held] of [['no', HELD], ['ok', `${HELD}AA`], ['ok', `${HELD} `], ['ok', 'AA']]) {
+  const anew = packedBeside(word, held);
+  assert.notEqual(anew, held);
+  assert.equal(letters(await unpacked(Buffer.from(anew, 'base64'))), word);
+}
+rmSync(folder, { recursive: true });
 
 // Lines are counted from 1, and the last one may have no line feed.
 const TEXT = bytes('one\n\nthree\nfour');

@@ -1,6 +1,6 @@
 // Starts the page: the machine, or what was stored of it, the lessons, and the controls.
 
-import { fromBase64 } from '../lib/bytes.js';
+import { fromBase64, unpacked } from '../lib/bytes.js';
 import { buttonOf, byId } from '../lib/elements.js';
 import { linesOf } from '../machine/locks_code.js';
 import { Machine } from '../machine/machine.js';
@@ -17,16 +17,16 @@ import { Page } from './page.js';
 import { testPort } from './test_port.js';
 
 // The machine if the browser can run it, else what it answered when the page was built.
-function runOrStored(data) {
+async function runOrStored(data) {
   try {
-    return new Machine(fromBase64(data.module));
+    return new Machine(await unpacked(fromBase64(data.module)));
   } catch {
     return new StoredMachine(data.stored);
   }
 }
 
 // The machine, and which numbers it takes in a schedule.
-const machineOf = (data) => Object.assign(runOrStored(data), { ranges: data.ranges });
+const machineOf = async (data) => Object.assign(await runOrStored(data), { ranges: data.ranges });
 
 // The texts of the page that never change.
 function writeTexts() {
@@ -55,16 +55,16 @@ function tellTools(tools) {
 // Pictures are laid out by the widths of letters, so fonts come first. A browser that blocks the
 // page's own fonts shows it in the system's.
 export async function start(data) {
+  const unpacking = machineOf(data);
   await Promise.allSettled([...document.fonts].map((face) => face.load()));
-  begin(data);
+  begin(data, await unpacking);
 }
 
-function begin(data) {
+function begin(data, machine) {
   learnWords(data.words);
   learnKinds(data.kinds);
   learnLessons(data.translations);
   learnTerms(translatedTerms(data.terms));
-  const machine = machineOf(data);
   const lessons = data.lessons.map((lesson) => ({ ...lesson, text: fromBase64(lesson.text) }));
   writeTexts();
   const page = new Page(new Session(machine, linesOf(data.code)), lessons, data.plans);

@@ -32,6 +32,12 @@ export function fromBase64(text) {
   return Uint8Array.from(atob(text), (letter) => letter.charCodeAt(0));
 }
 
+// What raw deflate packed. TypeScript's oldest types here lack the browser's class.
+export function unpacked(bytes) {
+  const unpacking = new globalThis['DecompressionStream']('deflate-raw');
+  return new Response(new Blob([bytes]).stream().pipeThrough(unpacking)).arrayBuffer();
+}
+
 // Base64 for the fragment of a link.
 export const toLink = (bytes) => toBase64(bytes)
   .replaceAll('+', '-').replaceAll('/', '_').replaceAll('=', '');

@@ -1,0 +1,25 @@
+// The module as the page has it: raw deflate in base64. Deflate may give other bytes on another
+// machine, so those of the page that is there are taken if they unpack to this module.
+
+import { existsSync, readFileSync } from 'node:fs';
+import { deflateRawSync, inflateRawSync } from 'node:zlib';
+
+const PACKED = /"module":"(?<letters>[^"]*)"/;
+
+// Whether it is these bytes, packed, and nothing after them.
+function packs(letters, module) {
+  const bytes = Buffer.from(letters, 'base64');
+  try {
+    const { buffer, engine } = inflateRawSync(bytes, { info: true });
+    return buffer.equals(module) && engine.bytesWritten === bytes.length
+      && bytes.toString('base64') === letters;
+  } catch {
+    return false;
+  }
+}
+
+export function packed(module, page) {
+  const there = existsSync(page) && readFileSync(page, 'utf8').match(PACKED)?.groups.letters;
+  if (there && packs(there, module)) return there;
+  return deflateRawSync(module, { level: 9 }).toString('base64');
+}
