@@ -2,12 +2,6 @@
 
 const isMenu = () => document.body.classList.contains('menu');
 
-function dropFiles(files) {
-  const data = new DataTransfer();
-  for (const [name, letters] of files) data.items.add(new File([letters], name));
-  bring('drop', 'dataTransfer', data);
-}
-
 // Before the page's script: the browser keeps so many schedules and no more.
 function leaveRoom(room) {
   const { setItem } = Storage.prototype;

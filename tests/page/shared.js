@@ -167,3 +167,9 @@ function carried(letters) {
 const paste = (letters) => bring('paste', 'clipboardData', carried(letters));
 const pasteIntoText = (letters) => bring('paste', 'clipboardData', carried(letters), byId('text'));
 const drop = (letters) => bring('drop', 'dataTransfer', carried(letters));
+
+function dropFiles(files) {
+  const data = new DataTransfer();
+  for (const [name, letters] of files) data.items.add(new File([letters], name));
+  bring('drop', 'dataTransfer', data);
+}

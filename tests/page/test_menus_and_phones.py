@@ -4,23 +4,6 @@ import pytest
 
 LESSON = "#lesson=mcs-late-link&move=3"
 ONE = "lock mcs threads 2\n0 acquire\n"
-TRACE = """# A trace
-lock mcs threads 2
-0 acquire
-0 write next left 0
-0 swap tail found 0 left 1
-1 acquire
-1 write next left 0
-1 swap tail found 1
-0 release
-0 read next found 0
-0 cas tail failed
-1 write locked left 1
-1 write next of 0 left 2
-0 read next found 2
-0 write locked of 1 left 0
-1 read locked found 0
-"""
 
 
 @pytest.mark.parametrize("width, height", [(390, 844), (1366, 768)])
@@ -74,43 +57,6 @@ def test_files_without_room(page, room, said):
     assert page.until("text", "#notice") == f"0.txt is shown. {said}"
     page.press("Escape", "o")
     assert len(page.js("texts", "#lessons [data-kept]")) == room
-
-
-def test_a_trace(page):
-    """It is shown as the schedule that it has, and that is said."""
-    page.open(LESSON)
-    page.js("dropFiles", [["run.trace", TRACE]])
-    held = page.shown(moves=14)["held"]
-    assert "This is a trace" in page.text("#notice")
-    head, moves = TRACE.splitlines()[:2], TRACE.splitlines()[2:]
-    assert held.splitlines() == head + [" ".join(line.split()[:2]) for line in moves]
-
-
-def test_a_trace_in_the_text(page):
-    """The same if it is pasted where a schedule is written. Another text goes on there."""
-    page.open("#lesson=ticket-hand-over&move=3&own")
-    assert not page.js("pasteIntoText", TRACE)
-    assert page.shown(moves=14)["held"].splitlines()[2] == TRACE.splitlines()[2][:9]
-    assert "This is a trace" in page.text("#notice")
-    assert page.js("pasteIntoText", "0 acquire\n")
-    assert page.js("pasteIntoText", "lock mcs threads 2\n0 acquire\n")
-
-
-SECTIONS = """lock rw-simple threads 2
-0 rlock
-0 section 3 entered
-1 wlock
-1 section waits
-1 section 1 waits
-"""
-
-
-def test_a_trace_of_sections(page):
-    """They have a count, an outcome or both."""
-    page.open(LESSON)
-    page.js("dropFiles", [["run.trace", SECTIONS]])
-    held = page.shown(moves=5)["held"]
-    assert held.splitlines()[1:] == ["0 rlock", "0 section", "1 wlock", "1 section", "1 section"]
 
 
 def test_a_long_title(page):

@@ -2,12 +2,13 @@
 
 import { bytesOf, lettersOf } from '../lib/bytes.js';
 import { bytesOfFile, saveAs } from '../lib/files.js';
-import { MOST_BYTES } from '../machine/codes.js';
 import { texts } from '../texts/texts.js';
 import { isKept } from '../model/kept_schedules.js';
-import { withoutValues } from '../model/trace_text.js';
 import { Editor } from '../view/editor.js';
 import { tell, toClipboard } from '../view/notice.js';
+
+// A trace of as many moves as a schedule may have is shorter, but for its comments.
+const MOST_TRACE_BYTES = 4194304;
 
 export class Editing {
   constructor(page) {
@@ -22,7 +23,7 @@ export class Editing {
     const opened = [];
     try {
       for (const file of [...others.reverse(), first]) {
-        this.openText(await bytesOfFile(file, MOST_BYTES));
+        this.openText(await bytesOfFile(file, MOST_TRACE_BYTES));
         opened.push(session.held);
       }
       address.keep();
@@ -33,16 +34,16 @@ export class Editing {
     }
   }
 
-  // A trace is shown without its values.
-  openText(text, run) {
-    const without = run?.hasLock && !run.fault ? text : withoutValues(text);
-    this.page.openOwn(without, 0, without === text ? run : undefined);
-    if (without !== text) tell(texts.own.trace);
+  // A trace is shown where it is refused.
+  openText(text, run = this.page.session.runOf(text)) {
+    const refusal = run.trace && run.refusal;
+    this.page.openOwn(text, refusal ? run.last : 0, run);
+    if (run.trace) tell(refusal ? texts.traces.differs(refusal.line) : texts.traces.opened);
   }
 
   isTrace(letters) {
-    const text = new TextEncoder().encode(letters);
-    return withoutValues(text) !== text && this.page.session.runOf(text).hasLock;
+    const run = this.page.session.runOf(new TextEncoder().encode(letters));
+    return Boolean(run.trace) && run.hasLock;
   }
 
   // A text that is no schedule does not take the place of what is shown.

@@ -1,12 +1,13 @@
-// A refused move: what it was, and why the machine refuses it. That it is refused, with which
-// name and which step is due, the machine said; who moved and which line of code is due is read
-// off its state and the text.
+// A refused move: what it was, and why the machine refuses it, or in what its trace differs. That
+// it is refused, with which name and which step is due, the machine said; who moved and which line
+// of code is due is read off its state and the text.
 
 import { lineOf } from '../lib/bytes.js';
 import { CALLS, MOVES, NO_WORD } from '../machine/codes.js';
 import { fill, say, texts } from '../texts/texts.js';
 import { moveText } from '../model/report.js';
 import { lockOf } from './locks.js';
+import { traceSentences } from './trace_sentences.js';
 
 /** @typedef {import('../model/session.js').Session} Session */
 /** @typedef {import('../machine/machine.js').AnyState} State */
@@ -53,11 +54,12 @@ function sentences(session) {
   const { name, thread, word } = run.refusal;
   const exists = thread < run.threads;
   const who = exists ? names.of(thread) : texts.thread(thread);
+  const due = exists && dueLine(session.lines[run.kind], run.end, thread);
+  if (!T[name]) return { who, due, said: traceSentences(session, due) };
   const said = [say(T[name], {
     word, thread: who, Thread: say(who, {}), threads: texts.threads(run.threads),
     last: run.threads - 1,
   })];
-  const due = exists && dueLine(session.lines[run.kind], run.end, thread);
   if (due && WITH_DUE.includes(name)) said.push(say(T.due, due));
   if (WITH_HOLDERS.includes(name)) said.push(say(holdsText(run.end, names), {}));
   const moves = exists ? possibleMoves(run.end, thread).join(T.or) : '';
@@ -86,13 +88,19 @@ function decided(session) {
     const line = session.headerLine();
     return { line, words: lineOf(run.text, line).split(' '), at: BY_HEADER[name] };
   }
-  const move = run.lastMoveOf(thread, run.count);
+  // Of a difference the last write of its word; nothing if there is none.
+  const move = run.refusal.lastWrite ?? run.lastMoveOf(thread, run.count);
+  if (!T[name]) return move ? { move, text: moveText(run, move) } : null;
   return { move, text: move && moveText(run, move), found: move && foundWord(session, move) };
 }
 
-// All of it: {name, line, thread, word, who, due, said: sentences, decided}
+// All of it: {name, line, thread, word, who, due, said: sentences, decided, recorded: the line of a
+// trace, source: where it was noted}
 /** @param {Session} session */
 export function refusalFacts(session) {
-  const { refusal } = session.run;
-  return { ...refusal, ...sentences(session), decided: decided(session) };
+  const { run } = session;
+  return {
+    ...run.refusal, ...sentences(session), decided: decided(session),
+    recorded: run.recorded(run.last), source: run.sourceOf(run.last),
+  };
 }

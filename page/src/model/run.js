@@ -11,8 +11,13 @@ import { answerInLines, Records } from '../machine/machine.js';
 import { joinedByMove, movesByThread, movesByWord } from './move_lists.js';
 import { OwnedWords } from './owned_words.js';
 import { StateAfter } from './state_after.js';
+import { firstDifference, refusalBy } from './trace_check.js';
+import { traceOf } from './trace_text.js';
 
-/** @typedef {import('../machine/machine.js').State} State */
+/**
+ * @typedef {import('../machine/machine.js').State} State
+ * @typedef {import('./trace_text.js').Trace} Trace
+ */
 
 const RLOCK = CALLS.find((call) => MOVES[call] === 'rlock');
 // Faults that moves may come before.
@@ -24,24 +29,43 @@ function answerOf(machine, text, runs) {
   return known ?? machine.play(text, MOST_MOVES, true);
 }
 
+// Faults of a text that may be a trace.
+const VALUED = ['BadLine', 'TooLong'];
+
 // The run of a text. What one of the known runs says of it is not played again.
 export function runOf(machine, text, known) {
+  const answerTo = (part) => answerOf(machine, part, known);
   return known.find((run) => sameBytes(run.text, text))
-    ?? new Run(machine, text, (part) => answerOf(machine, part, known));
+    ?? runOfTrace(new Run(machine, text, answerTo), answerTo);
+}
+
+// The run of a trace, up to the step at which it differs from its lock. That of another text as it
+// is.
+/** @param {Run} run */
+function runOfTrace(run, answerTo) {
+  const trace = VALUED.includes(run.fault?.name) ? traceOf(run.text) : null;
+  if (!trace) return run;
+  const whole = new Run(run.machine, run.text, answerTo, trace);
+  const difference = firstDifference(whole);
+  return difference ? whole.refusedAt(difference.move, refusalBy(whole, difference)) : whole;
 }
 
 export class Run {
-  // `text` is never changed afterwards; an edit makes another run. `answerTo` gives what the
-  // machine says of a text.
-  constructor(machine, text, answerTo = (part) => answerOf(machine, part, [])) {
+  /**
+   * `text` is never changed afterwards; an edit makes another run. `answerTo` gives what the
+   * machine says of a text.
+   * @param {Trace | null} trace what the text says beyond a schedule
+   */
+  constructor(machine, text, answerTo = (part) => answerOf(machine, part, []), trace = null) {
     this.machine = machine;
     this.text = text;
-    this.played = text;
-    let answer = answerTo(text);
+    this.trace = trace;
+    this.played = trace?.schedule ?? text;
+    let answer = answerTo(this.played);
     this.known = answer.state !== null;
     this.fault = this.known && answer.state.answer === ANSWER.fault ? faultOf(answer.state) : null;
     if (this.fault) {
-      this.played = playablePart(text, this.fault);
+      this.played = playablePart(this.played, this.fault);
       if (this.played.length) answer = answerTo(this.played);
     }
     // Without a header there is no lock to show.
@@ -99,7 +123,31 @@ export class Run {
   without(lines) {
     const lineNow = (line) => line - placeAfter(lines, line);
     const answer = answerInLines(this.end, this.records, lineNow);
-    return new Run(this.machine, withoutLines(this.text, lines), () => answer);
+    const trace = this.trace && {
+      ...this.trace, schedule: withoutLines(this.played, lines),
+      said: this.trace.said.filter((_, at) => !lines.includes(at + 1)),
+    };
+    return new Run(this.machine, withoutLines(this.text, lines), () => answer, trace);
+  }
+
+  // The same run up to a move that is refused for what the trace says of it.
+  refusedAt(move, refusal) {
+    const schedule = beforeLine(this.played, refusal.line);
+    const answer = { state: this.replayed(move - 1), records: this.records.first(move - 1) };
+    const run = new Run(this.machine, this.text, () => answer, { ...this.trace, schedule });
+    run.refusal = refusal;
+    return run;
+  }
+
+  // The line of a move, or of the refused one after the last.
+  lineAt(move) { return move > this.count ? this.refusal.line : this.records.line(move); }
+
+  // What a trace says of it beyond the move, and where in the source it was noted.
+  said(move) { return this.trace?.said[this.lineAt(move) - 1] ?? null; }
+  sourceOf(move) { return this.trace?.places.get(this.lineAt(move)) ?? ''; }
+  // The line that a trace has of it, if it says one of these.
+  recorded(move) {
+    return this.said(move) || this.sourceOf(move) ? lineOf(this.text, this.lineAt(move)) : '';
   }
 
   // How many moves the lines up to this one have.

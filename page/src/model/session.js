@@ -140,8 +140,10 @@ export class Session {
     const place = this.placeNear(wanted);
     const move = Math.min(run.count, place);
     const refused = place > run.count;
-    // The move whose words are marked: of a refused one its thread's last, which decided it.
-    const marked = refused ? run.lastMoveOf(run.refusal.thread, move) : move;
+    // The move whose words are marked: of a refused one that which decided it, by default its
+    // thread's last.
+    const decided = () => run.refusal.lastWrite ?? run.lastMoveOf(run.refusal.thread, move);
+    const marked = refused ? decided() : move;
     const view = { run, move, names, remarks, place, refused, marked, ...arrows, ...wishes };
     // What the move did is not marked if a question asks for it.
     return isCovered(view, 'facts') ? { ...view, marked: 0 } : view;

@@ -1,17 +1,71 @@
-// A trace, or a thread's lines of one: a schedule whose steps also name words and values. Without
-// these it is a schedule, which the page can show.
+// A trace: a schedule whose steps may also say on which word they were and which values it had, or
+// what came of them. docs/FORMATS.md has the grammar.
 
 import { bytesOf, lettersOf } from '../lib/bytes.js';
 
-const PLACES = 'next_ticket|now_serving|tail|next|locked';
-const OUTCOMES = 'moved|waits|entered|left';
-const MOVE = new RegExp(`^(?<move>\\d+ [a-z]+) (?:${PLACES}|${OUTCOMES}|\\d+)\\b.*$`);
+const NUMBER = '(?:0|[1-9][0-9]*)';
+const OUTCOME = '(?<outcome>moved|waits|entered|left)';
+const ON_WORD = '(?<place>next_ticket|now_serving|tail|next|locked)'
+  + `(?:(?<=next|locked) of (?<of>${NUMBER}))?(?: found (?<found>${NUMBER}))?`
+  + `(?: left (?<left>${NUMBER}))?(?: (?<result>done|failed)(?<=cas .*))?`;
+const STEP = new RegExp(
+  `^(?<move>${NUMBER} (?:read|write|swap|cas|add)) (?:${ON_WORD}|${OUTCOME})$`);
+const SECTION = new RegExp(
+  `^(?<move>${NUMBER} section)(?= )(?: (?<count>${NUMBER}))?(?: ${OUTCOME})?$`);
+// A comment of the recorders: where in the source the move of a line was noted.
+const PLACE = /^# line (?<line>[0-9]+) is (?<place>.+)$/;
+const MOST_THREAD = 255n;
+const MOST_VALUE = 2n ** 64n - 1n;
 
-// The text without words and values; the text itself if it has none.
-export function withoutValues(text) {
+/**
+ * What a line says of its move: some of these.
+ * @typedef {object} Said
+ * @property {string} move its first two words
+ * @property {string} [place] the word's name
+ * @property {bigint} [of] the thread in whose record the word is
+ * @property {bigint} [found]
+ * @property {bigint} [left]
+ * @property {string} [result] of a compare-and-swap
+ * @property {bigint} [count] of a section
+ * @property {string} [outcome]
+ *
+ * @typedef {object} Trace
+ * @property {Uint8Array} schedule the text without what its lines say, line by line
+ * @property {(Said | null)[]} said by line, from 0
+ * @property {Map<number, string>} places in the source, by line, from 1
+ */
+
+const numberOf = (digits) => (digits === undefined ? undefined : BigInt(digits));
+
+/**
+ * Null for a line that says no more than its move, or is none of a trace.
+ * @param {string} line
+ * @returns {Said | null}
+ */
+export function saidIn(line) {
+  const groups = (line.match(STEP) ?? line.match(SECTION))?.groups;
+  if (!groups) return null;
+  const { move, place, result, outcome } = groups;
+  const [of, found, left, count] = [groups.of, groups.found, groups.left, groups.count]
+    .map(numberOf);
+  if (of > MOST_THREAD || [found, left, count].some((value) => value > MOST_VALUE)) return null;
+  return { move, place, of, found, left, result, count, outcome };
+}
+
+function placesIn(lines) {
+  const found = lines.map((line) => line.match(PLACE)?.groups).filter(Boolean);
+  return new Map(found.map(({ line, place }) => [Number(line), place]));
+}
+
+/**
+ * Null for a text none of whose lines says more than its move.
+ * @returns {Trace | null}
+ */
+export function traceOf(text) {
   const { letters, plain } = lettersOf(text);
   const lines = letters.split('\n');
-  const without = lines.map((line) => line.match(MOVE)?.groups.move ?? line);
-  return without.every((line, at) => line === lines[at]) ? text
-    : bytesOf(without.join('\n'), plain);
+  const said = lines.map(saidIn);
+  if (!said.some(Boolean)) return null;
+  const moves = lines.map((line, at) => said[at]?.move ?? line);
+  return { schedule: bytesOf(moves.join('\n'), plain), said, places: placesIn(lines) };
 }

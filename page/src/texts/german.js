@@ -5,6 +5,7 @@ import { MOST_BYTES, MOST_MOVES } from '../machine/codes.js';
 import { germanKeys } from './german_keys.js';
 import { germanKinds } from './german_kinds.js';
 import { germanLocks } from './german_locks.js';
+import { germanTraces } from './german_traces.js';
 
 const grouped = (count) => count.toLocaleString('de');
 
@@ -238,8 +239,6 @@ export const german = {
           : `Von den ${others} anderen Dateien sind die ersten ${kept}`} ${
           kept ? 'aufgehoben, unter „Lektionen“' : 'nicht aufgehoben'}.${rest}`;
       },
-      trace: 'Das ist ein Trace. Er ist als Ablauf zu sehen, ohne Wörter und Werte: Ein Zug, der '
-        + 'ihretwegen abgelehnt wird, ist es hier nicht.',
       notCopied: 'Der Browser hat es nicht erlaubt. Wähle den Text aus und kopiere ihn.',
       label: 'Text des Ablaufs',
       ends: (count) => (count === 1
@@ -347,7 +346,7 @@ export const german = {
       could: 'Hier könnte {thread} {moves}.', step: 'den Schritt „{word}“ tun',
       call: '„{word}“ aufrufen', or: ' oder ',
     },
-    keys: germanKeys,
+    keys: germanKeys, traces: germanTraces,
     faults: {
       found: 'Gefunden: „{found}“.', could: 'Erwartet: {could}.',
       meant: 'War „{meant}“ gemeint?',

@@ -4,6 +4,7 @@
 import { MOST_BYTES, MOST_MOVES } from '../machine/codes.js';
 import { keys } from './english_keys.js';
 import { hall, lessons, plans, presenter } from './english_lessons.js';
+import { traces } from './english_traces.js';
 import { translated } from './language.js';
 
 const grouped = (count) => count.toLocaleString('en');
@@ -204,8 +205,6 @@ const english = {
         : `Of the ${others} other files the first ${kept} are`} ${
         kept ? 'kept, and listed with the lessons' : 'not kept'}.${rest}`;
     },
-    trace: 'This is a trace. It is shown as a schedule, without its words and values: a move '
-      + 'that is refused for one of them is not refused here.',
     notCopied: 'The browser did not allow it. Select the text and copy it.',
     label: 'Text of the schedule',
     fileName: 'schedule.txt',
@@ -284,7 +283,7 @@ const english = {
     whyQueue: 'In the queue is who has taken a place there and has not left, the oldest first.',
   },
 
-  keys,
+  keys, traces,
 
   noMachine: 'This browser has no 64-bit WebAssembly memory, so it cannot run the machine here. '
     + 'The lessons are shown as the machine played them; a schedule of your own needs a newer '

@@ -11,6 +11,7 @@ import { unlinkedAfter } from '../model/spans.js';
 import { sentence, writtenWords } from '../locks/sentences.js';
 import { movingThread, standingIn, useOf } from '../locks/shapes.js';
 import { casFails } from './lanes.js';
+import { recordedRows } from './recorded_view.js';
 import { withTerms } from './terms.js';
 
 /** @typedef {import('../machine/machine.js').Records} Records */
@@ -162,7 +163,8 @@ export function moveView(view, state) {
     <div class="head"><b>${move}</b><span>${names.of(records.thread(move))},
       <span class="mono">${word}</span></span>${outcomePill(records, move)}</div>
     <p class="plain">${plainWords(records, move)}</p>
-    ${sentences(view)}${questionView(view)}${factList(view, state, wroteRow(view), hidden)}
+    ${sentences(view)}${questionView(view)}${
+  factList(view, state, html`${wroteRow(view)}${recordedRows(view)}`, hidden)}
     <p class="report-line" title="${texts.facts.report}" ${hidden}><code>${
   reportLine(run, move)}</code></p>${lastView(view)}`;
 }
@@ -197,6 +199,7 @@ export function spokenText(view, state) {
     parts.push(...[own].filter(Boolean), sentence(view, move));
   }
   if (!isCovered(view, 'facts')) parts.push(texts.spoken.holds(holds), texts.spoken.queue(queue));
+  if (move && run.said(move)) parts.push(texts.traces.spokenSame);
   if (question) parts.push(texts.spoken.ask(question));
   if (view.hidden) parts.push(texts.spoken.hidden);
   return parts.join(' ');

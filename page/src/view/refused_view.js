@@ -3,17 +3,25 @@
 import { html } from '../lib/markup.js';
 import { texts } from '../texts/texts.js';
 import { lastLine } from '../model/report.js';
+import { sourceView } from './recorded_view.js';
 
 /** @typedef {import('../model/session.js').Session} Session */
 
 const T = texts.refused;
+// What is wrong of a line: its thread's number, what it was to do, or what a trace has otherwise.
+const STEP = /(?<=^\d+ )[a-z]+/;
+const WRONG = {
+  NoSuchThread: /^\d+/, OtherWord: /(?<=^\d+ [a-z]+ )[a-z_]+(?: of \d+)?/,
+  FoundOther: /(?<= found )\d+/, LeftOther: /(?<= left )\d+/, WroteOther: /[a-z]+$/,
+  CountNotAbove: /(?<= section )\d+/, OtherOutcome: /[a-z]+$/,
+};
 
-// The line's two words, the refused one struck through: the thread's number if there is no such
-// thread, else what it was to do.
-export function refusedLine({ name, thread, word }) {
-  const marked = (text, bad) => (bad ? html`<mark class="bad">${text}</mark>` : text);
-  const number = name === 'NoSuchThread';
-  return html`<code class="refused-text">${marked(thread, number)} ${marked(word, !number)}</code>`;
+// The line's two words, or all of it in a trace, with what is refused struck through.
+export function refusedLine({ name, thread, word, recorded, source }) {
+  const line = recorded || `${thread} ${word}`;
+  const { 0: bad, index } = line.match(WRONG[name] ?? STEP);
+  return html`<code class="refused-text">${line.slice(0, index)}<mark class="bad">${bad}</mark>${
+    line.slice(index + bad.length)}</code> ${sourceView(source)}`;
 }
 
 function decidedView({ decided, who }) {
@@ -29,7 +37,7 @@ function decidedView({ decided, who }) {
 }
 
 export function refusedFacts(facts) {
-  return html`<dt>${T.decided}</dt><dd data-decided>${decidedView(facts)}</dd>`;
+  return facts.decided && html`<dt>${T.decided}</dt><dd data-decided>${decidedView(facts)}</dd>`;
 }
 
 // The scene beside memory and code; `rows` has who holds and who is in the queue.

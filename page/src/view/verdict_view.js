@@ -31,7 +31,8 @@ export function verdictView(session, advice) {
   const report = html`<p class="report-line"><code>${lastLine(run)}</code></p>`;
   const accepted = run.count ? T.ends(run.count) : T.noMoves;
   const stale = staleView(session);
-  if (!advice) return html`<p class="verdict good">${accepted}</p>${report}${stale}`;
+  const agrees = run.trace && texts.traces.agrees;
+  if (!advice) return html`<p class="verdict good">${accepted} ${agrees}</p>${report}${stale}`;
   return html`<div class="verdict bad">
     ${advice.line > 0 && html`<strong>${T.line(advice.line)}</strong>`}
     ${advice.refused && refusedLine(advice.refused)}

@@ -1,0 +1,325 @@
+"""Traces in the page: each move with what the recorded run found and what the lock has, and the
+step at which they differ. The values are worked out by hand from docs/LOCKS.md."""
+import pytest
+
+LESSON = "#lesson=ticket-hand-over&move=3"
+
+# Of each lock a run, and what the lock has at each line that says more than its move.
+AGREEING = {
+    "ticket": ("lock ticket threads 2", [
+        ("0 acquire", ""),
+        ("0 add next_ticket found 0 left 1", "next_ticket found 0 left 1, moved"),
+        ("0 read now_serving found 0", "now_serving found 0, entered"),
+        ("1 acquire", ""),
+        ("1 add next_ticket found 1", "next_ticket found 1 left 2, moved"),
+        ("1 read now_serving found 0", "now_serving found 0, waits"),
+        ("0 release", ""),
+        ("0 read now_serving", "now_serving found 0, moved"),
+        ("0 write now_serving left 1", "now_serving found 0 left 1, left"),
+        ("1 read entered", "now_serving found 1, entered")]),
+    "mcs": ("lock mcs threads 2 bits 8", [
+        ("0 acquire", ""),
+        ("0 write next left 0", "next of 0 found 0 left 0, moved"),
+        ("0 swap tail found 0 left 1", "tail found 0 left 1, entered"),
+        ("1 acquire", ""),
+        ("1 write next of 1 left 0", "next of 1 found 0 left 0, moved"),
+        ("1 swap tail found 1", "tail found 1 left 2, moved"),
+        ("0 release", ""),
+        ("0 read next found 0", "next of 0 found 0, moved"),
+        ("0 cas tail failed", "tail found 2 failed, moved"),
+        ("1 write locked left 1", "locked of 1 found 0 left 1, moved"),
+        ("1 write next of 0 left 2", "next of 0 found 0 left 2, moved"),
+        ("0 read next found 2", "next of 0 found 2, moved"),
+        ("0 write locked of 1 left 0", "locked of 1 found 1 left 0, left"),
+        ("1 read locked found 0", "locked of 1 found 0, entered"),
+        ("1 release", ""),
+        ("1 read next found 0", "next of 1 found 0, moved"),
+        ("1 cas tail found 2 left 0 done", "tail found 2 left 0 done, left")]),
+    "rw-simple": ("lock rw-simple threads 2", [
+        ("0 rlock", ""), ("0 section 3 entered", "entered"), ("1 wlock", ""),
+        ("1 section waits", "waits"), ("1 section 4 waits", "waits"), ("0 runlock", ""),
+        ("0 section 18446744073709551615 left", "left"), ("1 section entered", "entered")]),
+    "rw-fifo": ("lock rw-fifo threads 2", [
+        ("0 rlock", ""), ("0 section 1 entered", "entered"), ("1 wlock", ""),
+        ("1 section 2 moved", "moved"), ("1 section 3", "waits"), ("0 runlock", ""),
+        ("0 section 4 left", "left"), ("1 section 5 entered", "entered")]),
+}
+
+
+def text_of(head, moves):
+    return "\n".join([head, *moves, ""])
+
+
+@pytest.mark.parametrize("lock", AGREEING)
+def test_equal_values(page, lock):
+    """Each line is beside what the lock has, and all of them are accepted."""
+    head, rows = AGREEING[lock]
+    trace = text_of(head, [line for line, _ in rows])
+    page.open(LESSON)
+    page.js("paste", trace)
+    shown = page.shown(moves=len(rows))
+    assert shown["held"] == shown["text"] == shown["area"] == trace
+    assert shown["place"] == 0 and "This is a trace. Each move has" in page.text("#notice")
+    assert f"All {len(rows)} moves are accepted. Each word, value and outcome" in shown["verdict"]
+    assert f"end {len(rows)}" in shown["verdict"]
+    assert page.js("recordedAt", len(rows)) == [[line, own] if own else [] for line, own in rows]
+    assert page.shown()["spoken"].endswith("The recorded run has the same.")
+
+
+def moves_of(text):
+    return text.split("; ")
+
+
+# A run whose last line is refused; both values; and the cause.
+SECOND = ("0 acquire; 0 write next left 0; 0 swap tail found 0 left 1; 1 acquire; "
+          "1 write next left 0; ")
+LINKED = "0 acquire; 0 write; 0 swap; 1 acquire; 1 write; 1 swap; "
+DIFFERENT = {
+    "a value that thread 0 wrote over": (
+        "lock mcs threads 2", SECOND + "1 swap tail found 0", "0", "FoundOther", [
+            "The recorded run: swap tail found 0. The lock here: found 1.",
+            "Thread 0 wrote tail last, in line 4: it left 1.",
+            "The word had 0 until line 4: perhaps this swap was a load and a store, or is noted "
+            "too late."]),
+    "a value that nobody wrote": (
+        "lock ticket threads 2", "0 acquire; 0 add next_ticket found 3", "3", "FoundOther", [
+            "The recorded run: add next_ticket found 3. The lock here: found 0.",
+            "Nobody has written next_ticket yet: it has its first value, 0.",
+            "No other line writes 3 there: perhaps a write is missing in the trace."]),
+    "a value of a narrow word": (
+        "lock ticket threads 1 bits 2",
+        "; ".join(["0 acquire; 0 add; 0 read; 0 release; 0 read; 0 write"] * 4)
+        + "; 0 acquire; 0 add next_ticket found 4", "4", "FoundOther", [
+            "The recorded run: add next_ticket found 4. The lock here: found 0.",
+            "Thread 0 wrote next_ticket last, in line 21: it left 0."]),
+    "a value that was left": (
+        "lock mcs threads 2", "0 acquire; 0 write next left 0; 0 swap tail found 0 left 2", "2",
+        "LeftOther", [
+            "The recorded run: swap tail left 2. The lock here: left 1.",
+            "The step is line 3 of the code: “pred := swap(tail, me)”."]),
+    "a word on which no later step is": (
+        "lock mcs threads 2", LINKED + "1 write next of 0 left 2", "next of 0", "OtherWord", [
+            "The recorded run: write on next of 0. The lock here: write on locked of 1.",
+            "Perhaps a step on locked of 1 is missing before it, or it is on the wrong word."]),
+    "a word of another lock": (
+        "lock mcs threads 2", "0 acquire; 0 write now_serving", "now_serving", "OtherWord", [
+            "The recorded run: write on now_serving. The lock here: write on next of 0."]),
+    "a word of no thread": (
+        "lock mcs threads 2", "0 acquire; 0 write next of 9", "next of 9", "OtherWord", [
+            "The recorded run: write on next of 9. The lock here: write on next of 0."]),
+    "a compare-and-swap that should fail": (
+        "lock mcs threads 2", LINKED + "0 release; 0 read; 0 cas tail done", "done",
+        "WroteOther", [
+            "The recorded run: cas tail done. The lock here: failed.",
+            "Thread 1 wrote tail last, in line 7: it left 2.",
+            "The step is line 12 of the code: “cas(tail, me, nil), or else:”."]),
+    "a count that does not grow": (
+        "lock rw-simple threads 2", "0 rlock; 0 section 3 entered; 1 rlock; 1 section 3 entered",
+        "3", "CountNotAbove", [
+            "The recorded run: section 3, after section 3. The counts of sections grow.",
+            "Perhaps the count is taken outside the monitor, or two lines are in the wrong "
+            "order."]),
+    "a count of 0": (
+        "lock rw-simple threads 2", "0 rlock; 0 section 0", "0", "CountNotAbove", [
+            "The recorded run: section 0, after section 0."]),
+    "an outcome of a section": (
+        "lock rw-fifo threads 2", "0 wlock; 0 section entered; 1 rlock; 1 section 4 entered",
+        "entered", "OtherOutcome", [
+            "The recorded run: section entered. The lock here: waits.",
+            "Thread 0 wrote flag last, in line 3: it left 1.",
+            "Perhaps a section is missing before it, or two are in the wrong order."]),
+    "an outcome of a section that looks at two words": (
+        "lock rw-simple threads 2", "0 rlock; 0 section; 1 wlock; 1 section entered",
+        "entered", "OtherOutcome", [
+            "Thread 0 wrote readers last, in line 3: it left 1.",
+            "Nobody has written flag yet: it has its first value, 0."]),
+    "an outcome of a step on a word": (
+        "lock mcs threads 2", "0 acquire; 0 write moved; 0 swap moved", "moved", "OtherOutcome", [
+            "The recorded run: swap moved. The lock here: entered.",
+            "Nobody has written tail yet: it has its first value, 0.",
+            "The step is line 3 of the code: “pred := swap(tail, me)”."]),
+}
+
+
+@pytest.mark.parametrize("name", DIFFERENT)
+def test_differences(page, name):
+    """The page opens at the step, crosses it out, and says both and the cause, also aloud."""
+    head, moves, wrong, code, said = DIFFERENT[name]
+    trace = text_of(head, moves_of(moves))
+    line = len(moves_of(moves)) + 1
+    page.open(LESSON)
+    page.js("paste", trace)
+    shown = page.shown(refused=True, moves=line - 2)
+    assert shown["place"] == line - 1 and shown["held"] == trace
+    assert page.text("#notice") == f"This is a trace. In line {line} it differs from the lock."
+    last = moves_of(moves)[-1]
+    assert page.js("marked") == [last, wrong]
+    for sentence in said:
+        for part in ("now", "spoken", "verdict"):
+            assert sentence in shown[part], (part, sentence, shown[part])
+    assert f"refused line {line} {code}" in shown["verdict"]
+    failed = sum("cas" in one for one in moves_of(moves)[:-1])
+    assert page.js("crosses") == [str(line - 1), 1 + failed, f"✕ {line}"]
+
+
+def test_a_write_that_is_noted_too_late(page):
+    """The line in which it is; later lines are not stepped through."""
+    page.open(LESSON)
+    page.js("paste", text_of("lock ticket threads 2", moves_of(
+        "0 acquire; 0 add; 0 read; 0 release; 0 read; 1 acquire; 1 add; "
+        "1 read now_serving found 1; 0 write now_serving left 1; 1 release")))
+    shown = page.shown(moves=7, refused=True)
+    assert "found 1. The lock here: found 0." in shown["now"]
+    assert "Line 10 writes 1 there: perhaps that write is noted too late." in shown["now"]
+    page.press("ArrowRight")
+    assert page.shown()["place"] == 8
+
+
+def test_two_steps_in_the_wrong_order(page):
+    """The other one is named by its line, if it is in the same call."""
+    page.open(LESSON)
+    page.js("paste", text_of("lock mcs threads 2", moves_of(
+        LINKED + "1 write next of 0 left 2; 0 release; 1 write locked left 1")))
+    assert ("Line 10 is on locked of 1: perhaps the two steps are in the wrong order."
+            in page.shown(refused=True)["now"])
+
+
+def test_a_move_that_the_machine_refuses(page):
+    """It is shown as in a schedule, with its line. A difference before it comes first."""
+    page.open(LESSON)
+    page.js("paste", "lock mcs threads 2\n0 acquire\n0 swap tail found 0\n")
+    shown = page.shown(refused=True, moves=1)
+    assert "This is not the next step of thread 0." in shown["now"]
+    assert "refused line 3 WrongStep next write" in shown["now"]
+    assert page.js("marked") == ["0 swap tail found 0", "swap"]
+    page.js("paste", "lock mcs threads 2\n0 acquire\n0 write tail\n0 release\n")
+    assert "The lock here: write on next of 0." in page.shown(refused=True, moves=1)["now"]
+
+
+def test_missing_parts_are_not_compared(page):
+    moves = ["0 acquire", "0 write", "0 swap tail", "0 release", "0 read next", "0 cas tail left 0"]
+    page.open(LESSON)
+    page.js("paste", text_of("lock mcs threads 1", moves))
+    assert page.shown(moves=6, refused=False)["verdict"].startswith("All 6 moves are accepted.")
+    assert page.js("recordedAt", 3) == [[], [], ["0 swap tail", "tail found 0 left 1, entered"]]
+
+
+def test_in_german(page):
+    page.open(f"{LESSON}&lang=de")
+    page.js("paste", text_of("lock mcs threads 2", moves_of(SECOND + "1 swap tail found 0")))
+    shown = page.shown(refused=True)
+    for said in ["Der aufgezeichnete Lauf: swap tail fand 0. Die Sperre hier: fand 1.",
+                 "Thread 0 hat tail zuletzt geschrieben, in Zeile 4: den Wert 1.",
+                 "Das Wort hatte 0 bis Zeile 4"]:
+        assert said in shown["now"] and said in shown["spoken"], shown
+    page.go(3)
+    assert page.js("texts", "#now .recorded") == [
+        "Aufgezeichnet", "0 swap tail found 0 left 1",
+        "Sperre hier", "tail found 0 left 1, entered"]
+    assert page.text("#notice") == "Das ist ein Trace. In Zeile 7 weicht er von der Sperre ab."
+
+
+WRONG = text_of("lock ticket threads 1", ["0 acquire", "0 add next_ticket found 1", "0 read"])
+RIGHT = WRONG.replace("found 1", "found 0")
+
+
+@pytest.mark.parametrize("way", ["drop", "dropFiles", "pasteIntoText", "open"])
+def test_ways(page, tmp_path, way):
+    page.open(f"{LESSON}&own")
+    if way == "open":
+        path = tmp_path / "run.trace"
+        path.write_text(WRONG)
+        page.choose_file("#file", path)
+    else:
+        page.js(way, [["run.trace", WRONG]] if way == "dropFiles" else WRONG)
+    shown = page.shown(refused=True, moves=1)
+    assert shown["held"] == WRONG and "add next_ticket found 1. The lock" in shown["now"]
+
+
+def test_a_text_is_written_on_where_it_is_no_trace(page):
+    page.open(LESSON)
+    page.press("e")
+    assert not page.js("pasteIntoText", RIGHT)
+    assert page.js("pasteIntoText", "0 acquire\n")
+    assert page.js("pasteIntoText", "lock mcs threads 2\n0 acquire\n")
+
+
+def test_it_stays_a_trace(page):
+    """In links and after a reload, while it is edited, and in Play; Undo brings it back."""
+    page.open(LESSON)
+    page.js("paste", WRONG)
+    page.js("leave")
+    address = page.js("address")
+    assert address.endswith("&move=2")
+    page.open(address)
+    assert page.shown(refused=True)["held"] == WRONG
+    page.press("e")
+    page.js("write", RIGHT)
+    shown = page.shown(moves=3, refused=False)
+    assert shown["held"] == RIGHT and "All 3 moves are accepted. Each word" in shown["verdict"]
+    page.undo()
+    assert page.shown(refused=True)["held"] == WRONG
+    page.undo()
+    page.js("write", RIGHT)
+    page.go(2)
+    page.press("g")
+    page.js("choose", 0, "read")
+    assert page.shown(moves=3)["held"] == RIGHT
+    page.go(2)
+    assert page.js("recorded") == ["0 add next_ticket found 0", "next_ticket found 0 left 1, moved"]
+
+
+# As a recorder writes it.
+NOTED = """# run 0000000000000009
+lock ticket threads 2 bits 8
+1 acquire
+0 acquire
+0 add next_ticket found 0
+1 add next_ticket found 0
+# turns 12
+# thread 0 has not ended
+# line 3 is wrong.c:10
+# line 4 is wrong.c:10
+# line 5 is wrong.c:13
+# line 6 is wrong.c:14
+# way 1 1 0 0
+"""
+
+
+def test_lines_of_the_source(page):
+    """Where the recorder noted each move, and the write that decided a refused one."""
+    page.open(LESSON)
+    page.js("paste", NOTED)
+    shown = page.shown(refused=True, moves=3)
+    assert page.text("#now .source") == page.text("#verdict .source") == "wrong.c:14"
+    assert ("Thread 0 wrote next_ticket last, in line 5 (wrong.c:13): it left 1."
+            in shown["spoken"])
+    assert page.js("recordedAt", 3) == [
+        ["1 acquire wrong.c:10"], ["0 acquire wrong.c:10"],
+        ["0 add next_ticket found 0 wrong.c:13", "next_ticket found 0 left 1, moved"]]
+
+
+@pytest.mark.parametrize("text, said, count", [
+    (f"# A run\n\n{WRONG}".replace("0 read", "# between\n0 read"), "refused line 5 FoundOther", 1),
+    (f"{RIGHT}# thread 0 has ended\n", "end 3", 3),
+    (RIGHT.removesuffix("\n"), "end 3", 3),
+    (RIGHT.replace("\n", "\r\n"), "carriage return", 0),
+    (RIGHT.replace("0 read\n", "0 read\r\n"), "carriage return", 2),
+    (RIGHT.replace("lock ticket threads 1\n", ""), "fault line 1 BadHeader", 0),
+    ("lock mcs threads 4 thread 2\nacquire\nwrite next left 0\ndropped 0\n",
+     "fault line 1 BadHeader", 0),
+    (RIGHT.replace("found 0", "found 00"), "fault line 3 BadLine", 1),
+    (RIGHT.replace("found 0", "found 18446744073709551616"), "fault line 3 BadLine", 1),
+    (RIGHT.replace("found 0", "found nil"), "fault line 3 BadLine", 1),
+    (RIGHT.replace("found 0", "done"), "fault line 3 BadLine", 1),
+    (f"{WRONG}0 looks\n", "refused line 3 FoundOther", 1),
+    (f"{RIGHT}0 looks\n", "fault line 5 BadLine", 3),
+], ids=["comments", "ended", "no end", "returns", "a return", "no header", "a log", "a zero",
+        "too large", "nil", "a result", "a fault after it", "a fault"])
+def test_texts(page, text, said, count):
+    """Comments, faults and other texts stay what they are."""
+    page.open(LESSON)
+    page.press("e")
+    page.js("paste", text)
+    shown = page.shown(moves=count)
+    assert said in shown["verdict"] and shown["text"] == text
