@@ -48,8 +48,8 @@ site:
 	read=$$(mktemp -d) && trap 'rm -rf "$$read"' EXIT && \
 	    sphinx-build -q -W --keep-going -c packaging/site -d "$$read" . '$(SITE)'
 
-$(PAGE): $(MODULE) VERSION docs/LOCKS.md $(wildcard page/build.mjs page/build/* page/src/*.* \
-	page/src/*/* examples/*.schedule examples/README.md)
+$(PAGE): $(MODULE) VERSION docs/LOCKS.md $(wildcard page/build.mjs page/build/* page/why/* \
+	page/src/*.* page/src/*/* examples/*.schedule examples/README.md)
 	node page/build.mjs $(MODULE)
 
 ## release-checks | tests what is installed and packaged, and two hosts over ssh

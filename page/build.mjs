@@ -1,6 +1,6 @@
 #!/usr/bin/env node
-// Builds page/lockreplay.html, one file, from page/src, page/fonts, docs/LOCKS.md, docs/GLOSSARY.md
-// and examples/, from VERSION and the proved module:
+// Builds page/lockreplay.html, one file, from page/src, page/fonts, page/why, docs/LOCKS.md,
+// docs/GLOSSARY.md and examples/, from VERSION and the proved module:
 //
 //     node page/build.mjs MODULE.wasm            writes the page
 //     node page/build.mjs MODULE.wasm --check    fails if the page is not what this would write
@@ -21,6 +21,7 @@ import { packed } from './build/packing.mjs';
 import { plansOf } from './build/plans.mjs';
 import { rangesOf } from './build/ranges.mjs';
 import { termsOf } from './build/terms.mjs';
+import { whyOf } from './build/why.mjs';
 import { codeOf, linesOf, wordsOf } from './src/machine/locks_code.js';
 
 const HERE = dirname(fileURLToPath(import.meta.url));
@@ -54,6 +55,7 @@ function build(module) {
     translations: { de: JSON.parse(read('..', 'examples', 'lessons.de.json')) },
     plans: plansOf(join(HERE, '..', 'examples', 'plans.json'), lessons),
     terms: termsOf(join(HERE, '..', 'docs', 'GLOSSARY.md')),
+    why: whyOf(module, join(HERE, 'why'), locks),
   };
   const script = `${bundle(SOURCES, 'control/main.js')}\nstart(${asScript(data)});`;
   // Functions, so that no `$` of a source is taken for a sign of the replacement.

@@ -1,9 +1,11 @@
-"""`locktrace why`: its verdicts and its runs beside a search over the second replayer."""
+"""`locktrace why`: its verdicts and its runs beside a search over the second replayer, and what the
+page has of them."""
 import re
 
 import pytest
 
 from changed_locks import AS_IT_IS, CHANGES, Searched
+from tree import TOP
 
 VERDICT = re.compile(r"(?P<illegal>[\d,]+) moves?, and thread \d .+"
                      r"|(?P<stuck>[\d,]+) moves? to where a call can never end: .+"
@@ -59,3 +61,13 @@ def test_run(tracer, lock, change):
     assert len(run) == (0 if kind == "harmless" else number)
     assert (end is None) == (kind == "illegal")
     assert (end in space.ending()) == (kind == "harmless")
+
+
+@pytest.mark.parametrize("lock", CHANGES)
+def test_what_the_page_has(tracer, lock):
+    kept = (TOP / "page" / "why" / f"{lock}.txt").read_text()
+    assert tracer.run("why", lock, "--runs") == (kept, "", 0)
+
+
+def test_the_page_has_each_lock():
+    assert {path.stem for path in (TOP / "page" / "why").iterdir()} == {*CHANGES}

@@ -28,13 +28,6 @@ const wrote = (moves) => moves.map((move) => {
   return document.querySelector('dd.wrote').textContent;
 });
 
-// A browser without 64-bit WebAssembly memory.
-function withoutMachine() {
-  WebAssembly.Module = class {
-    constructor() { throw new WebAssembly.CompileError('no memory of 64 bits'); }
-  };
-}
-
 // The sentence on each of these moves, with the answer to its question.
 const said = (moves) => moves.map((move) => {
   go(move);

@@ -47,12 +47,6 @@ const tops = (selectors) => selectors.map((one) => rect(document.querySelector(o
 const scrolled = () => [scrollX, scrollY];
 const disabled = (ids) => ids.map((id) => byId(id).disabled);
 
-function withoutMachine() {
-  WebAssembly.Module = class {
-    constructor() { throw new WebAssembly.CompileError('no memory of 64 bits'); }
-  };
-}
-
 // Before the page's script: the screen is touched.
 function withFingers() {
   const { matchMedia } = window;

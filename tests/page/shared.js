@@ -45,6 +45,13 @@ function delayLetters() {
   };
 }
 
+// Before the page's script: a browser without 64-bit WebAssembly memory.
+function withoutMachine() {
+  WebAssembly.Module = class {
+    constructor() { throw new WebAssembly.CompileError('no memory of 64 bits'); }
+  };
+}
+
 // The test port. A text that goes through JSON has a letter for each byte.
 
 const bytesOf = (letters) => Uint8Array.from(letters, (letter) => letter.charCodeAt(0));

@@ -133,6 +133,7 @@ KEYS = {
     "L": ("link", "Link"), "P": ("print", "drucken"), "H": ("hall mode", "Saalmodus"),
     "S": ("full screen", "Vollbild"), "M": ("find a moment", "Situation suchen"),
     "V": ("view", "Ansicht"), "F": ("later moves", "spätere Züge"), "T": ("export", "exportieren"),
+    "Y": ("why this line", "warum diese Zeile"),
     "D": ("dark or light", "dunkel oder hell"), "?": ("these keys", "diese Tasten"),
 }
 

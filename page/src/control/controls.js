@@ -66,6 +66,10 @@ function partsThatAreDrawn(page) {
     const { thread, word } = dataOf(event, '[data-word]');
     if (word) page.playing.choose(Number(thread), word);
   });
+  byId('code-lines').addEventListener('click', (event) => {
+    const line = targetOf(event).closest('.code-line');
+    if (line) page.why.openHere(line);
+  });
   byId('next-kinds').addEventListener('toggle', () => page.draw());
   byId('next-kinds-list').addEventListener('click', (event) => {
     const { nextKind } = targetOf(event).dataset;

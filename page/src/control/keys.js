@@ -26,7 +26,7 @@ function actions(page) {
     c: () => comparing.toggle(), u: () => playing.undo(), l: () => address.copy(),
     t: () => page.showExports(), m: () => page.showFind(),
     h: () => page.toggleHall(), s: () => hall.fillScreen(), Escape: () => hall.leave(),
-    v: () => page.showView(), f: () => page.toggleFuture(),
+    v: () => page.showView(), y: () => page.why.openHere(), f: () => page.toggleFuture(),
     p: () => page.showSheets(), d: () => page.toggleTheme(), '?': () => page.showKeys(),
     '.': () => (looks.hall ? hall.blank(true) : stepping.faster(1)), ',': () => stepping.faster(-1),
     2: () => presenter.open(),

@@ -40,13 +40,18 @@ function lessonButton({ name, title, learn, moves, minutes }, number, current) {
     <span class="soft">${learn ? T.size(moves, minutes) : name}</span></span></button></li>`;
 }
 
-const listOf = (lessons, current) => html`<ol>${lessons.map((one, at) => (
-  lessonButton(one, at + 1, current)))}</ol>`;
+const listOf = (lessons, current, last = null) => html`<ol>${lessons.map((one, at) => (
+  lessonButton(one, at + 1, current)))}${last}</ol>`;
+
+// After the lessons of a lock, why its lines are there.
+const whyButton = (lock) => html`<li><button type="button" data-why="${lock}"><span
+  class="number">Y</span><span><b>${texts.why.title}</b><span class="learn">${
+  texts.why.lesson}</span></span></button></li>`;
 
 function cardView({ name, title }, lessons, current) {
   return html`<section class="lock-card" data-lock="${name}"><div class="live"
     data-live="${name}" aria-hidden="true"></div><h3>${title}</h3>
-    <p>${withTerms(T.teaches[name])}</p>${listOf(lessons, current)}</section>`;
+    <p>${withTerms(T.teaches[name])}</p>${listOf(lessons, current, whyButton(name))}</section>`;
 }
 
 function keptView(kept) {
@@ -100,7 +105,8 @@ export function lessonsDialog(lessons, session, choose) {
   let all = null;
   closesBeside(dialog);
   dialog.addEventListener('click', (event) => {
-    const chosen = dataOf(event, '[data-lesson], [data-kept], [data-way], [data-lang]');
+    const chosen = dataOf(event, 
+      '[data-lesson], [data-kept], [data-why], [data-way], [data-lang]');
     const [what, value] = Object.entries(chosen)[0] ?? [];
     if (!what) return;
     dialog.close();

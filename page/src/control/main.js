@@ -9,6 +9,7 @@ import { learnWords } from '../machine/word_names.js';
 import { language, learnLessons, translatedTerms } from '../texts/language.js';
 import { capital, texts } from '../texts/texts.js';
 import { learnKinds } from '../model/kinds.js';
+import { learnWhy } from '../model/line_changes.js';
 import { looks } from '../model/looks.js';
 import { Session } from '../model/session.js';
 import { learnTerms } from '../view/terms.js';
@@ -63,6 +64,7 @@ export async function start(data) {
 function begin(data, machine) {
   learnWords(data.words);
   learnKinds(data.kinds);
+  learnWhy(data.why);
   learnLessons(data.translations);
   learnTerms(translatedTerms(data.terms));
   const lessons = data.lessons.map((lesson) => ({ ...lesson, text: fromBase64(lesson.text) }));

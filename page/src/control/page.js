@@ -1,6 +1,7 @@
 // The page as a whole: what is shown, and at which move. What the controls do is in the parts
 // that it is made of, each with the page at hand.
 
+import { LOCK_NAMES } from '../machine/codes.js';
 import { noteDone } from '../model/done_lessons.js';
 import { looks, toggleHall } from '../model/looks.js';
 import { Quiz } from '../model/quiz.js';
@@ -24,6 +25,7 @@ import { Presenter } from './presenter.js';
 import { Stepping } from './stepping.js';
 import { switchTheme } from './theme.js';
 import { sheetsDialog, viewDialog } from './view_dialogs.js';
+import { whyDialog } from './why_dialog.js';
 
 // How many times wider than usual columns are.
 const ZOOM = { least: 0.4, most: 2.5 };
@@ -53,6 +55,7 @@ export class Page {
     this.showExports = exportDialog(this);
     this.showView = viewDialog(this);
     this.showFind = findDialog(this);
+    this.why = whyDialog(this);
     this.sheet = 'worked';
     this.showSheets = sheetsDialog((sheet) => this.print(sheet));
   }
@@ -65,6 +68,7 @@ export class Page {
     };
     return {
       lesson: (name) => this.openLesson(name), kept: (name) => this.address.openKept(name),
+      why: (lock) => this.why.open(LOCK_NAMES.indexOf(lock)),
       way: (name) => ways[name](), lang: (name) => this.address.inLanguage(name),
     };
   }

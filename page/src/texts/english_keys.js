@@ -28,6 +28,7 @@ export const keys = {
     ['S', 'the full screen'],
     ['M', 'find a moment: a shortest run with a move, or with lines that you write'],
     ['V', 'view: which parts are shown'],
+    ['Y', 'why this line of code is there: what goes wrong if its step is changed'],
     ['F', 'draw later moves too, faintly'],
     ['T', 'export: picture, report, schedule, a frame for a slide'],
     [', .', 'slower, faster; in hall mode . blanks the screen'],

@@ -6,6 +6,7 @@ import { germanKeys } from './german_keys.js';
 import { germanKinds } from './german_kinds.js';
 import { germanLocks } from './german_locks.js';
 import { germanTraces } from './german_traces.js';
+import { germanChanges, germanWhy } from './german_why.js';
 
 const grouped = (count) => count.toLocaleString('de');
 
@@ -346,7 +347,7 @@ export const german = {
       could: 'Hier könnte {thread} {moves}.', step: 'den Schritt „{word}“ tun',
       call: '„{word}“ aufrufen', or: ' oder ',
     },
-    keys: germanKeys, traces: germanTraces,
+    keys: germanKeys, traces: germanTraces, why: germanWhy,
     faults: {
       found: 'Gefunden: „{found}“.', could: 'Erwartet: {could}.',
       meant: 'War „{meant}“ gemeint?',
@@ -385,5 +386,5 @@ export const german = {
     },
   },
   ...germanLocks,
-  kinds: germanKinds,
+  kinds: germanKinds, why: germanChanges,
 };

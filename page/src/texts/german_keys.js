@@ -28,6 +28,7 @@ export const germanKeys = {
     ['S', 'Vollbild'],
     ['M', 'eine Situation suchen: einen kürzesten Lauf mit einem Zug oder mit eigenen Zeilen'],
     ['V', 'Ansicht: welche Teile gezeigt werden'],
+    ['Y', 'warum diese Zeile des Codes da ist: was schiefgeht, wenn ihr Schritt geändert wird'],
     ['F', 'spätere Züge blass zeichnen'],
     ['T', 'exportieren: Bild, Bericht, Ablauf, ein Rahmen für eine Folie'],
     [', .', 'langsamer, schneller; im Saalmodus macht . den Bildschirm schwarz'],

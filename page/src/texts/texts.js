@@ -5,6 +5,7 @@ import { MOST_BYTES, MOST_MOVES } from '../machine/codes.js';
 import { keys } from './english_keys.js';
 import { hall, lessons, plans, presenter } from './english_lessons.js';
 import { traces } from './english_traces.js';
+import { why } from './english_why.js';
 import { translated } from './language.js';
 
 const grouped = (count) => count.toLocaleString('en');
@@ -191,7 +192,7 @@ const english = {
     hidden: 'What comes of the next move is asked before it is shown.',
   },
 
-  lessons,
+  lessons, why,
 
   own: {
     title: 'The schedule',

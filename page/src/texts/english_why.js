@@ -1,0 +1,25 @@
+// The page's words on why each line of a lock is there, in English. The sentences on the changes
+// are those of `locktrace why`.
+
+export const why = {
+  title: 'Why each line is there', titleOf: (lock) => `Why each line is there: ${lock}`,
+  learn: 'In these turns the changed lock goes wrong; the lock as it is does not.',
+  lesson: 'Each step is changed in turn, and a shortest run shows what goes wrong.',
+  hint: 'Each step was changed in turn, and all runs of the changed lock were searched.',
+  asTold: (threads, rounds, verdict) => `${threads} threads with ${rounds} rounds each. The lock `
+    + `as it is: ${verdict}.`,
+  place: (line, count) => `Line ${line} of ${count}`,
+  places: (from, to, count) => `Lines ${from} and ${to} of ${count}`,
+  back: 'The line before', next: 'The next line',
+  nothing: 'Nothing was changed here: this line has no step.',
+  if: (how) => `If ${how}`, change: (step, how) => `${step}, if ${how}`,
+  changed: (change) => `Changed here: ${change}.`,
+  elsewhere: (move) => `The changed lock makes “${move}” here.`,
+  goesOn: (move) => `The changed lock goes on with “${move}”.`,
+  wrong: (verdict) => `The changed lock has gone wrong: ${verdict}.`,
+  harm: 'the harm', mark: 'changed',
+  stuck: 'From here on a call does not end, whatever moves follow.',
+  play: 'Play the lock as it is in these turns',
+  later: 'The changed step comes later.',
+  asItIs: (change) => `The lock as it is, in the turns of: ${change}`,
+};

@@ -1,0 +1,295 @@
+"""Why each line is there: the changes of each line of each lock, with a shortest run of each.
+
+page/why has what `locktrace why LOCK --runs` writes, which tests/locktrace/test_why.py compares.
+"""
+import itertools
+import re
+
+import pytest
+
+from tree import TOP
+
+LOCKS = ["ticket", "mcs", "rw-simple", "rw-fifo"]
+DOCUMENT = (TOP / "docs" / "LOCKS.md").read_text()
+LINE = re.compile(r"(?P<code>.*?)\s*(?:-- (?P<kind>\w+) (?P<phase>\w+).*)?")
+CHANGE = re.compile(r"(?P<step>\w+), if (?P<how>[^:]+): (?P<verdict>.+)")
+NOTHING = "Nothing was changed here: this line has no step."
+STUCK = "✕ From here on a call does not end, whatever moves follow."
+LATER = f"{STUCK} The changed step comes later."
+LATE_LINK = "#lesson=mcs-late-link&move="
+SIZES = [(390, 844), (1024, 768), (1366, 768)]
+
+
+def listing(lock):
+    """The lines of a lock's code, each with the name of its step, if it has one."""
+    block = DOCUMENT.split(f"```{lock}\n")[1].split("\n```")[0]
+    for line in block.splitlines():
+        code, kind, phase = LINE.fullmatch(line).groups()
+        yield code.strip(), phase if kind not in ("call", "inside", None) else ""
+
+
+def stops(lock):
+    """The numbers of lines that are shown together, and their step."""
+    lines = [(number, step) for number, (_, step) in enumerate(listing(lock), 1)]
+    for _, group in itertools.groupby(lines, lambda line: line[1] or line[0]):
+        numbers, steps = zip(*group)
+        yield list(numbers), steps[0]
+
+
+def told(lock):
+    """The changes of a lock: step, how, verdict and moves."""
+    text = (TOP / "page" / "why" / f"{lock}.txt").read_text()
+    for part in re.split(r"\n(?! )", text.rstrip())[2:]:
+        first, *moves = part.splitlines()
+        yield {**CHANGE.fullmatch(first).groupdict(), "moves": [move.strip() for move in moves]}
+
+
+def walk(page, lock):
+    """What is shown of each line, from the first to the last."""
+    page.open()
+    page.click(f"[data-why={lock}]")
+    shown = [page.js("stop")]
+    for _ in list(stops(lock))[1:]:
+        page.press("ArrowRight")
+        shown.append(page.js("stop"))
+    page.press("ArrowRight")
+    assert page.js("stop") == shown[-1], "there is no line after the last"
+    return shown
+
+
+def check_harm(change):
+    """It is at the last move, or after it if a call can never end. A run that has the changed step
+    can be played; of a harmless change it is said why it is one."""
+    stuck = "can never end" in change["verdict"]
+    harmless = change["verdict"].startswith("harmless")
+    assert change["harmed"] == ([] if stuck or harmless else [len(change["moves"])]), change
+    assert change["plays"] == [True] * bool(change["changed"]), change
+    if stuck:
+        assert change["said"] == [STUCK if change["changed"] else LATER], change
+    assert bool(change["said"]) == (stuck or harmless), change
+
+
+@pytest.mark.parametrize("lock", LOCKS)
+def test_each_change_is_at_its_line(page, lock):
+    """With its sentence and its moves, each of which has its code."""
+    shown, code = walk(page, lock), {}
+    for line, step in listing(lock):
+        code[step] = f"{code[step]}; {line}" if step in code else line
+    assert [one["lines"] for one in shown] == [lines for lines, _ in stops(lock)]
+    for (_, step), one in zip(stops(lock), shown):
+        wanted = [change for change in told(lock) if change["step"] == step]
+        assert [(change["how"], change["verdict"], change["moves"]) for change in one["changes"]] \
+            == [(f"If {change['how']}", f"{change['verdict']}.", change["moves"])
+                for change in wanted]
+        assert one["nothing"] == ([] if wanted else [NOTHING])
+        for change in one["changes"]:
+            steps = [re.findall(r"\w+", move)[1] for move in change["moves"]]
+            assert change["code"] == [code.get(name, "") for name in steps]
+            check_harm(change)
+            assert change["changed"] == [at for at, name in enumerate(steps, 1) if name == step]
+    assert sum(len(one["changes"]) for one in shown) == len(list(told(lock)))
+
+
+def test_two_by_hand(page):
+    """Both threads draw ticket 0 if nothing is written, so that both find it in now_serving. A
+    writer that does not look at the readers needs a call and a section, as the reader before it."""
+    page.open("#lesson=ticket-hand-over&move=2")
+    page.press("y")
+    one = page.js("stop")
+    assert (one["lines"], one["place"]) == ([2], "Line 2 of 7")
+    assert one["changes"][0] == {
+        "how": "If its write is left out",
+        "verdict": "5 moves, and thread 1 enters while the queue is 0,1.",
+        "moves": ["0 acquire", "0 TakeTicket", "1 acquire", "1 TakeTicket", "1 AwaitTurn(0)"],
+        "code": ["", "ticket := add(next_ticket, 1)", "", "ticket := add(next_ticket, 1)",
+                 "await now_serving = ticket"],
+        "changed": [2, 4], "harmed": [5], "said": [], "plays": [True]}
+    page.open("#lesson=simple-second-writer&move=2")
+    page.press("y")
+    one = page.js("stop")
+    assert (one["lines"], one["place"]) == ([8, 9], "Lines 8 and 9 of 15")
+    assert one["changes"][1] == {
+        "how": "If it does not look at the readers",
+        "verdict": "4 moves, and thread 1 enters as a writer while inside are the readers 0.",
+        "moves": ["0 rlock", "0 TryRead", "1 wlock", "1 TryWrite"],
+        "code": ["", "await flag = 0; readers := readers + 1", "",
+                 "await readers = 0 and flag = 0; flag := 1"],
+        "changed": [4], "harmed": [4], "said": [], "plays": [True]}
+
+
+def test_why_one_is_harmless(page):
+    page.open("#lesson=ticket-hand-over&move=8")
+    page.press("y")
+    (one,) = page.js("stop")["changes"]
+    assert one["verdict"] == "harmless: all 137 states were searched."
+    assert one["said"] == ["The release could do without its read of now_serving: the holder's own "
+                           "ticket is there."]
+
+
+def test_keys(page):
+    """Y begins at the line of the move that is shown, and closes, as Escape does."""
+    page.open(f"{LATE_LINK}9")
+    page.press("y")
+    assert page.js("isOpen") and page.js("stop")["lines"] == [12]
+    for key, line in [("ArrowRight", 13), ("ArrowLeft", 12), ("Home", 1), ("ArrowLeft", 1),
+                      ("End", 14), ("Enter", 14), ("PageUp", 14)]:
+        page.press(key)
+        assert page.js("stop")["lines"] == [line], key
+    page.press("y")
+    assert not page.js("isOpen")
+    page.press("y", "Escape")
+    assert not page.js("isOpen") and page.shown(position="9 of 16")
+    # A step stops once at a question.
+    page.press("ArrowRight", "ArrowRight", "y")
+    assert page.js("stop")["lines"] == [13]
+
+
+def test_by_hand(page):
+    """A line that is clicked, on the page and in the dialog, and the buttons."""
+    page.open(f"{LATE_LINK}9")
+    page.click(".code-line[data-phase=SetLocked]")
+    assert page.js("stop")["lines"] == [5]
+    page.click("#why-next")
+    page.click("#why-next")
+    page.click("#why-back")
+    assert page.js("stop")["lines"] == [6]
+    page.click("#why [data-line='0']")
+    assert page.js("stop") == {"lines": [1], "place": "Line 1 of 14", "changes": [],
+                               "nothing": [NOTHING]}
+    page.press("Escape")
+    # The pointer is where the line was clicked.
+    page.press("y")
+    assert page.js("stop")["lines"] in ([1], [5], [12])
+
+
+def test_a_run_is_played(page):
+    """By the lock as it is, in whose turns it goes right; and Y leads back to the change."""
+    page.open(f"{LATE_LINK}9")
+    page.press("y")
+    page.click("[data-play='0']")
+    shown = page.shown(position="0 of 7", mode="lessons")
+    assert shown["title"] == "The lock as it is, in the turns of: CasTail, if its write is left out"
+    assert shown["text"].split("\nlock ")[1].splitlines() == [
+        "mcs threads 2", "0 acquire", "0 write", "0 swap", "0 release", "0 read", "0 cas",
+        "0 acquire"]
+    page.go(6)
+    assert page.text("#now .own-say") == "Changed here: CasTail, if its write is left out."
+    page.press("End")
+    assert page.text("#now .own-say") == (
+        "The changed lock has gone wrong: 7 moves to where a call can never end: 0 ClearNext, "
+        "1 Idle.")
+    page.press("y")
+    assert page.js("stop")["lines"] == [12] and page.js("isAtPlayed", 0)
+    page.press("Escape", "u")
+    page.shown(lesson="mcs-late-link", position="9 of 16")
+
+
+def test_a_run_that_the_lock_refuses(page):
+    """A compare-and-swap that always succeeds lets a thread call again. The lock as it is goes as
+    far as that call, which it refuses."""
+    page.open(f"{LATE_LINK}9")
+    page.press("y")
+    page.click("[data-play='2']")
+    page.press("End")
+    assert page.shown()["refused"] and page.text("#verdict .report-line") == "refused line 15 Busy"
+    page.press("ArrowLeft")
+    assert page.text("#now .own-say") == (
+        "Changed here: CasTail, if it finds the thread's own, whatever is there. The changed lock "
+        "goes on with “0 acquire”.")
+
+
+def test_a_split_step(page):
+    """The lock as it is makes the step in the turn of its first half."""
+    page.open("#lesson=ticket-hand-over&move=2")
+    page.press("y")
+    page.click("[data-play='1']")
+    page.press("End")
+    shown = page.shown(position="5 of 5")
+    assert shown["text"].splitlines()[-5:] == ["0 acquire", "0 add", "1 acquire", "1 add", "1 read"]
+    assert page.text("#now .own-say").startswith("The changed lock makes “1 AwaitTurn(0)” here.")
+
+
+@pytest.mark.parametrize("lock", LOCKS)
+def test_every_run_is_played(page, lock):
+    """As far as the lock as it is goes, and it is said where the changed one differs."""
+    page.open()
+    for at, (_, step) in enumerate(stops(lock)):
+        changes = [change for change in told(lock) if change["step"] == step]
+        for number, change in enumerate(changes):
+            if not any(move[2:].startswith(step) for move in change["moves"]):
+                continue
+            page.click(f"[data-why={lock}]")
+            page.press(*["ArrowRight"] * at)
+            page.click(f"[data-play='{number}']")
+            shown = page.shown()
+            said = f"Changed here: {step}, if {change['how']}."
+            assert 0 < shown["moves"] <= len(change["moves"]), (change, shown)
+            assert said in shown["text"] and not shown["verdict"].startswith("fault"), shown
+            page.press("o")
+
+
+def test_without_the_machine(page):
+    """The runs are there to read; the machine cannot play them."""
+    page.before("withoutMachine")
+    page.open(f"{LATE_LINK}9")
+    page.press("y")
+    assert [one["plays"] for one in page.js("changes")] == [[False], [False], [False], []]
+
+
+@pytest.mark.parametrize("width, height", [(1024, 768), (1366, 768), (1920, 1080)])
+def test_in_a_hall(page, width, height):
+    """Letters are large, a clicker goes on, and what is said of a move is beside memory."""
+    page.resize(width, height)
+    page.open(f"{LATE_LINK}9&hall")
+    page.press("y")
+    assert page.js("leastLetters") >= 0.0249 and page.js("wrong") == []
+    page.press("PageDown")
+    assert page.js("stop")["lines"] == [13] and page.js("wrong") == []
+    page.press("PageUp")
+    page.click("[data-play='0']")
+    assert page.js("parts") == ["memory", "now"]
+    page.press("PageDown")
+    page.shown(position="1 of 7")
+    page.press("y", "Escape")
+    assert not page.js("isOpen") and page.js("parts") == ["memory", "now"], "the hall goes on"
+
+
+def test_in_german(page):
+    """No sentence of the program is left in English."""
+    page.open("#lesson=mcs-late-link&move=9&lang=de")
+    page.press("y")
+    one = page.js("stop")
+    assert page.text("#why-title") == "Warum jede Zeile da ist: MCS-Sperre"
+    assert one["place"] == "Zeile 12 von 14"
+    assert one["changes"][1]["verdict"] == (
+        "13 Züge, und Thread 0 tritt ein, während die Schlange 1 ist.")
+    assert one["changes"][0]["said"] == ["✕ Von hier an endet ein Aufruf nicht, was immer folgt."]
+    page.click("[data-play='1']")
+    page.go(6)
+    assert page.text("#now .own-say").startswith("Hier geändert: CasTail, wenn er ein Lesen")
+
+
+@pytest.mark.parametrize("lock", LOCKS)
+def test_german_sentences(page, lock):
+    english = {change[name] for change in told(lock) for name in ("how", "verdict")}
+    page.open(f"{LATE_LINK}0&lang=de")
+    page.press("o")
+    page.click(f"[data-why={lock}]")
+    for _ in stops(lock):
+        said = page.text("#why-changes")
+        assert not [one for one in english if one in said], said
+        page.press("ArrowRight")
+
+
+@pytest.mark.parametrize("width, height", SIZES)
+@pytest.mark.parametrize("language", ["en", "de"])
+def test_nothing_is_cut(page, width, height, language):
+    """On no line, neither above nor below."""
+    page.resize(width, height)
+    for lock in LOCKS:
+        page.open(f"#lang={language}")
+        page.click(f"[data-why={lock}]")
+        for lines, _ in stops(lock):
+            assert page.js("wrong") == [], (lock, lines)
+            assert page.js("wrongBelow") == [], (lock, lines)
+            page.press("ArrowRight")
