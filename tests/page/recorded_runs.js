@@ -14,3 +14,7 @@ const crosses = () => [attribute('#lanes [data-refused]', 'data-move'),
   count('#slider-picture .tick.fails'), plain(text('#gutter .fault'))];
 
 const marked = () => [text('#now .refused-text'), text('#now mark.bad')];
+
+// How many of each of these are seen whole.
+const wholeOf = (...parts) => parts.map((part) => all(`#now ${part}`)
+  .filter((one) => one.checkVisibility() && inside(rect(one), rect(byId('now')))).length);

@@ -1,6 +1,11 @@
 """Traces in the page: each move with what the recorded run found and what the lock has, and the
 step at which they differ. The values are worked out by hand from docs/LOCKS.md."""
+import json
+
 import pytest
+
+import test_advice
+from transcripts import transcripts
 
 LESSON = "#lesson=ticket-hand-over&move=3"
 
@@ -100,7 +105,7 @@ DIFFERENT = {
     "a word on which no later step is": (
         "lock mcs threads 2", LINKED + "1 write next of 0 left 2", "next of 0", "OtherWord", [
             "The recorded run: write on next of 0. The lock here: write on locked of 1.",
-            "Perhaps a step on locked of 1 is missing before it, or it is on the wrong word."]),
+            "A step on locked of 1 may be missing before it, or this one is on the wrong word."]),
     "a word of another lock": (
         "lock mcs threads 2", "0 acquire; 0 write now_serving", "now_serving", "OtherWord", [
             "The recorded run: write on now_serving. The lock here: write on next of 0."]),
@@ -117,8 +122,7 @@ DIFFERENT = {
         "lock rw-simple threads 2", "0 rlock; 0 section 3 entered; 1 rlock; 1 section 3 entered",
         "3", "CountNotAbove", [
             "The recorded run: section 3, after section 3. The counts of sections grow.",
-            "Perhaps the count is taken outside the monitor, or two lines are in the wrong "
-            "order."]),
+            "The count may be taken outside the monitor, or two lines are in the wrong order."]),
     "a count of 0": (
         "lock rw-simple threads 2", "0 rlock; 0 section 0", "0", "CountNotAbove", [
             "The recorded run: section 0, after section 0."]),
@@ -127,7 +131,7 @@ DIFFERENT = {
         "entered", "OtherOutcome", [
             "The recorded run: section entered. The lock here: waits.",
             "Thread 0 wrote flag last, in line 3: it left 1.",
-            "Perhaps a section is missing before it, or two are in the wrong order."]),
+            "A section may be missing before it, or two are in the wrong order."]),
     "an outcome of a section that looks at two words": (
         "lock rw-simple threads 2", "0 rlock; 0 section; 1 wlock; 1 section entered",
         "entered", "OtherOutcome", [
@@ -151,7 +155,7 @@ def test_differences(page, name):
     page.js("paste", trace)
     shown = page.shown(refused=True, moves=line - 2)
     assert shown["place"] == line - 1 and shown["held"] == trace
-    assert page.text("#notice") == f"This is a trace. In line {line} it differs from the lock."
+    assert page.text("#notice") == f"This is a trace. It differs from the lock in line {line}."
     last = moves_of(moves)[-1]
     assert page.js("marked") == [last, wrong]
     for sentence in said:
@@ -267,6 +271,56 @@ def test_it_stays_a_trace(page):
     assert page.shown(moves=3)["held"] == RIGHT
     page.go(2)
     assert page.js("recorded") == ["0 add next_ticket found 0", "next_ticket found 0 left 1, moved"]
+
+
+def told():
+    """Each trace of a row of tests/rows, and what `locktrace check` says of it as JSON."""
+    for name, row in transcripts().items():
+        runs = [run for run in row.runs if run.words[:3] == ["check", "--format", "json"]]
+        if name.startswith("refusals: ") and runs and len(row.files) == 1:
+            [file] = row.files.values()
+            yield "\n".join([*file, ""]).replace("; ", "\n"), json.loads(runs[0].lines["@out"][0])
+
+
+def test_the_program_says_the_same(page):
+    """Which line is refused, for what, and both values."""
+    answers = list(told())
+    assert len(answers) == 8
+    page.open(LESSON)
+    for trace, answer in answers:
+        page.js("paste", trace)
+        shown = page.shown(refused=True, held=trace)
+        line, code = answer["line"], answer["code"]
+        assert f"refused line {line} {code}" in shown["verdict"], answer
+        # What `Busy` and the count have here, the page says otherwise.
+        if code not in ("Busy", "CountNotAbove"):
+            assert f"{answer['found']}" in page.text("#now mark.bad"), answer
+            assert f"{answer['expected']}" in shown["now"], answer
+
+
+def test_the_program_refuses_the_same_line(page):
+    """The last one of each row."""
+    rows = [row.values for row in test_advice.rows()]
+    assert len(rows) == 61
+    page.open(LESSON)
+    for lock, moves, _ in rows:
+        trace = text_of(f"lock {lock} threads 2", moves)
+        page.js("paste", trace)
+        shown = page.shown(held=trace)
+        assert f"refused line {len(moves) + 1} " in shown["verdict"], (trace, shown["verdict"])
+
+
+@pytest.mark.parametrize("size", [(1440, 900), (1366, 768), (1024, 768), (390, 844)])
+def test_all_of_it_is_seen(page, size):
+    """At a move, and at the refused one."""
+    page.resize(*size)
+    page.open(LESSON)
+    page.js("paste", NOTED)
+    page.press("e")
+    page.shown(refused=True, mode="lessons")
+    assert page.js("wholeOf", ".refused-text", ".source", ".refusal") == [1, 1, 3]
+    page.go(3)
+    assert page.js("wholeOf", ".say", "dd.recorded") == [1, 2]
 
 
 # As a recorder writes it.

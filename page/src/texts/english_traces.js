@@ -2,7 +2,7 @@
 
 export const traces = {
   opened: 'This is a trace. Each move has what the recorded run found beside what the lock has.',
-  differs: (line) => `This is a trace. In line ${line} it differs from the lock.`,
+  differs: (line) => `This is a trace. It differs from the lock in line ${line}.`,
   agrees: 'Each word, value and outcome that the trace names is the lock’s.',
   recorded: 'Recorded', here: 'Lock here',
   spokenSame: 'The recorded run has the same.',
@@ -22,7 +22,7 @@ export const traces = {
     + 'is noted too late.',
   never: 'No other line writes {given} there: perhaps a write is missing in the trace.',
   swapped: 'Line {line} is on {own}: perhaps the two steps are in the wrong order.',
-  missing: 'Perhaps a step on {own} is missing before it, or it is on the wrong word.',
-  sections: 'Perhaps a section is missing before it, or two are in the wrong order.',
-  counts: 'Perhaps the count is taken outside the monitor, or two lines are in the wrong order.',
+  missing: 'A step on {own} may be missing before it, or this one is on the wrong word.',
+  sections: 'A section may be missing before it, or two are in the wrong order.',
+  counts: 'The count may be taken outside the monitor, or two lines are in the wrong order.',
 };

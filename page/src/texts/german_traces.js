@@ -24,7 +24,7 @@ export const germanTraces = {
     + 'Schreiben, oder es ist zu spät notiert.',
   never: 'Keine andere Zeile schreibt dort {given}: vielleicht fehlt im Trace ein Schreiben.',
   swapped: 'Zeile {line} ist auf {own}: vielleicht sind beide Schritte vertauscht.',
-  missing: 'Vielleicht fehlt davor ein Schritt auf {own}, oder es ist das falsche Wort.',
+  missing: 'Davor fehlt vielleicht ein Schritt auf {own}, oder dieser ist auf dem falschen Wort.',
   sections: 'Vielleicht fehlt davor ein Abschnitt, oder zwei sind vertauscht.',
   counts: 'Vielleicht wird die Nummer außerhalb des Monitors genommen, oder zwei Zeilen sind '
     + 'vertauscht.',
