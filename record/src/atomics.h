@@ -18,12 +18,15 @@
 
 #if LR_POINTS
 
-static inline void lr_point(void)
+/* A point before an operation on a word of so many bytes. */
+static inline void lr_point(const volatile void *word, size_t size, int writes)
 {
     if (lr_self == &lr_outside) return;
 #if LR_TURNS
     lr_point_of(lr_self);
+    lr_touch(lr_self, (uintptr_t)word, size, writes);
 #else
+    (void)word, (void)size, (void)writes;
     lr_noise(lr_self);
 #endif
 }
@@ -38,24 +41,36 @@ static inline void lr_point(void)
 
 /* operation(pointer, order), (pointer, value, order) and so on. A value that is stored has the
    word's type, one that is added its own. */
+#define LR_OF_LOAD(operation, p, ...)                                                              \
+    __extension__({                                                                                \
+        LR_AUTO lr_p = (p);                                                                        \
+        lr_point(lr_p, sizeof *lr_p, 0);                                                           \
+        operation(lr_p, __VA_ARGS__);                                                              \
+    })
 #define LR_OF_WORD(operation, p, ...)                                                              \
     __extension__({                                                                                \
         LR_AUTO lr_p = (p);                                                                        \
-        lr_point();                                                                                \
+        lr_point(lr_p, sizeof *lr_p, 1);                                                           \
+        operation(lr_p, __VA_ARGS__);                                                              \
+    })
+#define LR_OF_FLAG(operation, p, ...)                                                              \
+    __extension__({                                                                                \
+        LR_AUTO lr_p = (p);                                                                        \
+        lr_point(lr_p, 1, 1);                                                                      \
         operation(lr_p, __VA_ARGS__);                                                              \
     })
 #define LR_OF_STORE(operation, p, v, ...)                                                          \
     __extension__({                                                                                \
         LR_AUTO lr_p = (p);                                                                        \
         LR_VALUE_OF(lr_p) lr_v = (v);                                                              \
-        lr_point();                                                                                \
+        lr_point(lr_p, sizeof *lr_p, 1);                                                           \
         operation(lr_p, lr_v, __VA_ARGS__);                                                        \
     })
 #define LR_OF_VALUE(operation, p, v, ...)                                                          \
     __extension__({                                                                                \
         LR_AUTO lr_p = (p);                                                                        \
         LR_AUTO lr_v = (v);                                                                        \
-        lr_point();                                                                                \
+        lr_point(lr_p, sizeof *lr_p, 1);                                                           \
         operation(lr_p, lr_v, __VA_ARGS__);                                                        \
     })
 #define LR_OF_CAS(operation, p, e, d, ...)                                                         \
@@ -63,26 +78,26 @@ static inline void lr_point(void)
         LR_AUTO lr_p = (p);                                                                        \
         LR_AUTO lr_e = (e);                                                                        \
         LR_VALUE_OF(lr_p) lr_d = (d);                                                              \
-        lr_point();                                                                                \
+        lr_point(lr_p, sizeof *lr_p, 1);                                                           \
         operation(lr_p, lr_e, lr_d, __VA_ARGS__);                                                  \
     })
 #define LR_OF_SYNC(operation, p, v)                                                                \
     __extension__({                                                                                \
         LR_AUTO lr_p = (p);                                                                        \
         LR_AUTO lr_v = (v);                                                                        \
-        lr_point();                                                                                \
+        lr_point(lr_p, sizeof *lr_p, 1);                                                           \
         operation(lr_p, lr_v);                                                                     \
     })
 #define LR_OF_SYNC_CAS(operation, p, e, d)                                                         \
     __extension__({                                                                                \
         LR_AUTO lr_p = (p);                                                                        \
         LR_VALUE_OF(lr_p) lr_e = (e), lr_d = (d);                                                  \
-        lr_point();                                                                                \
+        lr_point(lr_p, sizeof *lr_p, 1);                                                           \
         operation(lr_p, lr_e, lr_d);                                                               \
     })
 
-#define __atomic_load_n(p, o) LR_OF_WORD(__atomic_load_n, p, o)
-#define __atomic_load(p, r, o) LR_OF_WORD(__atomic_load, p, r, o)
+#define __atomic_load_n(p, o) LR_OF_LOAD(__atomic_load_n, p, o)
+#define __atomic_load(p, r, o) LR_OF_LOAD(__atomic_load, p, r, o)
 #define __atomic_store_n(p, v, o) LR_OF_STORE(__atomic_store_n, p, v, o)
 #define __atomic_store(p, v, o) LR_OF_WORD(__atomic_store, p, v, o)
 #define __atomic_exchange_n(p, v, o) LR_OF_STORE(__atomic_exchange_n, p, v, o)
@@ -103,8 +118,8 @@ static inline void lr_point(void)
 #define __atomic_xor_fetch(p, v, o) LR_OF_VALUE(__atomic_xor_fetch, p, v, o)
 #define __atomic_or_fetch(p, v, o) LR_OF_VALUE(__atomic_or_fetch, p, v, o)
 #define __atomic_nand_fetch(p, v, o) LR_OF_VALUE(__atomic_nand_fetch, p, v, o)
-#define __atomic_test_and_set(p, o) LR_OF_WORD(__atomic_test_and_set, p, o)
-#define __atomic_clear(p, o) LR_OF_WORD(__atomic_clear, p, o)
+#define __atomic_test_and_set(p, o) LR_OF_FLAG(__atomic_test_and_set, p, o)
+#define __atomic_clear(p, o) LR_OF_FLAG(__atomic_clear, p, o)
 
 #define __sync_fetch_and_add(p, v) LR_OF_SYNC(__sync_fetch_and_add, p, v)
 #define __sync_fetch_and_sub(p, v) LR_OF_SYNC(__sync_fetch_and_sub, p, v)
@@ -121,11 +136,16 @@ static inline void lr_point(void)
 #define __sync_lock_test_and_set(p, v) LR_OF_SYNC(__sync_lock_test_and_set, p, v)
 #define __sync_bool_compare_and_swap(p, e, d) LR_OF_SYNC_CAS(__sync_bool_compare_and_swap, p, e, d)
 #define __sync_val_compare_and_swap(p, e, d) LR_OF_SYNC_CAS(__sync_val_compare_and_swap, p, e, d)
-#define __sync_lock_release(p) (lr_point(), __sync_lock_release(p))
+#define __sync_lock_release(p)                                                                     \
+    __extension__({                                                                                \
+        LR_AUTO lr_p = (p);                                                                        \
+        lr_point(lr_p, sizeof *lr_p, 1);                                                           \
+        __sync_lock_release(lr_p);                                                                 \
+    })
 
 /* Clang's `atomic_` operations are made of these, GCC's of those above. */
 #if defined __clang__ && !defined __cplusplus
-#define __c11_atomic_load(p, o) LR_OF_WORD(__c11_atomic_load, p, o)
+#define __c11_atomic_load(p, o) LR_OF_LOAD(__c11_atomic_load, p, o)
 #define __c11_atomic_store(p, v, o) LR_OF_STORE(__c11_atomic_store, p, v, o)
 #define __c11_atomic_exchange(p, v, o) LR_OF_STORE(__c11_atomic_exchange, p, v, o)
 #define __c11_atomic_compare_exchange_strong(p, e, d, s, f)                                        \

@@ -51,6 +51,8 @@
                      so. A trace has what was counted since then
      LR_PATIENCE=n   a run hangs after n turns with nothing but repeated polls
      LR_MOVES=n      with EXPLORE: room for n moves of each thread (4,096)
+     LR_REDUCE=0     with EXPLORE: runs are made that differ only in the order of steps on different
+                     words. What has neither a point nor a note is not seen as a step
 
    CALLS AND STEPS, each right after what it notes. A step on a word that no lock has it on is not
    compiled, and a counter's value takes the width of the counter.
@@ -113,6 +115,7 @@
 #include "run.h"
 #include "texts.h"
 #include "noise.h"
+#include "steps.h"
 #if LR_TURNS
 #include "turns.h"
 #endif
@@ -138,6 +141,8 @@
 #endif
 #include "driver.h"
 #if LR_RECORDS
+#include "ways.h"
+#include "reduce.h"
 #include "explore.h"
 #include "schedule.h"
 #include "records.h"

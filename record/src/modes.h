@@ -50,6 +50,9 @@
 #if defined LR_MOVES && !LR_EXPLORES
 #error "LR_MOVES is for LR_MODE=EXPLORE: room for so many moves of a thread"
 #endif
+#if defined LR_REDUCE && !LR_EXPLORES
+#error "LR_REDUCE is for LR_MODE=EXPLORE: with 0 independent steps are made in both orders"
+#endif
 #if defined LR_ATOMICS && !(LR_SEEDED || LR_EXPLORES || defined LR_NOISE)
 #error "LR_ATOMICS is for SEED, EXPLORE, and VALUES with LR_NOISE: points before atomic operations"
 #endif
@@ -72,6 +75,12 @@
 #define LR_POINTS 1
 #else
 #define LR_POINTS 0
+#endif
+/* LR_REDUCES: one order of independent steps is enough. */
+#if LR_EXPLORES && (!defined LR_REDUCE || LR_REDUCE + 0)
+#define LR_REDUCES 1
+#else
+#define LR_REDUCES 0
 #endif
 #if LR_EXPLORES || defined LR_CHECK
 #define LR_CHECKS 1

@@ -21,7 +21,11 @@ static inline lr_log *lr_here(void)
     _Exit(2);
 }
 
-static inline void lr_set_inside(int inside) { lr_here()->turn.in_monitor = inside; }
+static inline void lr_set_inside(int inside)
+{
+    lr_touch_all(lr_here()->run);
+    lr_here()->turn.in_monitor = inside;
+}
 
 #if LR_FOLLOWS
 static inline void lr_before_lock(void)
@@ -57,7 +61,9 @@ static inline void lr_park(const void *condition)
     log->turn.in_monitor = 0;
     log->turn.awaits = condition;
     log->run->parked |= lr_bit(log->thread);
+    lr_touch_all(log->run);
     lr_pass(log);
+    lr_touch_all(log->run);
     log->run->parked &= ~lr_bit(log->thread);
     log->turn.has_passed = 0;
     log->turn.in_monitor = inside;
@@ -67,6 +73,7 @@ static inline void lr_wake(const void *condition, int all)
 {
     lr_run *run = lr_here()->run;
     uint64_t waiters = 0;
+    lr_touch_all(run);
     for (unsigned t = 0; t < run->threads; t++)
         if (run->parked >> t & 1 && run->logs[t].turn.awaits == condition) waiters |= lr_bit(t);
     if (waiters && !all) waiters = lr_bit(lr_choose_waiter(run, waiters));

@@ -147,7 +147,8 @@ static inline void lr_after_note(lr_log *log, unsigned word, int polls)
     lr_stop_if_full(log);
     log->turn.joined = 0;
     log->turn.seen = run->ordered;
-    run->stuck = polls ? run->stuck | lr_bit(log->thread) : 0;
+    run->footprint.is_vain |= polls;
+    run->stuck = polls ? run->stuck | lr_bit(log->thread) : lr_still_stuck(run, log->thread);
     if (!polls) run->in_vain = 0;
 #if LR_FOLLOWS
     lr_made(log, word);
@@ -169,6 +170,7 @@ LR_AT_ONCE void lr_note(lr_log *log, unsigned word, unsigned place, unsigned own
 #if LR_TURNS
     if (log->file != file) lr_turn_to(log, file, line);
     lr_before_note(log, word);
+    lr_touch_noted(log, &move);
     int polls = lr_is_same(move, &log->noted);
     log->noted = lr_filed(log, move);
     lr_append(log, move);

@@ -49,6 +49,7 @@ static inline void lr_close(lr_run *run)
     pthread_mutex_destroy(&run->mutex);
     free(run->lines);
     free(run->choices);
+    free(run->steps);
     munmap(run, run->size);
 }
 
@@ -156,7 +157,7 @@ static inline void lr_end(lr_log *log)
 #if LR_TURNS
     lr_pass_if_due(log);
     run->in_vain = 0;
-    run->stuck = 0;
+    run->stuck = lr_still_stuck(run, log->thread);
 #endif
     lr_self = &lr_outside;
     pthread_mutex_lock(&run->mutex);

@@ -5,6 +5,8 @@
 static inline void lr_set_record(const void *first, size_t length)
 {
     lr_extent *record = &lr_self->record;
+    /* Another thread that notes a pointer looks this up. */
+    if (record->first && record->first != (uintptr_t)first) lr_touch_all(lr_self->run);
     __atomic_store_n(&record->length, length, __ATOMIC_RELAXED);
     __atomic_store_n(&record->first, (uintptr_t)first, __ATOMIC_RELAXED);
 }

@@ -38,6 +38,23 @@ static inline unsigned lr_move_owner(const lr_move *m) { return m->kind >> LR_AT
 static inline unsigned lr_move_file(const lr_move *m) { return m->kind >> LR_AT_FILE & 0xFF; }
 static inline unsigned lr_move_line(const lr_move *m) { return (unsigned)(m->kind >> LR_AT_LINE); }
 
+/* What a step touches, if EXPLORE leaves out orders of independent steps. A step is all that a
+   thread does in one turn. */
+typedef struct lr_footprint {
+    uintptr_t word; /* of its atomic operation */
+    size_t size;    /* of that word, or 0 if it has no such operation */
+    unsigned noted; /* the word that its note names, or 0 */
+    int writes;     /* it may do more than load the word */
+    int is_all;     /* it may touch anything */
+    int is_vain;    /* it is a poll that found what the one before it did */
+} lr_footprint;
+
+typedef struct lr_step {
+    lr_footprint footprint;
+    unsigned thread;
+    size_t choice; /* 1 and the number of the choice by which the thread kept its turn, or 0 */
+} lr_step;
+
 /* Needed only by the modes in which one thread runs at a time. */
 typedef struct lr_turn {
     sem_t comes;
@@ -49,6 +66,7 @@ typedef struct lr_turn {
     size_t seen;        /* how many moves of all threads were written at the last note */
     size_t next_call;   /* the line of its schedule at which its next call is looked for */
     unsigned priority;  /* with LR_PCT: the greatest goes first */
+    lr_footprint poll;  /* of a thread that is stuck */
 } lr_turn;
 
 /* The record of a thread's own, of which its words are fields. */
@@ -88,6 +106,7 @@ typedef struct lr_line {
 typedef struct lr_choice {
     uint64_t options, asleep;
     uint16_t chosen, current; /* current: who would have gone on, or LR_NOBODY */
+    size_t step;              /* how many steps were made before */
 } lr_choice;
 
 /* It has the same fields in each mode, and the mode with which it was opened. */
@@ -130,6 +149,10 @@ typedef struct lr_run {
     size_t way_length;
     lr_choice *choices;
     size_t chosen, choices_room;
+    lr_footprint footprint; /* of the step that is made */
+    lr_step *steps;
+    size_t stepped, steps_room;
+    uint64_t preempted; /* those that made no step since they lost their turn */
 } lr_run;
 
 /* The log of the thread that runs, one variable for all files of a program. A thread that has none

@@ -51,6 +51,7 @@ static inline void lr_hang(lr_run *run)
 /* Who is next, or LR_NOBODY. */
 static inline unsigned lr_next(lr_run *run, unsigned current)
 {
+    lr_end_step(run);
     lr_wake_for_nothing(run);
     uint64_t ready = run->inside & ~run->parked;
     lr_set_count(run->turns, run->turns + 1);

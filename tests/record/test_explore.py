@@ -1,7 +1,7 @@
 """Explored runs: all runs of a few threads with few preemptions.
 
-For a right lock in Rust they have to be those that explored_runs.py finds, each as often. For a
-lock with a mistake some run has to be refused or to hang with the expected number of preemptions,
+For a right lock in Rust they have to be those that explored_runs.py finds, each as often, if the
+order of independent steps counts; test_reduced.py compares the others with them. For a lock with a mistake some run has to be refused or to hang with the expected number of preemptions,
 and none with fewer. Examples can check their runs by themselves, and then refuse the same.
 """
 import re
@@ -26,7 +26,7 @@ MISTAKES = [pytest.param("rust", mistake, id=str(mistake)) for mistake in IN_RUS
 @pytest.mark.parametrize("counts", [(2, 1, 2), (2, 2, 2), (3, 1, 1)], ids=str)
 @pytest.mark.parametrize("recorder, example", RUST, indirect=["recorder"])
 def test_right_lock(recorder, judge, tmp_path, example, counts):
-    done = recorder.search(counts, tmp_path, example, "explore")
+    done = recorder.search(counts, tmp_path, example, "explore-all")
     due = runs_of(example.replace("_", "-"), *counts)
     preemptions = "1 preemption" if counts[2] == 1 else f"{counts[2]} preemptions"
     said = f"{sum(due.values())} runs with up to {preemptions}, all of them\n"
@@ -76,10 +76,10 @@ def test_mistake_that_checks_itself(recorder, judge, tmp_path, mistake):
 # An example in C, its mistake, threads, rounds and preemptions: what a search says.
 EXPLORED = [
     ("mcs", None, (2, 1, 0), "2 runs with up to 0 preemptions, all of them accepted"),
-    ("mcs", None, (2, 1, 2), "128 runs with up to 2 preemptions, all of them accepted"),
-    ("ticket", None, (2, 1, 2), "102 runs with up to 2 preemptions, all of them accepted"),
-    ("rw_simple", None, (2, 1, 2), "114 runs with up to 2 preemptions, all of them accepted"),
-    ("rw_fifo", None, (2, 1, 2), "114 runs with up to 2 preemptions, all of them accepted"),
+    ("mcs", None, (2, 1, 2), "22 runs with up to 2 preemptions, all of them accepted"),
+    ("ticket", None, (2, 1, 2), "10 runs with up to 2 preemptions, all of them accepted"),
+    ("rw_simple", None, (2, 1, 2), "86 runs with up to 2 preemptions, all of them accepted"),
+    ("rw_fifo", None, (2, 1, 2), "86 runs with up to 2 preemptions, all of them accepted"),
     ("mcs", "link-before-locked", (2, 1, 2), ", the last one is refused"),
     ("ticket", "serves-the-next-ticket", (2, 1, 2), ", the last one is refused"),
 ]
@@ -135,7 +135,7 @@ def test_counters_that_begin_before_their_wrap(planted, tmp_path, name, line, sa
     from 0, and has as many runs of the right lock."""
     done = ran(planted("ticket", name, f"-DLR_START={start}"), 2, 1, 2, tmp_path)
     if name is None or start == 0:
-        assert done.stdout == "102 runs with up to 2 preemptions, all of them accepted\n"
+        assert done.stdout == "10 runs with up to 2 preemptions, all of them accepted\n"
     else:
         at = re.search(r"refused at line (\d+) of the trace, ticket.c:\d+: (.*?): ", done.stdout)
         assert at and int(at[1]) == line

@@ -34,6 +34,7 @@ WORDS = [
         ("-DLR_CHECK", "OFF VALUES", "LR_CHECK is for SEED, FOLLOW and EXPLORE"),
         ("-DLR_PATIENCE=9", "OFF VALUES FOLLOW", "LR_PATIENCE is for SEED and EXPLORE"),
         ("-DLR_MOVES=9", "OFF VALUES SEED FOLLOW", "LR_MOVES is for LR_MODE=EXPLORE"),
+        ("-DLR_REDUCE=0", "OFF VALUES SEED FOLLOW", "LR_REDUCE is for LR_MODE=EXPLORE"),
         ("-DLR_MAPPED=0", "OFF SEED FOLLOW EXPLORE", "LR_MAPPED is for LR_MODE=VALUES"),
         ("-DLR_ATOMICS=0", "OFF VALUES FOLLOW", "LR_ATOMICS is for SEED, EXPLORE, and VALUES"),
     ) for mode in ("", *(f"-DLR_MODE={mode} " for mode in modes.split()))

@@ -71,7 +71,7 @@ def test_document_counts_what_the_tables_have():
     assert dict(re.findall(r"^\| `(\w+)` \| (\d+) \|", text, re.MULTILINE)) == counted
 
 
-def build(lock, name, mode, library, folder):
+def build(lock, name, mode, library, folder, *flags):
     """A copy of the lock with the mistake, built over the driver of planted mistakes."""
     copy = folder / SOURCES.relative_to(TOP)
     shutil.copytree(SOURCES, copy)
@@ -80,8 +80,8 @@ def build(lock, name, mode, library, folder):
         plant(PATCHES / "c" / lock / f"{name}.patch", folder)
     shutil.copy(HERE / "planted_driver.h", copy / "driver.h")
     shutil.copy(HERE / "stuck.h", copy)
-    subprocess.run(["gcc", "-std=c11", "-O1", "-w", "-pthread", *MODES[mode], "-o",
-                    folder / "program", copy / f"{lock}.c",
+    subprocess.run(["gcc", "-std=c11", "-O1", "-w", "-pthread", *MODES[mode], *flags,
+                    "-o", folder / "program", copy / f"{lock}.c",
                     *([] if mode in REAL_MODES else [library])], check=True)
     return folder / "program"
 

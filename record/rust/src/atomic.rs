@@ -139,7 +139,7 @@ impl<A: Plain> Atomic<A> {
     /// A load.
     #[track_caller]
     pub fn load(&self, order: Ordering) -> A::Value {
-        let (turn, owner) = self.begin();
+        let (turn, owner) = self.begin(false);
         let found = self.plain.load(order);
         self.end(&turn, owner, false, |word| [Step::read(word, self.shown(found))]);
         found
@@ -148,13 +148,14 @@ impl<A: Plain> Atomic<A> {
     /// A load that is no step of the lock: it is not noted, and no thread is switched. For an
     /// assertion, for `Debug`, or for a look that the published algorithm does not make.
     pub fn peek(&self, order: Ordering) -> A::Value {
+        current::touch(self.address(), false);
         self.plain.load(order)
     }
 
     /// A store.
     #[track_caller]
     pub fn store(&self, value: A::Value, order: Ordering) {
-        let (turn, owner) = self.begin();
+        let (turn, owner) = self.begin(true);
         // The pointer's record is looked up first: afterwards another thread may have it.
         let left = self.value(&turn, value);
         self.plain.store(value, order);
@@ -164,7 +165,7 @@ impl<A: Plain> Atomic<A> {
     /// A swap.
     #[track_caller]
     pub fn swap(&self, value: A::Value, order: Ordering) -> A::Value {
-        let (turn, owner) = self.begin();
+        let (turn, owner) = self.begin(true);
         let left = self.value(&turn, value);
         let found = self.plain.swap(value, order);
         let changed = found != value;
@@ -187,7 +188,7 @@ impl<A: Plain> Atomic<A> {
         success: Ordering,
         failure: Ordering,
     ) -> Result<A::Value, A::Value> {
-        let (turn, owner) = self.begin();
+        let (turn, owner) = self.begin(true);
         let left = self.value(&turn, new);
         let result = self.plain.compare_exchange(old, new, success, failure);
         self.note_exchange(&turn, owner, result, left);
@@ -207,7 +208,7 @@ impl<A: Plain> Atomic<A> {
         success: Ordering,
         failure: Ordering,
     ) -> Result<A::Value, A::Value> {
-        let (turn, owner) = self.begin();
+        let (turn, owner) = self.begin(true);
         let left = self.value(&turn, new);
         let result = self.plain.compare_exchange_weak(old, new, success, failure);
         if result == Err(old) {
@@ -248,7 +249,7 @@ impl<A: Plain> Atomic<A> {
         make: impl FnOnce(&A) -> A::Value,
         left: impl FnOnce(A::Value) -> A::Value,
     ) -> A::Value {
-        let (turn, owner) = self.begin();
+        let (turn, owner) = self.begin(true);
         let found = make(&self.plain);
         let left = left(found);
         self.end(&turn, owner, found != left, |word| {
@@ -290,8 +291,9 @@ impl<A: Plain> Atomic<A> {
     /// Lets others go first. The record that the word is in is looked for before the operation:
     /// afterwards its thread may have left it.
     #[track_caller]
-    fn begin(&self) -> (Turn, Option<usize>) {
+    fn begin(&self, writes: bool) -> (Turn, Option<usize>) {
         let turn = current::turn_of_atomic(self.name.word().is_some());
+        current::touch(self.address(), writes);
         let owner = match self.name.word() {
             Some(Word::Next | Word::Locked) => current::other_owner_of(self.address()),
             _ => None,
@@ -323,7 +325,7 @@ impl<A: Counter> Atomic<A> {
     /// A fetch-and-add. On the served ticket it is the two steps of a release, a read and a write.
     #[track_caller]
     pub fn fetch_add(&self, amount: A::Value, order: Ordering) -> A::Value {
-        let (turn, owner) = self.begin();
+        let (turn, owner) = self.begin(true);
         let found = self.plain.fetch_add(amount, order);
         self.note_sum(&turn, owner, found, A::plus(found, amount));
         found
@@ -332,7 +334,7 @@ impl<A: Counter> Atomic<A> {
     /// A fetch-and-subtract. It is noted as a fetch-and-add, with what it left.
     #[track_caller]
     pub fn fetch_sub(&self, amount: A::Value, order: Ordering) -> A::Value {
-        let (turn, owner) = self.begin();
+        let (turn, owner) = self.begin(true);
         let found = self.plain.fetch_sub(amount, order);
         self.note_sum(&turn, owner, found, A::minus(found, amount));
         found

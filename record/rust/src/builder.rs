@@ -31,12 +31,13 @@ pub struct RunBuilder {
     spurious: Option<usize>,
     start: u64,
     folder: Option<PathBuf>,
+    reduces: bool,
 }
 
 impl RunBuilder {
     pub(crate) fn of(header: Header) -> RunBuilder {
         let (mode, room, spurious, start, folder) = (Mode::Free, 1 << 16, None, 0, None);
-        RunBuilder { header, mode, room, spurious, start, folder }
+        RunBuilder { header, mode, room, spurious, start, folder, reduces: true }
     }
 
     /// How the threads are scheduled; [`Mode::Free`] if this is not said.
@@ -69,6 +70,13 @@ impl RunBuilder {
     /// Runs that are [explored](RunBuilder::explore) have them unless this is 0.
     pub fn spurious(self, one_in: usize) -> RunBuilder {
         RunBuilder { spurious: Some(one_in), ..self }
+    }
+
+    /// Whether [explored](RunBuilder::explore) runs leave out orders of steps that touch different
+    /// words, or load the same one; they do if this is not said. What a thread does without an
+    /// atomic, a mutex or a note of this crate is not seen.
+    pub fn reduced(self, reduces: bool) -> RunBuilder {
+        RunBuilder { reduces, ..self }
     }
 
     /// A folder in which the log of each thread has its moves as soon as they are made, so that an
@@ -136,15 +144,20 @@ impl RunBuilder {
         Explore::new(self.mode(Mode::Ordered), preemptions)
     }
 
+    /// Whether orders of independent steps are left out.
+    pub(crate) fn reduces(&self) -> bool {
+        self.reduces
+    }
+
     /// Opens a run that is explored, which begins with these choices and has this number.
     pub(crate) fn open_on(self, way: Way, number: u64) -> Result<Run, Error> {
-        let path = Path::of(way, self.spurious != Some(0));
+        let path = Path::of(way, self.spurious != Some(0), self.reduces);
         let setup = RunBuilder { spurious: self.spurious.filter(|&one_in| one_in == 0), ..self };
         setup.open_by(Rule::ByTurns, Chooser::Path(path), number)
     }
 
     fn open_by(self, rule: Rule, chooser: Chooser, number: u64) -> Result<Run, Error> {
-        let RunBuilder { header, mode, room, spurious, start, folder } = self;
+        let RunBuilder { header, mode, room, spurious, start, folder, .. } = self;
         let Header { threads, .. } = header.checked()?;
         let refused = |_| Error::OutOfMemory { logs: threads, room };
         let polls = if rule == Rule::ByLines { u32::MAX } else { POLLS_WRITTEN };

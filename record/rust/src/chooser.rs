@@ -3,6 +3,7 @@
 
 use crate::draw::Draw;
 use crate::follow::Following;
+use crate::footprint::Footprint;
 use crate::kind::Kind;
 use crate::path::{Effect, Path};
 use crate::priorities::Priorities;
@@ -32,6 +33,24 @@ impl Chooser {
             Chooser::Path(_) => PATIENCE_OF_A_PATH,
             _ => PATIENCE,
         }
+    }
+
+    /// The decisions of a run that is explored.
+    fn path(&mut self) -> Option<&mut Path> {
+        match self {
+            Chooser::Path(path) => Some(path),
+            _ => None,
+        }
+    }
+
+    /// The footprint of the step that is made, if steps have one.
+    pub(crate) fn footprint(&mut self) -> Option<&mut Footprint> {
+        self.path()?.footprint()
+    }
+
+    /// Ends the step of the thread whose turn it was, and returns its footprint.
+    pub(crate) fn end_step(&mut self, holder: Option<usize>, ready: &[usize]) -> Option<Footprint> {
+        self.path()?.end_step(holder, ready)
     }
 
     /// One of those who are ready, after the one whose turn it was; or of those who are asleep, if

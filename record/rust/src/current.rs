@@ -12,6 +12,7 @@ use std::sync::Arc;
 use std::thread;
 
 use crate::draw::Draw;
+use crate::footprint::Footprint;
 use crate::kind::Kind;
 use crate::moves::{Call, Move, Outcome, Step, Word};
 use crate::noise;
@@ -111,6 +112,7 @@ impl Recorder {
             other => other,
         };
         let added = self.tape.add(made, source);
+        self.shared.turns.touch(|step| step.note(self.thread, &made));
         self.shared.turns.noted(self.thread, Kind::of_move(&made), added);
     }
 
@@ -123,6 +125,9 @@ impl Recorder {
             let place = Place { is_step, in_monitor: self.monitors > 0 };
             self.shared.turns.take(self.thread, place);
             self.operations = 0;
+            if self.monitors > 0 {
+                self.shared.turns.touch(Footprint::touch_all); // its data may be anywhere
+            }
         }
         self.depth += 1;
     }
@@ -230,6 +235,11 @@ pub fn switch() {
     with(|recorder| recorder.shared.turns.switched());
 }
 
+/// The step that is made touches what is at an address.
+pub(crate) fn touch(address: usize, writes: bool) {
+    with(|recorder| recorder.shared.turns.touch(|step| step.touch(address, writes)));
+}
+
 /// Something was done at an address that is not noted. What changed nothing may be a poll.
 pub(crate) fn unnoted(address: usize, changed: bool) {
     with(|recorder| recorder.shared.turns.unnoted(recorder.thread, address, changed));
@@ -276,7 +286,11 @@ pub fn operation<R>(parts: impl FnOnce() -> R) -> R {
 /// A pointer to it, or into it, then has the value thread + 1 in a trace, and its words are those
 /// of this thread. It may be on the stack, on the heap or in an array, and another at each call.
 pub fn own_record<T: ?Sized>(record: &T) {
-    with(|recorder| recorder.shared.records.set(recorder.thread, record));
+    with(|recorder| {
+        if recorder.shared.records.set(recorder.thread, record) {
+            recorder.shared.turns.touch(Footprint::touch_all); // others look it up
+        }
+    });
 }
 
 /// The sections of a monitor, counted by all threads together.
@@ -320,11 +334,14 @@ pub(crate) fn section(sections: &mut Sections, outcome: Outcome) {
 
 /// By turns: waits until the thread is woken at an address.
 pub(crate) fn sleep(address: usize) {
+    touch(address, true);
     with(|recorder| recorder.shared.turns.sleep(recorder.thread, address));
+    touch(address, true);
 }
 
 /// By turns: wakes the threads that wait at an address, or one of them.
 pub(crate) fn wake(address: usize, all: bool) {
+    touch(address, true);
     with(|recorder| recorder.shared.turns.wake(address, all));
 }
 

@@ -140,6 +140,8 @@ mod explore;
 #[cfg(feature = "record")]
 mod follow;
 #[cfg(feature = "record")]
+mod footprint;
+#[cfg(feature = "record")]
 mod kind;
 #[cfg(feature = "record")]
 mod lock;
@@ -157,6 +159,8 @@ mod priorities;
 mod published;
 #[cfg(feature = "record")]
 mod records;
+#[cfg(feature = "record")]
+mod reduce;
 #[cfg(feature = "record")]
 mod run;
 #[cfg(feature = "record")]

@@ -83,6 +83,7 @@ impl<T> Mutex<T> {
     pub fn lock(&self) -> LockResult<MutexGuard<'_, T>> {
         while current::is_by_turns() {
             let _turn = current::turn(true);
+            current::touch(self.address(), true);
             match self.plain.try_lock() {
                 Ok(plain) => return self.guard(Ok(plain)),
                 Err(TryLockError::Poisoned(error)) => return self.guard(Err(error)),
@@ -100,6 +101,7 @@ impl<T> Mutex<T> {
     /// Another thread has it, or panicked while it had it.
     pub fn try_lock(&self) -> TryLockResult<MutexGuard<'_, T>> {
         let _turn = current::turn(true);
+        current::touch(self.address(), true);
         match self.plain.try_lock() {
             Ok(plain) => self.guard(Ok(plain)).map_err(TryLockError::Poisoned),
             Err(TryLockError::Poisoned(error)) => {

@@ -147,6 +147,17 @@ impl Step {
         }
     }
 
+    /// The word that it is on, and the thread in whose record that is, if another one's.
+    #[cfg(feature = "record")]
+    pub(crate) const fn place(&self) -> (Word, Option<usize>) {
+        (self.word, self.owner)
+    }
+
+    #[cfg(feature = "record")]
+    pub(crate) const fn is_read(&self) -> bool {
+        matches!(self.operation, Operation::Read)
+    }
+
     const fn new(operation: Operation, word: Word) -> Step {
         Step { operation, word, owner: None, found: None, left: None }
     }

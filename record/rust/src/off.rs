@@ -114,6 +114,9 @@ pub(crate) fn turn_of_atomic(_may_be_step: bool) -> Turn {
 pub(crate) fn pause() {}
 
 #[inline]
+pub(crate) fn touch(_address: usize, _writes: bool) {}
+
+#[inline]
 pub(crate) fn unnoted(_address: usize, _changed: bool) {}
 
 #[inline]

@@ -1,6 +1,11 @@
 //! The next thread of a run that is explored: by the given choices, and then without preemption.
 // SPDX-License-Identifier: Apache-2.0 OR MIT
 
+use std::mem;
+
+use crate::footprint::Footprint;
+use crate::reduce::Step;
+
 /// A place in a run where one of several threads could go on.
 #[derive(Clone, Debug)]
 pub(crate) struct Decision {
@@ -10,6 +15,8 @@ pub(crate) struct Decision {
     /// The thread that had the turn, if it could go on. Another one in its place is a preemption.
     running: Option<usize>,
     chosen: usize,
+    /// How many steps were made before.
+    pub(crate) step: usize,
 }
 
 impl Decision {
@@ -21,6 +28,22 @@ impl Decision {
     /// Whether another choice is a preemption, or counts as one.
     fn costs(&self, other: usize) -> bool {
         self.running.is_some() || self.asleep.contains(&other)
+    }
+
+    /// Who else could have been chosen, each with whether that is a preemption.
+    pub(crate) fn others(&self) -> impl Iterator<Item = (usize, bool)> + '_ {
+        let others = self.all().filter(|&&it| it != self.chosen);
+        others.map(|&other| (other, self.costs(other)))
+    }
+
+    /// Whether the thread that had the turn keeps it.
+    pub(crate) fn goes_on(&self) -> bool {
+        self.running == Some(self.chosen)
+    }
+
+    /// The thread that had the turn, if it could have kept it and does not.
+    pub(crate) fn preempted(&self) -> Option<usize> {
+        self.running.filter(|&running| running != self.chosen)
     }
 }
 
@@ -35,7 +58,8 @@ pub(crate) enum Effect {
     Again,
 }
 
-/// The threads that have polled in vain since anybody made a step.
+/// The threads that have polled in vain since anybody made a step; or one on which their poll is
+/// dependent, if steps have footprints.
 #[derive(Debug, Default)]
 pub(crate) struct Stuck(Vec<usize>);
 
@@ -47,6 +71,11 @@ impl Stuck {
             Effect::Again if !self.0.contains(&thread) => self.0.push(thread),
             Effect::Again | Effect::Look => {}
         }
+    }
+
+    /// A thread has made progress.
+    fn remove(&mut self, thread: usize) {
+        self.0.retain(|&stuck| stuck != thread);
     }
 
     /// Those of the ready who are not stuck.
@@ -69,12 +98,60 @@ pub(crate) struct Path {
     has_moved: bool,
     stuck: Stuck,
     has_strayed: bool,
+    /// Nothing, if each order of independent steps is tried.
+    record: Option<Record>,
+}
+
+/// The steps of a run, and what their words are.
+#[derive(Debug, Default)]
+struct Record {
+    footprint: Footprint,
+    steps: Vec<Step>,
+    /// What each thread that polled in vain polls.
+    polls: Vec<(usize, Footprint)>,
+    /// Those who made no step since they lost their turn.
+    preempted: Vec<usize>,
 }
 
 impl Path {
-    pub(crate) fn of(way: Way, wakes: bool) -> Path {
+    pub(crate) fn of(way: Way, wakes: bool, reduces: bool) -> Path {
         let (made, stuck) = (Vec::new(), Stuck::default());
-        Path { way, wakes, made, has_moved: false, stuck, has_strayed: false }
+        let record = reduces.then(Record::default);
+        Path { way, wakes, made, has_moved: false, stuck, has_strayed: false, record }
+    }
+
+    /// The footprint of the step that is made, if steps have one.
+    pub(crate) fn footprint(&mut self) -> Option<&mut Footprint> {
+        self.record.as_mut().map(|record| &mut record.footprint)
+    }
+
+    /// The decisions and steps of the run until now.
+    pub(crate) fn decisions(&self) -> &[Decision] {
+        &self.made
+    }
+
+    pub(crate) fn steps(&self) -> &[Step] {
+        self.record.as_ref().map_or(&[], |record| &record.steps)
+    }
+
+    /// Ends the step of the thread whose turn it was, unless it did nothing and goes on. Returns
+    /// its footprint.
+    pub(crate) fn end_step(&mut self, holder: Option<usize>, ready: &[usize]) -> Option<Footprint> {
+        let (record, thread) = self.record.as_mut().zip(holder)?;
+        if !self.has_moved && ready.contains(&thread) {
+            return None;
+        }
+        let footprint = mem::take(&mut record.footprint);
+        if footprint.is_vain {
+            record.polls.retain(|&(stuck, _)| stuck != thread);
+            record.polls.push((thread, footprint.clone()));
+        } else {
+            let polls = record.polls.iter().filter(|(stuck, _)| *stuck != thread);
+            let freed = polls.filter(|(_, poll)| footprint.depends_on(poll));
+            freed.for_each(|&(stuck, _)| self.stuck.remove(stuck));
+        }
+        record.steps.push(Step { thread, footprint: footprint.clone() });
+        Some(footprint)
     }
 
     /// Who of those who are ready goes on. A thread that polled in vain does not, as long as there
@@ -94,16 +171,32 @@ impl Path {
             return after(ready, holder);
         }
         let running = runs_on.filter(|thread| free.contains(thread));
-        let first = running.or_else(|| after(&free, holder))?;
-        let asleep = if self.wakes { asleep.to_vec() } else { Vec::new() };
-        Some(self.decide(Decision { options: free, asleep, running, chosen: first }))
+        let first = running.or_else(|| self.first_of(&free, holder))?;
+        let (asleep, step) = (if self.wakes { asleep.to_vec() } else { Vec::new() }, self.step());
+        let chosen = self.decide(Decision { options: free, asleep, running, chosen: first, step });
+        if let Some(record) = &mut self.record {
+            record.preempted.extend(running);
+            record.preempted.retain(|&thread| thread != chosen);
+        }
+        Some(chosen)
+    }
+
+    fn step(&self) -> usize {
+        self.steps().len()
+    }
+
+    /// Who goes on if nobody could: one that lost its turn only after all others. It may sleep.
+    fn first_of(&self, free: &[usize], holder: Option<usize>) -> Option<usize> {
+        let preempted = self.record.as_ref().map_or(&[][..], |record| &record.preempted);
+        let others = free.iter().copied().filter(|thread| !preempted.contains(thread));
+        after(&others.collect::<Vec<_>>(), holder).or_else(|| after(free, holder))
     }
 
     /// Which of those who wait is woken. That is no preemption.
     pub(crate) fn choose_waiter(&mut self, waiters: &[usize]) -> Option<usize> {
         let first = *waiters.first()?;
-        let (options, asleep) = (waiters.to_vec(), Vec::new());
-        Some(self.decide(Decision { options, asleep, running: None, chosen: first }))
+        let (options, asleep, step) = (waiters.to_vec(), Vec::new(), self.step());
+        Some(self.decide(Decision { options, asleep, running: None, chosen: first, step }))
     }
 
     /// Chooses as the way says, and after the way's end what is chosen already.
@@ -122,7 +215,14 @@ impl Path {
     /// An operation was made.
     pub(crate) fn made(&mut self, thread: usize, effect: Effect) {
         self.has_moved = true;
-        self.stuck.made(thread, effect);
+        match &mut self.record {
+            Some(_) if effect == Effect::Step => self.stuck.remove(thread),
+            Some(record) => {
+                record.footprint.is_vain |= effect == Effect::Again;
+                self.stuck.made(thread, effect);
+            }
+            None => self.stuck.made(thread, effect),
+        }
     }
 
     /// Whether a choice of the way was none here, or did not come up: the threads did not do what
@@ -136,14 +236,13 @@ impl Path {
     pub(crate) fn others(&self) -> Vec<(Way, bool)> {
         let places = self.made.iter().enumerate().skip(self.way.len());
         let others = places.flat_map(|(place, decision)| {
-            let not_chosen = decision.all().filter(|&&it| it != decision.chosen);
-            not_chosen.map(move |&other| (self.way_to(place, other), decision.costs(other)))
+            decision.others().map(move |(other, costs)| (self.way_to(place, other), costs))
         });
         others.collect()
     }
 
     /// The way of this run up to a decision, and there another thread.
-    fn way_to(&self, place: usize, other: usize) -> Way {
+    pub(crate) fn way_to(&self, place: usize, other: usize) -> Way {
         let same = self.made.iter().take(place).map(|decision| decision.chosen);
         same.chain([other]).collect()
     }

@@ -33,14 +33,17 @@ impl Records {
         Records((0..threads).map(|_| Extent::default()).collect())
     }
 
-    /// From now on the thread's record is this.
-    pub(crate) fn set<T: ?Sized>(&self, thread: usize, record: &T) {
+    /// From now on the thread's record is this. Whether it had another one.
+    pub(crate) fn set<T: ?Sized>(&self, thread: usize, record: &T) -> bool {
         let first = (record as *const T).cast::<u8>() as usize;
-        if let Some(extent) = self.0.get(thread) {
-            if extent.first.load(Ordering::Relaxed) != first {
+        let own = self.0.get(thread).map(|extent| (extent, extent.first.load(Ordering::Relaxed)));
+        match own {
+            Some((extent, before)) if before != first => {
                 extent.length.store(std::mem::size_of_val(record).max(1), Ordering::Relaxed);
                 extent.first.store(first, Ordering::Relaxed);
+                before != 0
             }
+            _ => false,
         }
     }
 

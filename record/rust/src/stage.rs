@@ -5,6 +5,7 @@
 use crate::chooser::Chooser;
 use crate::error::Error;
 use crate::follow::Departure;
+use crate::footprint::Footprint;
 use crate::kind::Kind;
 use crate::path::{Effect, Path};
 use crate::tape::Added;
@@ -45,7 +46,8 @@ pub(crate) struct Stage {
     wakes: Option<Wakes>,
     pub(crate) turns: usize,
     in_vain: u32,
-    /// Where each thread looked last without a note, if nobody has made a step since.
+    /// Where each thread looked last without a note, if nobody has made a step since; or one that
+    /// may have changed it, if steps have footprints.
     looks: Vec<Option<usize>>,
     order: Vec<u8>,
     pub(crate) is_cut: bool,
@@ -110,6 +112,10 @@ impl Stage {
         self.wake_for_nothing();
         let ready = self.threads_that(|phase| phase == Phase::Inside);
         let asleep = self.asleep();
+        if let Some(ended) = self.chooser.end_step(self.holder, &ready) {
+            let looks = self.looks.iter_mut();
+            looks.for_each(|look| *look = look.filter(|&address| !ended.may_change(address)));
+        }
         match self.chooser.choose(self.holder, &ready, &asleep) {
             Some(thread) if self.is_patient() => {
                 self.set_phase(thread, Phase::Inside);
@@ -170,8 +176,22 @@ impl Stage {
             _ => {}
         }
         self.in_vain = if added == Added::Again { self.in_vain + 1 } else { 0 };
-        self.looks.fill(None);
+        self.forget_looks(thread);
         self.chooser.made(thread, kind, added);
+    }
+
+    /// A step was made: its thread has looked nowhere since, and nor has any other one, unless the
+    /// step's footprint tells.
+    fn forget_looks(&mut self, thread: usize) {
+        match self.chooser.footprint() {
+            Some(_) => self.looks.iter_mut().skip(thread).take(1).for_each(|look| *look = None),
+            None => self.looks.fill(None),
+        }
+    }
+
+    /// The footprint of the step that is made, if steps have one.
+    pub(crate) fn footprint(&mut self) -> Option<&mut Footprint> {
+        self.chooser.footprint()
     }
 
     /// Something was done at an address that is not noted. A second look is in vain if nobody has
@@ -192,7 +212,7 @@ impl Stage {
             return; // it is no move
         }
         if effect == Effect::Step {
-            self.looks.fill(None);
+            self.forget_looks(thread);
         }
         self.chooser.took_effect(thread, effect);
         self.in_vain = if effect == Effect::Step { 0 } else { self.in_vain + 1 };

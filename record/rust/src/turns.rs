@@ -12,6 +12,7 @@ use std::time::{Duration, Instant};
 
 use crate::chooser::Chooser;
 use crate::error::Error;
+use crate::footprint::Footprint;
 use crate::kind::Kind;
 use crate::path::Effect;
 use crate::stage::{Next, Phase, Stage};
@@ -57,6 +58,8 @@ pub(crate) struct Turns {
     /// A thread has come or gone.
     changed: Condvar,
     stopped: AtomicBool,
+    /// Whether steps have footprints.
+    explores: bool,
 }
 
 impl Turns {
@@ -69,6 +72,7 @@ impl Turns {
         moves: usize,
     ) -> Result<Turns, Error> {
         let ordered = if rule == Rule::AtOnce { 0 } else { moves };
+        let explores = matches!(chooser, Chooser::Path(_));
         Ok(Turns {
             rule,
             stage: Mutex::new(Stage::new(threads, ordered, chooser, wakes)?),
@@ -76,6 +80,7 @@ impl Turns {
             free: Condvar::new(),
             changed: Condvar::new(),
             stopped: AtomicBool::new(false),
+            explores,
         })
     }
 
@@ -203,6 +208,13 @@ impl Turns {
             self.stop(&stage);
             drop(stage);
             self.go_on();
+        }
+    }
+
+    /// Says what words the step touches that is made, if all runs are explored.
+    pub(crate) fn touch(&self, touch: impl FnOnce(&mut Footprint)) {
+        if self.explores {
+            self.stage().footprint().map(touch);
         }
     }
 

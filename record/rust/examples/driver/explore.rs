@@ -11,12 +11,13 @@ use super::{judge, rounds, run_new, setup, told, Tested, Told, Words};
 const LIMIT: Duration = Duration::from_secs(10);
 const MOST_RUNS: usize = 1_000_000;
 
-/// What `explore THREADS ROUNDS PREEMPTIONS FOLDER [RUNS]` does.
+/// What `explore THREADS ROUNDS PREEMPTIONS FOLDER [RUNS]` does, and `explore-all`.
 pub(super) fn from_words<L: Tested>(words: &Words) -> Option<Result<Told, Error>> {
     let (threads, rounds) = (words.number(1)?, words.number(2)?);
     let (preemptions, folder) = (words.number(3)?, words.text(4)?);
     let most = words.number_or(5, MOST_RUNS)?;
-    let runs = setup::<L>(threads, rounds).explore(preemptions);
+    let setup = setup::<L>(threads, rounds).reduced(words.text(0)? == "explore");
+    let runs = setup.explore(preemptions);
     Some(explore::<L>(runs, rounds, most, Path::new(folder)))
 }
 

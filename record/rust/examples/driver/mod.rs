@@ -2,9 +2,10 @@
 //!
 //!     EXAMPLE free|noise|ordered|seed|pct|wakes THREADS ROUNDS SEED FOLDER [SECONDS]
 //!     EXAMPLE follow SCHEDULES FOLDER
-//!     EXAMPLE explore THREADS ROUNDS PREEMPTIONS FOLDER [RUNS]
+//!     EXAMPLE explore|explore-all THREADS ROUNDS PREEMPTIONS FOLDER [RUNS]
 //!
-//! `wakes` is `seed` with more spurious wakeups. The logs go to FOLDER. Of schedules that are
+//! `wakes` is `seed` with more spurious wakeups, and `explore-all` also makes runs that differ only
+//! in the order of independent steps. The logs go to FOLDER. Of schedules that are
 //! followed and of runs that are explored, the traces do; with the feature `check` these runs are
 //! checked here, and the trace of one that is not well is all that is saved. Status: 0 all threads
 //! ended, every schedule was followed, no run was refused; 1 some threads hang, after SECONDS (60)
@@ -29,7 +30,7 @@ use lockreplay_record::{Call, Ending, Error, Lock, Log, Mode, Run, RunBuilder};
 const USAGE: &str =
     "usage: EXAMPLE free|noise|ordered|seed|pct|wakes THREADS ROUNDS SEED FOLDER [SECONDS]
        EXAMPLE follow SCHEDULES FOLDER
-       EXAMPLE explore THREADS ROUNDS PREEMPTIONS FOLDER [RUNS]";
+       EXAMPLE explore|explore-all THREADS ROUNDS PREEMPTIONS FOLDER [RUNS]";
 /// A log has room for so many moves a round.
 const MOST_MOVES: usize = 256;
 /// With `wakes`, one turn in so many has a spurious wakeup.
@@ -78,7 +79,9 @@ pub fn drive<L: Tested>() -> ExitCode {
     let words = Words(env::args().skip(1).collect());
     let told = match words.text(0) {
         Some("follow") if words.count() == 3 => follow::from_words::<L>(&words),
-        Some("explore") if (5..=6).contains(&words.count()) => explore::from_words::<L>(&words),
+        Some("explore" | "explore-all") if (5..=6).contains(&words.count()) => {
+            explore::from_words::<L>(&words)
+        }
         Some(mode) if (5..=6).contains(&words.count()) => record::<L>(mode, &words),
         _ => None,
     };

@@ -1,0 +1,144 @@
+"""EXPLORE with and without each order of independent steps: the same comes about, by fewer runs.
+
+Steps of two threads are independent if they are on different words, or both load one; sections are
+not. Traces that differ only in the order of such steps have one normal form, after Foata: each move
+comes as early as the moves on which it depends let it.
+"""
+import re
+
+import pytest
+
+from mistakes import IN_RUST
+from recorders import RECORDERS, SOURCES, compile_c
+from test_planted import EXPLORED, MISTAKES, build
+from tree import TOP, ran
+
+MOST = 10000  # runs of a search
+# The runs of 3 threads with a round and 2 preemptions of a right lock, with each order and without.
+RUNS_IN_C = {"mcs": (7188, 525), "ticket": (5616, 264), "rw_simple": (2954, 2696),
+             "rw_fifo": (2898, 2640)}
+RUNS_IN_RUST = {"mcs": (5316, 525), "ticket": (4164, 264), "rw_simple": (976, 246),
+                "rw_fifo": (972, 248)}
+NAMED = ("mcs", "ticket", "rw_fifo")  # the locks whose runs the document has
+SEARCHES = ("explore-all", "explore")
+
+
+def move_of(line):
+    """A move with its thread and its word, and whether it does more than load that."""
+    thread, kind, *parts = line.split()
+    if kind == "section":
+        return line, thread, "sections", True
+    if not parts:
+        return line, thread, None, False
+    owner = None
+    if parts[0] in ("next", "locked"):
+        owner = parts[2] if parts[1:2] == ["of"] else thread
+    return line, thread, (parts[0], owner), kind != "read"
+
+
+def are_dependent(one, other):
+    (_, thread, word, writes), (_, by, on, also_writes) = one, other
+    return thread == by or (word == on and word is not None and (writes or also_writes))
+
+
+def normal_form(trace):
+    """The moves of a trace, in sets of which each one's moves are independent."""
+    levels = []
+    for move in (move_of(line) for line in trace.splitlines() if line[:1].isdigit()):
+        at = len(levels)
+        while at and not any(are_dependent(move, other) for other in levels[at - 1]):
+            at -= 1
+        if at == len(levels):
+            levels.append([])
+        levels[at].append(move)
+    return tuple(frozenset(line for line, *_ in level) for level in levels)
+
+
+def said_by(done):
+    """How many runs a search made, with how many preemptions, and whether there are more."""
+    runs, preemptions = re.match(r"(\d+) runs? with up to (\d+) preemptions?", done.stdout).groups()
+    return int(runs), int(preemptions), "and there are more" in done.stdout
+
+
+def test_normal_form():
+    one, other = "0 write next left 0\n1 read tail found 0\n", "0 write tail left 1\n"
+    assert normal_form(one) == normal_form("1 read tail found 0\n0 write next left 0\n")
+    assert normal_form(one + other) != normal_form(other + one)
+    assert normal_form("0 section 1 left\n1 section 2 left") != normal_form(
+        "1 section 2 left\n0 section 1 left")
+
+
+def test_document_has_the_runs():
+    text = " ".join((TOP / "docs" / "PLANTED.md").read_text().split())
+    [counted] = re.findall(r"With `LR_REDUCE=0` (.*?)\. `FOLLOW`", text)
+    numbers = [int(number.replace(",", "")) for number in re.findall(r"\b\d[\d,]*\b", counted)]
+    assert numbers == [runs for table in (RUNS_IN_C, RUNS_IN_RUST) for lock in NAMED
+                       for runs in table[lock]]
+
+
+@pytest.mark.slow
+@pytest.mark.parametrize("example", RUNS_IN_C)
+def test_right_lock_in_c(library, tmp_path, example):
+    for reduces, runs in enumerate(RUNS_IN_C[example]):
+        program = tmp_path / str(reduces)
+        assert compile_c("gcc", SOURCES / f"{example}.c", program, "-DLR_MODE=EXPLORE",
+                         f"-DLR_REDUCE={reduces}", library=library) == ""
+        done = ran(program, *EXPLORED, tmp_path / "logs", MOST)
+        assert done.stdout == f"{runs} runs with up to 2 preemptions, all of them accepted\n"
+
+
+@pytest.mark.slow
+@pytest.mark.parametrize("counts", [(2, 1, 2), (2, 2, 2), (3, 1, 1), (3, 1, 2)], ids=str)
+@pytest.mark.parametrize("recorder", ["rust"], indirect=True)
+@pytest.mark.parametrize("example", RUNS_IN_RUST)
+def test_right_lock_in_rust(recorder, tmp_path, example, counts):
+    """Each run has an equivalent one among those that are made."""
+    made, found = [], []
+    for search in SEARCHES:
+        folder = tmp_path / search
+        made.append(said_by(recorder.search(counts, folder, example, search))[0])
+        found.append({normal_form(path.read_text()) for path in folder.glob("*.trace")})
+    assert found[0] == found[1]
+    assert made[1] < made[0]
+    assert counts != (3, 1, 2) or tuple(made) == RUNS_IN_RUST[example]
+
+
+@pytest.mark.planted
+@pytest.mark.parametrize("lock, name", [
+    (lock, name) for lock, named in MISTAKES.items() for name, _ in named])
+def test_planted_in_c(library, tmp_path, lock, name):
+    """A search is refused with as many preemptions. One that is cut may find less than the other,
+    which makes fewer runs."""
+    done = []
+    for reduces in range(2):
+        folder = tmp_path / str(reduces)
+        folder.mkdir()
+        program = build(lock, name, "EXPLORE", library, folder, f"-DLR_REDUCE={reduces}")
+        done.append(ran(program, *EXPLORED, folder / "logs", MOST))
+    (runs, preemptions, is_cut), (fewer, found, is_cut_too) = map(said_by, done)
+    assert fewer <= runs and not is_cut_too
+    if not is_cut:
+        assert (done[1].returncode, found) == (done[0].returncode, preemptions)
+
+
+def refused(locktrace, folder):
+    """The normal forms of the traces in a folder that are refused."""
+    said = ran(locktrace, "check", *sorted(folder.glob("*.trace"))).stdout
+    names = re.findall(r"([^/\s]+\.trace):\d+: refused", said)
+    return {normal_form((folder / name).read_text()) for name in names}
+
+
+@pytest.mark.slow
+@pytest.mark.parametrize("recorder", ["rust"], indirect=True)
+@pytest.mark.parametrize("mistake", IN_RUST, ids=str)
+def test_planted_in_rust(recorder, locktrace, tmp_path, mistake):
+    """The same is refused. A run that hangs ends a search."""
+    done = [recorder.search((3, 1, 1), tmp_path / search, mistake.example, search, mistake)
+            for search in SEARCHES]
+    (runs, preemptions, _), (fewer, found, _) = map(said_by, done)
+    assert (done[1].returncode, found) == (done[0].returncode, preemptions)
+    assert fewer < runs or done[0].returncode == 1
+    if done[0].returncode == 0:
+        both = [refused(locktrace, tmp_path / search) for search in SEARCHES]
+        assert both[0] == both[1]
+        assert bool(both[0]) == (mistake.explored is not None)
