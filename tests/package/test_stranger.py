@@ -13,7 +13,7 @@ from tree import TOP
 
 FILES = ("lockreplay_record.h", "locktrace.c")
 BUILD = "cd /alone && gcc -pthread -DLR_MODE=EXPLORE lock.c locktrace.c -o lock"
-FOUND = ("9 runs with up to 1 preemption, not all of them, the last one is refused\n"
+FOUND = ("4 runs with up to 1 preemption, not all of them, the last one is refused\n"
          "refused at line 10 of the trace, lock.c:13: '1 add next_ticket found 0': FoundOther: ")
 
 

@@ -41,15 +41,18 @@ def are_dependent(one, other):
     return thread == by or (word == on and word is not None and (writes or also_writes))
 
 
+def level_of(move, levels):
+    """The first level after the last one that has a move on which this one is dependent."""
+    return max((at + 1 for at, level in enumerate(levels)
+                if any(are_dependent(move, other) for other in level)), default=0)
+
+
 def normal_form(trace):
     """The moves of a trace, in sets of which each one's moves are independent."""
     levels = []
     for move in (move_of(line) for line in trace.splitlines() if line[:1].isdigit()):
-        at = len(levels)
-        while at and not any(are_dependent(move, other) for other in levels[at - 1]):
-            at -= 1
-        if at == len(levels):
-            levels.append([])
+        at = level_of(move, levels)
+        levels += [[]] if at == len(levels) else []
         levels[at].append(move)
     return tuple(frozenset(line for line, *_ in level) for level in levels)
 

@@ -120,7 +120,9 @@ impl RunBuilder {
     ///
     /// Runs with fewer preemptions come first. Each has to be run before the next one is asked for,
     /// with a new lock. If none is refused and none hangs, no run of these threads with so
-    /// few preemptions is wrong. Begin with two threads and a round each: there are many runs.
+    /// few preemptions is wrong: those left out differ from one that is made only in the order of
+    /// [independent](RunBuilder::reduced) steps. Begin with two threads and a round each: there are
+    /// many runs.
     ///
     /// ```
     /// use lockreplay_record::{AtomicU8, Ending, Error, Lock, Run};
