@@ -62,7 +62,7 @@ function followed(machine, header, { how, run }) {
 function changeOf(part) {
   const [line, ...run] = part.split('\n');
   const { step, how, verdict } = line.match(VERDICT).groups;
-  return { step, how, ...sentenceOf(verdict), run: run.map((move) => move.trim()), line };
+  return { step, how, ...sentenceOf(verdict), run: run.map((move) => move.trim()) };
 }
 
 // The paragraph of docs/LOCKS.md after the block of a lock, if a change of it is harmless.
@@ -77,15 +77,14 @@ function lockOf(machine, lock, text, document) {
   const [heading, ...parts] = text.trimEnd().split(/\n(?! )/);
   const { threads, rounds } = heading.replace(`${lock}, `, '').match(SIZE).groups;
   const [asItIs, ...changes] = parts.map(changeOf);
-  const missing = changes.find(({ line }) => !inOneLine.includes(line));
-  if (missing) throw new Error(`page/why/${lock}.txt: not in docs/LOCKS.md: ${missing.line}`);
+  const missing = parts.map((part) => part.split('\n')[0])
+    .find((line) => !inOneLine.includes(line));
+  if (missing) throw new Error(`page/why/${lock}.txt: not in docs/LOCKS.md: ${missing}`);
   const header = `lock ${lock} threads ${threads}\n`;
   const note = changes.some(({ run }) => !run.length) ? noteOf(document, lock) : '';
   return {
     threads, rounds, says: asItIs.says, values: asItIs.values, note,
-    changes: changes.map((change) => ({
-      ...change, ...followed(machine, header, change), line: undefined,
-    })),
+    changes: changes.map((change) => ({ ...change, ...followed(machine, header, change) })),
   };
 }
 

@@ -44,6 +44,10 @@ def told(lock):
         yield {**CHANGE.fullmatch(first).groupdict(), "moves": [move.strip() for move in moves]}
 
 
+def capital(text):
+    return text[0].upper() + text[1:]
+
+
 def walk(page, lock):
     """What is shown of each line, from the first to the last."""
     page.open()
@@ -61,7 +65,7 @@ def check_harm(change):
     """It is at the last move, or after it if a call can never end. A run that has the changed step
     can be played; of a harmless change it is said why it is one."""
     stuck = "can never end" in change["verdict"]
-    harmless = change["verdict"].startswith("harmless")
+    harmless = change["verdict"].startswith("Harmless: ")
     assert change["harmed"] == ([] if stuck or harmless else [len(change["moves"])]), change
     assert change["plays"] == [True] * bool(change["changed"]), change
     if stuck:
@@ -79,7 +83,7 @@ def test_each_change_is_at_its_line(page, lock):
     for (_, step), one in zip(stops(lock), shown):
         wanted = [change for change in told(lock) if change["step"] == step]
         assert [(change["how"], change["verdict"], change["moves"]) for change in one["changes"]] \
-            == [(f"If {change['how']}", f"{change['verdict']}.", change["moves"])
+            == [(f"If {change['how']}", f"{capital(change['verdict'])}.", change["moves"])
                 for change in wanted]
         assert one["nothing"] == ([] if wanted else [NOTHING])
         for change in one["changes"]:
@@ -121,7 +125,7 @@ def test_why_one_is_harmless(page):
     page.open("#lesson=ticket-hand-over&move=8")
     page.press("y")
     (one,) = page.js("stop")["changes"]
-    assert one["verdict"] == "harmless: all 137 states were searched."
+    assert one["verdict"] == "Harmless: all 137 states were searched."
     assert one["said"] == ["The release could do without its read of now_serving: the holder's own "
                            "ticket is there."]
 
@@ -149,6 +153,13 @@ def test_by_hand(page):
     page.open(f"{LATE_LINK}9")
     page.click(".code-line[data-phase=SetLocked]")
     assert page.js("stop")["lines"] == [5]
+    page.press("Escape")
+    x, y = page.js("middle", ".code-line[data-phase=LinkTo]")
+    page.perform({"type": "pointer", "id": "mouse", "actions": [
+        {"type": "pointerMove", "x": x, "y": y}]})
+    page.press("y")
+    assert page.js("stop")["lines"] == [6], "the line that one points at"
+    page.press("ArrowLeft")
     page.click("#why-next")
     page.click("#why-next")
     page.click("#why-back")
@@ -156,10 +167,6 @@ def test_by_hand(page):
     page.click("#why [data-line='0']")
     assert page.js("stop") == {"lines": [1], "place": "Line 1 of 14", "changes": [],
                                "nothing": [NOTHING]}
-    page.press("Escape")
-    # The pointer is where the line was clicked.
-    page.press("y")
-    assert page.js("stop")["lines"] in ([1], [5], [12])
 
 
 def test_a_run_is_played(page):

@@ -68,7 +68,8 @@ function partsThatAreDrawn(page) {
   });
   byId('code-lines').addEventListener('click', (event) => {
     const line = targetOf(event).closest('.code-line');
-    if (line) page.why.openHere(line);
+    // Code that was selected is to be copied.
+    if (line && getSelection().isCollapsed) page.why.openHere(line);
   });
   byId('next-kinds').addEventListener('toggle', () => page.draw());
   byId('next-kinds-list').addEventListener('click', (event) => {

@@ -5,12 +5,12 @@ export const germanWhy = {
   title: 'Warum jede Zeile da ist', titleOf: (lock) => `Warum jede Zeile da ist: ${lock}`,
   learn: 'In dieser Zugfolge geht die geänderte Sperre schief; die Sperre, wie sie ist, nicht.',
   lesson: 'Jeder Schritt wird einmal geändert, und ein kürzester Lauf zeigt, was schiefgeht.',
-  hint: 'Jeder Schritt wurde einmal geändert, und alle Läufe der geänderten Sperre wurden '
-    + 'durchsucht.',
-  asTold: (threads, rounds, verdict) => `${threads} Threads mit je ${rounds} Runden. Die Sperre, `
-    + `wie sie ist: ${verdict}.`,
+  hint: 'Jeder Schritt wurde einmal geändert und ein kürzester Lauf gesucht, der schiefgeht.',
+  asTold: (threads, rounds, verdict) => `Die Sperre, wie sie ist, ist mit ${threads} Threads und `
+    + `je ${rounds} Runden ${verdict}.`,
   place: (line, count) => `Zeile ${line} von ${count}`,
   places: (from, to, count) => `Zeilen ${from} und ${to} von ${count}`,
+  point: 'Ein Klick auf eine Zeile, oder Taste Y, sagt, warum sie da ist',
   back: 'Die Zeile davor', next: 'Die nächste Zeile',
   nothing: 'Hier wurde nichts geändert: Diese Zeile hat keinen Schritt.',
   if: (how) => `Wenn ${how}`, change: (step, how) => `${step}, wenn ${how}`,
@@ -18,7 +18,7 @@ export const germanWhy = {
   elsewhere: (move) => `Die geänderte Sperre macht hier „${move}“.`,
   goesOn: (move) => `Die geänderte Sperre geht weiter mit „${move}“.`,
   wrong: (verdict) => `Die geänderte Sperre ist schiefgegangen: ${verdict}.`,
-  harm: 'der Schaden', mark: 'geändert',
+  harm: 'geht hier schief', mark: 'geändert',
   stuck: 'Von hier an endet ein Aufruf nicht, was immer folgt.',
   play: 'Die Sperre, wie sie ist, in dieser Zugfolge spielen',
   later: 'Der geänderte Schritt kommt später.',

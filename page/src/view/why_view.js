@@ -3,7 +3,7 @@
 
 import { html } from '../lib/markup.js';
 import { PHASES } from '../machine/codes.js';
-import { texts } from '../texts/texts.js';
+import { capital, texts } from '../texts/texts.js';
 import { canBeFollowed, changesAt, changesOf, isChanged } from '../model/line_changes.js';
 
 /** @typedef {import('../model/line_changes.js').Change} Change */
@@ -47,7 +47,8 @@ function runView(lines, change, at, canPlay) {
 
 /** @param {Change} change */
 function changeView(lines, change, at, { note, canPlay }) {
-  return html`<section><h3>${T.if(change.how)}</h3><p class="verdict">${change.verdict}.</p>
+  return html`<section><h3>${T.if(change.how)}</h3><p class="verdict">${
+  capital(change.verdict)}.</p>
     ${!change.run.length && html`<p>${note}</p>`}${runView(lines, change, at, canPlay)}</section>`;
 }
 
