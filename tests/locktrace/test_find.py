@@ -10,7 +10,7 @@ import shlex
 import pytest
 
 import search_rows
-from spaces import measured, searched
+from spaces import measured, searched, walk
 from tree import cases, ran
 
 # The words after `find`, and the message: no run has the lines.
@@ -81,6 +81,14 @@ NEVER = [
     ("not 2", "no such thread (NoSuchThread)"),
 ]
 
+# A line whose facts a ticket lock of two threads does not have.
+NO_FACTS = ["is ", "is hold", "is hold 2", "is hold 0 1", "is 0 at", "is 2 at Idle",
+            "is 0 at idle", "is 0 at AwaitTurn(0)", "is tail 0", "is now_serving",
+            "is now_serving x", "is now_serving  1", "is hold 0,", "is hold 0,, hold 1",
+            "is hold 0; hold 1", "is held 0"]
+NO_FACT = ("not facts of this lock: 'hold T', 'T at PHASE' or 'WORD V', with commas between them "
+           "(BadFact)\n")
+
 # The message for a `not` in the last line.
 OPEN_NOT = "'not' holds up to the next line, and there is none (NoNextLine)\n"
 
@@ -127,6 +135,27 @@ def test_line_that_is_none(tracer, line, said):
         "", f"locktrace: '{line}': {LINE}\n{said}", 2)
     assert tracer.run("find", "-", stdin=f"lock mcs threads 2\n\n{line}\n") == (
         "", f"-:3: {LINE}\n{said}", 4)
+
+
+@pytest.mark.parametrize("line", NO_FACTS)
+def test_no_fact(tracer, line):
+    """In the words of the command, and in a text. Nothing is searched."""
+    assert tracer.run("find", "ticket", "2", "0 add", line) == (
+        "", f"locktrace: '{line}': {NO_FACT}", 2)
+    assert tracer.run("find", "-", stdin=f"lock ticket threads 2\n\n{line}\n") == (
+        "", f"-:3: {NO_FACT}", 4)
+
+
+def test_position_in_a_schedule(tracer):
+    """A schedule says after which of its lines the lock is so: after the header at its start."""
+    output, *more = tracer.run("find", "ticket", "2", "is now_serving 0,next_ticket 0", "1 add",
+                               "is hold 1, 0 at Idle", "not 0", "1 write")
+    assert more == ["", 0]
+    assert output == (
+        "# A shortest run of 2 threads with 1 round each that has these lines, in this order:\n"
+        "# after line 7: is now_serving 0,next_ticket 0\n# line 9: 1 add\n"
+        "# after line 10: is hold 1, 0 at Idle\n# before line 13: not 0\n# line 13: 1 write\n"
+        "lock ticket threads 2\n1 acquire\n1 add\n1 read\n1 release\n1 read\n1 write\n")
 
 
 def test_not_without_a_next_line(tracer):
@@ -222,14 +251,19 @@ def test_sketch(tracer, lockreplay, sketch):
         assert (output, status, number[1].replace(",", "")) == ("", 1, str(sketch.states))
         return
     assert (error, status) == ("", 0)
-    run = search_rows.moves_of(output)
-    assert measured(searched(sketch.space), sketch.lines, run) == sketch.measure
+    run, space = search_rows.moves_of(output), searched(sketch.space)
+    assert measured(space, sketch.lines, run) == sketch.measure
     assert ran(lockreplay, "replay", input=output).stdout.endswith(f"\nend {sketch.length}\n")
-    said = re.findall(r"^# (before line|line) (\d+): (.*)$", output, re.MULTILINE)
+    said = re.findall(r"^# (before line|after line|line) (\d+): (.*)$", output, re.MULTILINE)
     assert [line for _, _, line in said] == sketch.lines
+    states = [0, *(transition.after for transition in walk(space, run))]
     for how, number, line in said:
         made = output.splitlines()[int(number) - 1].split()
         if how == "line":
             assert [line.split()[0] in ("*", made[0]), line.split()[1]] == [True, made[1]]
+        elif how == "after line":
+            state = states[int(number) - len(sketch.lines) - 2]
+            facts = line.removeprefix("is ").split(", ")
+            assert all(space.is_true(fact, state) for fact in facts)
         else:
             assert line.startswith("not ")

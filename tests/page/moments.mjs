@@ -183,8 +183,9 @@ function checkFaults(machine) {
 }
 
 const machine = machineOf();
-// The module is asked for a number of rounds.
-const sketches = rowsOf('sketches.txt').filter(([space]) => !space.includes(' any '));
+// The module is asked for a number of rounds, and its sketches have moves alone.
+const sketches = rowsOf('sketches.txt')
+  .filter(([space, lines]) => !space.includes(' any ') && !/(^|; )is /.test(lines));
 for (const row of sketches) checkSketch(machine, row);
 const names = rowsOf('kinds.txt');
 const lengths = names.map(([lock, kind, , length]) => [lock, kind, length]);

@@ -6,6 +6,7 @@
 //! (`why`).
 #![tactic(auto)]
 
+mod facts;
 pub mod find;
 mod folder;
 pub mod order;

@@ -6,7 +6,7 @@ ghost use Rattle.lk_jobs.specs.Written.{header_line, move_line, schedule_of};
 
 use lk_lines::lock_text;
 use lk_locks::Shape;
-use lk_search::Taken;
+use lk_search::{LOOKER, Taken};
 use lk_text::Text;
 use lk_text::phrases::put_move;
 
@@ -25,10 +25,13 @@ pub fn put_header(text: &mut Text, header: Shape)
     text.put("\n");
 }
 
-// Writes the line of a move.
+// Writes the line of a move, and nothing for a look at the position.
 fn put_taken(text: &mut Text, taken: Taken)
     ensures { Adds (move_line taken) text.old text.new }
 {
+    if taken.thread == LOOKER {
+        return;
+    }
     put_move(text, taken.thread, taken.action);
     text.put("\n");
 }

@@ -1,14 +1,15 @@
 //! A sketch of a run, read line by line from a file or from the words of a command: a header, and
-//! lines of a trace in which parts are open, some after `not`.
+//! lines of a trace in which parts are open, some after `not`, or facts after `is`.
 
 ghost use Rattle.std.specs.Prelude.{◌≡◌, IfSome, Some, length};
 ghost use Rattle.lk_locks.specs.State.{State};
 ghost use Rattle.lk_locks.specs.Steps.{refusal_of};
 ghost use Rattle.lk_text.specs.Texts.{Grows};
 
+use crate::facts::{IS, fact_of};
 use lk_lines::{Status, is_skipped, number_of};
 use lk_locks::{Refusal, Shape, belongs};
-use lk_search::{Admitted, Rounds, SketchFault, admit, is_barring};
+use lk_search::{Admitted, Asks, Rounds, Rule, SketchFault, admit, is_barring};
 use lk_text::follow::unread;
 use lk_text::formats::{PLAIN, put_text};
 use lk_text::{Text, Value, open, put_wrong, take_lines, wrong_in_header};
@@ -53,6 +54,10 @@ pub enum LineFault {
     /// Each lock of the header's shape refuses this move, whatever was done before.
     #[error("no run has this line: {} ({})", .0.message(), .0.name())]
     Never(Refusal),
+    /// After `is` there is something that is no fact of the lock.
+    #[error("not facts of this lock: 'hold T', 'T at PHASE' or 'WORD V', with commas between them \
+         (BadFact)")]
+    NoFact,
     /// It begins with `not`, and is the last.
     #[error("'not' holds up to the next line, and there is none (NoNextLine)")]
     Endless,
@@ -73,12 +78,31 @@ fn always_refused(header: Shape, line: &TraceLine) -> Option<Refusal>
     None
 }
 
+/// How a line of a sketch occurs in a run.
+#[derive(Clone, Copy, PartialEq, Eq)]
+pub enum Occurs {
+    AsMove,
+    AsPosition,
+    /// It says which moves must not occur before the next line that has to.
+    Never,
+}
+
 /// A line of a sketch, as it was written.
 #[derive(Drop)]
 pub struct SketchLine {
     pub text: String,
-    /// Whether it says which moves must not occur.
-    pub bars: bool,
+    pub occurs: Occurs,
+}
+
+// How a line occurs.
+fn occurrence_of(line: &str) -> Occurs {
+    if is_barring(line.as_bytes()) {
+        Occurs::Never
+    } else if line.starts_with(IS) {
+        Occurs::AsPosition
+    } else {
+        Occurs::AsMove
+    }
 }
 
 /// A sketch of which some lines were read.
@@ -110,7 +134,9 @@ impl Sketch {
 
     // Whether the last line holds up to a next one.
     fn is_open(&self) -> bool {
-        self.lines.last().is_some_and(|line| line.bars)
+        self.lines
+            .last()
+            .is_some_and(|line| line.occurs == Occurs::Never)
     }
 
     // Reads a comment. One that begins as a remark has to be one.
@@ -143,9 +169,46 @@ impl Sketch {
     fn never(&self, header: Shape, first: usize) -> Option<LineFault> {
         let mut why = None;
         for admitted in self.admitted.get(first..)? {
-            why = Some(always_refused(header, &admitted.trace)?);
+            let Asks::Line(line) = admitted.asks else {
+                return None;
+            };
+            why = Some(always_refused(header, &line)?);
         }
         why.map(LineFault::Never)
+    }
+
+    // Adds facts with commas between them. Answers whether each is one.
+    fn add_facts(&mut self, header: Shape, facts: &str) -> Result<bool, AllocError> {
+        let rule = Rule {
+            line: self.count,
+            bars: false,
+        };
+        for text in facts.split(',') {
+            let Some(fact) = fact_of(header, text.strip_prefix(' ').unwrap_or(text)) else {
+                return Ok(false);
+            };
+            let asks = Asks::Position(fact);
+            self.admitted.push(Admitted { rule, asks })?;
+        }
+        Ok(true)
+    }
+
+    // Adds all that a line asks for, or answers why it is none.
+    fn add(&mut self, header: Shape, line: &str) -> Result<Option<LineFault>, AllocError> {
+        if let Some(facts) = line.strip_prefix(IS) {
+            let are_facts = self.add_facts(header, facts)?;
+            return Ok(if are_facts {
+                None
+            } else {
+                Some(LineFault::NoFact)
+            });
+        }
+        let (kind, threads, text) = (header.kind(), header.threads(), line.as_bytes());
+        if admit(&mut self.admitted, kind, threads, self.count, text)? {
+            Ok(None)
+        } else {
+            Ok(Some(LineFault::Unread(SketchFault::BadLine)))
+        }
     }
 
     // Reads a line for a lock of this shape.
@@ -155,20 +218,20 @@ impl Sketch {
         header: Shape,
         line: &[u8],
     ) -> Result<Option<LineFault>, AllocError> {
-        let bars = is_barring(line);
-        if self.count == u8::MAX && !bars {
-            return Ok(Some(LineFault::Unread(SketchFault::TooManyLines)));
-        }
         let Ok(text) = str::from_utf8(line) else {
             return Ok(Some(LineFault::Unread(SketchFault::BadLine)));
         };
-        let (kind, threads, first) = (header.kind(), header.threads(), self.admitted.len());
-        if !admit(&mut self.admitted, kind, threads, self.count, line)? {
-            return Ok(Some(LineFault::Unread(SketchFault::BadLine)));
+        let occurs = occurrence_of(text);
+        if self.count == u8::MAX && occurs != Occurs::Never {
+            return Ok(Some(LineFault::Unread(SketchFault::TooManyLines)));
+        }
+        let first = self.admitted.len();
+        if let Some(fault) = self.add(header, text)? {
+            return Ok(Some(fault));
         }
         let text = String::from_str(alloc, text)?;
-        self.lines.push(SketchLine { text, bars })?;
-        if !bars {
+        self.lines.push(SketchLine { text, occurs })?;
+        if occurs != Occurs::Never {
             self.count += 1;
         }
         Ok(self.never(header, first))
@@ -245,7 +308,7 @@ fn put_named(text: &mut Text, alloc: Global, place: (&str, u64), line: &[u8], fa
 {
     let mut name = Text::new(alloc);
     name.put_escaped(place.0, "");
-    put_front(text, &name, place.1, InlineText::<96>::of(fault).as_str());
+    put_front(text, &name, place.1, InlineText::<128>::of(fault).as_str());
     put_fault(text, alloc, line, fault);
 }
 

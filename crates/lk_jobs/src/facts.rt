@@ -1,0 +1,65 @@
+//! The facts of a line of a sketch after `is`: who holds the lock, in which phase a thread is, and
+//! which value a word has. Phases and words have the names that the locks give them.
+
+use lk_lines::{number_of, whole_number};
+use lk_locks::{Shape, words_needed};
+use lk_search::{Fact, phase_of};
+use lk_trace::name_at;
+use std::fmt::{InlineText, ToDebug};
+
+/// How a line begins that asks for a position.
+pub const IS: &str = "is ";
+
+// How many phases have a code.
+const PHASES: u8 = 24;
+
+// The number of a thread of this lock.
+fn thread_in(header: Shape, text: &str) -> Option<u8> {
+    number_of(text.as_bytes(), 0, header.threads().saturating_sub(1))
+}
+
+// The code of the phase with this name. What a phase carries is no part of its name.
+fn phase_named(name: &str) -> Option<u8> {
+    for code in 0..PHASES {
+        let whole = InlineText::<64>::of(phase_of(u64::from(code), 0).debug());
+        let (own, _) = whole
+            .as_str()
+            .split_once('(')
+            .unwrap_or((whole.as_str(), ""));
+        if own == name {
+            return Some(code);
+        }
+    }
+    None
+}
+
+// The value of a word, after its name.
+fn value_of(text: &str, name: &str) -> Option<u64> {
+    let value = text.strip_prefix(name)?.strip_prefix(' ')?;
+    whole_number(value.as_bytes())
+}
+
+// The value of one of the lock's words.
+fn word_fact(header: Shape, text: &str) -> Option<Fact> {
+    for place in 0..words_needed(header.kind(), header.threads()) {
+        let name = InlineText::<32>::of(name_at(header.kind(), place)?);
+        if let Some(value) = value_of(text, name.as_str()) {
+            return Some(Fact::Word { place, value });
+        }
+    }
+    None
+}
+
+/// The fact of a lock of this shape that a text says: `hold 0`, `1 at SetLocked`, `next of 0 2`.
+pub fn fact_of(header: Shape, text: &str) -> Option<Fact> {
+    if let Some(thread) = text.strip_prefix("hold ") {
+        return thread_in(header, thread).map(Fact::Holds);
+    }
+    match text.split_once(" at ") {
+        Some((thread, phase)) => Some(Fact::At {
+            thread: thread_in(header, thread)?,
+            code: phase_named(phase)?,
+        }),
+        None => word_fact(header, text),
+    }
+}
