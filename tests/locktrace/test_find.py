@@ -85,9 +85,10 @@ NEVER = [
 NO_FACTS = ["is ", "is hold", "is hold 2", "is hold 0 1", "is 0 at", "is 2 at Idle",
             "is 0 at idle", "is 0 at AwaitTurn(0)", "is tail 0", "is now_serving",
             "is now_serving x", "is now_serving  1", "is hold 0,", "is hold 0,, hold 1",
-            "is hold 0; hold 1", "is held 0"]
-NO_FACT = ("not facts of this lock: 'hold T', 'T at PHASE' or 'WORD V', with commas between them "
-           "(BadFact)\n")
+            "is hold 0; hold 1", "is hold 0,hold 1", "is held 0", "is queue", "is queue 2",
+            "is queue 0,", "is queue 0,1, -", "is queue 0, 1"]
+NO_FACT = ("not facts of this lock: 'hold T', 'queue T,..', 'T at PHASE' or 'WORD V', with ', ' "
+           "between them (BadFact)\n")
 
 # The message for a `not` in the last line.
 OPEN_NOT = "'not' holds up to the next line, and there is none (NoNextLine)\n"
@@ -148,12 +149,12 @@ def test_no_fact(tracer, line):
 
 def test_position_in_a_schedule(tracer):
     """A schedule says after which of its lines the lock is so: after the header at its start."""
-    output, *more = tracer.run("find", "ticket", "2", "is now_serving 0,next_ticket 0", "1 add",
+    output, *more = tracer.run("find", "ticket", "2", "is now_serving 0, queue -", "1 add",
                                "is hold 1, 0 at Idle", "not 0", "1 write")
     assert more == ["", 0]
     assert output == (
         "# A shortest run of 2 threads with 1 round each that has these lines, in this order:\n"
-        "# after line 7: is now_serving 0,next_ticket 0\n# line 9: 1 add\n"
+        "# after line 7: is now_serving 0, queue -\n# line 9: 1 add\n"
         "# after line 10: is hold 1, 0 at Idle\n# before line 13: not 0\n# line 13: 1 write\n"
         "lock ticket threads 2\n1 acquire\n1 add\n1 read\n1 release\n1 read\n1 write\n")
 

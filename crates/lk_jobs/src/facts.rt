@@ -1,10 +1,12 @@
-//! The facts of a line of a sketch after `is`: who holds the lock, in which phase a thread is, and
-//! which value a word has. Phases and words have the names that the locks give them.
+//! The facts of a line of a sketch after `is`: who holds the lock, who is in its queue, in which
+//! phase a thread is, and which value a word has. Phases and words have the names that the locks
+//! give them.
 
 use lk_lines::{number_of, whole_number};
 use lk_locks::{Shape, words_needed};
 use lk_search::{Fact, phase_of};
 use lk_trace::name_at;
+use std::alloc::{AllocError, Global};
 use std::fmt::{InlineText, ToDebug};
 
 /// How a line begins that asks for a position.
@@ -50,8 +52,8 @@ fn word_fact(header: Shape, text: &str) -> Option<Fact> {
     None
 }
 
-/// The fact of a lock of this shape that a text says: `hold 0`, `1 at SetLocked`, `next of 0 2`.
-pub fn fact_of(header: Shape, text: &str) -> Option<Fact> {
+// The fact that a text says: `hold 0`, `1 at SetLocked`, `next of 0 2`.
+fn fact_of(header: Shape, text: &str) -> Option<Fact> {
     if let Some(thread) = text.strip_prefix("hold ") {
         return thread_in(header, thread).map(Fact::Holds);
     }
@@ -62,4 +64,73 @@ pub fn fact_of(header: Shape, text: &str) -> Option<Fact> {
         }),
         None => word_fact(header, text),
     }
+}
+
+// Whether a list of threads has this one.
+fn is_listed(header: Shape, list: &str, thread: u8) -> bool {
+    for name in list.split(',') {
+        if thread_in(header, name) == Some(thread) {
+            return true;
+        }
+    }
+    false
+}
+
+// Adds the order of a queue: who is first, and who comes directly after whom. Answers whether the
+// list is one of threads.
+fn add_order(header: Shape, list: &str, facts: &mut Vec<Fact>) -> Result<bool, AllocError> {
+    let mut last = None;
+    for name in list.split(',') {
+        let Some(thread) = thread_in(header, name) else {
+            return Ok(false);
+        };
+        facts.push(match last {
+            Some(ahead) => Fact::After { ahead, thread },
+            None => Fact::First(thread),
+        })?;
+        last = Some(thread);
+    }
+    Ok(true)
+}
+
+// Adds that these threads are in the queue, in this order, and no others. `-` is no thread. Answers
+// whether the list is one of threads.
+fn add_queue(header: Shape, list: &str, facts: &mut Vec<Fact>) -> Result<bool, AllocError> {
+    if list != "-" && !add_order(header, list, facts)? {
+        return Ok(false);
+    }
+    for thread in 0..header.threads() {
+        if !is_listed(header, list, thread) {
+            facts.push(Fact::Outside(thread))?;
+        }
+    }
+    Ok(true)
+}
+
+// Adds what one part of a line says. Answers whether that is a fact.
+fn add_part(header: Shape, text: &str, facts: &mut Vec<Fact>) -> Result<bool, AllocError> {
+    if let Some(list) = text.strip_prefix("queue ") {
+        return add_queue(header, list, facts);
+    }
+    let Some(fact) = fact_of(header, text) else {
+        return Ok(false);
+    };
+    facts.push(fact)?;
+    Ok(true)
+}
+
+/// The facts of a lock of this shape that a text says, with `, ` between them: `hold 0`,
+/// `queue 0,1`, `1 at SetLocked`, `next of 0 2`. `None` if some part of it says none.
+///
+/// # Errors
+///
+/// A request for memory was refused.
+pub fn facts_of(alloc: Global, header: Shape, text: &str) -> Result<Option<Vec<Fact>>, AllocError> {
+    let mut facts = Vec::new(alloc);
+    for part in text.split(", ") {
+        if !add_part(header, part, &mut facts)? {
+            return Ok(None);
+        }
+    }
+    Ok(Some(facts))
 }

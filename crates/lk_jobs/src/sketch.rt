@@ -6,10 +6,10 @@ ghost use Rattle.lk_locks.specs.State.{State};
 ghost use Rattle.lk_locks.specs.Steps.{refusal_of};
 ghost use Rattle.lk_text.specs.Texts.{Grows};
 
-use crate::facts::{IS, fact_of};
+use crate::facts::{IS, facts_of};
 use lk_lines::{Status, is_skipped, number_of};
 use lk_locks::{Refusal, Shape, belongs};
-use lk_search::{Admitted, Asks, Rounds, Rule, SketchFault, admit, is_barring};
+use lk_search::{Admitted, Asks, Fact, Rounds, Rule, SketchFault, admit, is_barring};
 use lk_text::follow::unread;
 use lk_text::formats::{PLAIN, put_text};
 use lk_text::{Text, Value, open, put_wrong, take_lines, wrong_in_header};
@@ -55,8 +55,8 @@ pub enum LineFault {
     #[error("no run has this line: {} ({})", .0.message(), .0.name())]
     Never(Refusal),
     /// After `is` there is something that is no fact of the lock.
-    #[error("not facts of this lock: 'hold T', 'T at PHASE' or 'WORD V', with commas between them \
-         (BadFact)")]
+    #[error("not facts of this lock: 'hold T', 'queue T,..', 'T at PHASE' or 'WORD V', with ', ' \
+         between them (BadFact)")]
     NoFact,
     /// It begins with `not`, and is the last.
     #[error("'not' holds up to the next line, and there is none (NoNextLine)")]
@@ -177,31 +177,40 @@ impl Sketch {
         why.map(LineFault::Never)
     }
 
-    // Adds facts with commas between them. Answers whether each is one.
-    fn add_facts(&mut self, header: Shape, facts: &str) -> Result<bool, AllocError> {
+    // How many lines are to occur after one more. `None` if these are too many.
+    fn count_after(&self, occurs: Occurs) -> Option<u8> {
+        match occurs {
+            Occurs::Never => Some(self.count),
+            Occurs::AsMove | Occurs::AsPosition => self.count.checked_add(1),
+        }
+    }
+
+    // Adds the facts that a line asks for.
+    fn add_facts(&mut self, facts: &[Fact]) -> Result<(), AllocError> {
         let rule = Rule {
             line: self.count,
             bars: false,
         };
-        for text in facts.split(',') {
-            let Some(fact) = fact_of(header, text.strip_prefix(' ').unwrap_or(text)) else {
-                return Ok(false);
-            };
-            let asks = Asks::Position(fact);
+        for fact in facts {
+            let asks = Asks::Position(*fact);
             self.admitted.push(Admitted { rule, asks })?;
         }
-        Ok(true)
+        Ok(())
     }
 
     // Adds all that a line asks for, or answers why it is none.
-    fn add(&mut self, header: Shape, line: &str) -> Result<Option<LineFault>, AllocError> {
-        if let Some(facts) = line.strip_prefix(IS) {
-            let are_facts = self.add_facts(header, facts)?;
-            return Ok(if are_facts {
-                None
-            } else {
-                Some(LineFault::NoFact)
-            });
+    fn add(
+        &mut self,
+        alloc: Global,
+        header: Shape,
+        line: &str,
+    ) -> Result<Option<LineFault>, AllocError> {
+        if let Some(text) = line.strip_prefix(IS) {
+            let Some(facts) = facts_of(alloc, header, text)? else {
+                return Ok(Some(LineFault::NoFact));
+            };
+            self.add_facts(facts.as_slice())?;
+            return Ok(None);
         }
         let (kind, threads, text) = (header.kind(), header.threads(), line.as_bytes());
         if admit(&mut self.admitted, kind, threads, self.count, text)? {
@@ -222,18 +231,16 @@ impl Sketch {
             return Ok(Some(LineFault::Unread(SketchFault::BadLine)));
         };
         let occurs = occurrence_of(text);
-        if self.count == u8::MAX && occurs != Occurs::Never {
+        let Some(count) = self.count_after(occurs) else {
             return Ok(Some(LineFault::Unread(SketchFault::TooManyLines)));
-        }
+        };
         let first = self.admitted.len();
-        if let Some(fault) = self.add(header, text)? {
+        if let Some(fault) = self.add(alloc, header, text)? {
             return Ok(Some(fault));
         }
         let text = String::from_str(alloc, text)?;
         self.lines.push(SketchLine { text, occurs })?;
-        if occurs != Occurs::Never {
-            self.count += 1;
-        }
+        self.count = count;
         Ok(self.never(header, first))
     }
 
