@@ -92,7 +92,7 @@ def commands(folder, locktrace, library):
         program, tour = folder / "release" / "examples" / example, folder / lock
         ran(locktrace, "tour", lock, "3", "-o", tour)
         count = len(list(tour.glob("*.schedule")))
-        yield [program, "explore", 2, 2, 5, folder / "traces", RUNS], f"{RUNS} runs", SECONDS
+        yield [program, "explore-all", 2, 2, 5, folder / "traces", RUNS], f"{RUNS} runs", SECONDS
         yield [program, "follow", tour, folder / "traces"], f"{count} schedules", math.inf
 
 
