@@ -1,8 +1,9 @@
 """Explored runs: all runs of a few threads with few preemptions.
 
 For a right lock in Rust they have to be those that explored_runs.py finds, each as often, if the
-order of independent steps counts; test_reduced.py compares the others with them. For a lock with a mistake some run has to be refused or to hang with the expected number of preemptions,
-and none with fewer. Examples can check their runs by themselves, and then refuse the same.
+order of independent steps counts; test_reduced.py compares the others with them. For a lock with a
+mistake some run has to be refused or to hang with the expected number of preemptions, and none with
+fewer. Examples can check their runs by themselves, and then refuse the same.
 """
 import re
 import shutil

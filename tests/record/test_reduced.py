@@ -9,7 +9,7 @@ import re
 import pytest
 
 from mistakes import IN_RUST
-from recorders import RECORDERS, SOURCES, compile_c
+from recorders import SOURCES, compile_c
 from test_planted import EXPLORED, MISTAKES, build
 from tree import TOP, ran
 
