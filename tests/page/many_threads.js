@@ -26,5 +26,9 @@ function drawn() {
   };
 }
 
+// The moves whose numbers are above the lanes, and those that a lane has.
+const movesInView = () => ['numbers', 'lanes'].map((id) => all(`#${id} [data-move]`)
+  .map((one) => Number(one.dataset.move)).sort((one, other) => one - other));
+
 const cut = () => all('#lanes .found, #memory-picture text')
   .map((one) => one.lastChild?.textContent ?? '').filter((one) => one.endsWith('…'));

@@ -207,6 +207,21 @@ def test_a_text_is_kept_once(page):
     assert len(page.js("keptNames")) == 1
 
 
+def test_what_is_kept_is_changed_in_its_place(page):
+    """A schedule that is opened from the list is listed once, with its changes."""
+    mine_at(page, 2)
+    page.lesson("ticket-hand-over", 5)
+    page.press("Escape", "o")
+    page.click("[data-kept]")
+    shows(page, MINE, 2)
+    page.js("write", "lock ticket threads 3\n2 acquire\n")
+    page.lesson("ticket-hand-over", 5)
+    page.press("Escape", "o")
+    assert len(page.js("keptNames")) == 1
+    page.click("[data-kept]")
+    shows(page, b"lock ticket threads 3\n2 acquire\n")
+
+
 def test_what_is_kept_has_its_place(page):
     mine_at(page, 2)
     page.lesson("ticket-hand-over", 5)

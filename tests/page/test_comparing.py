@@ -124,6 +124,9 @@ def test_a_chosen_schedule(page, look):
     assert page.js("count", "#other:not([hidden])") == 0
     page.press("c")
     assert page.js("offered"), "the next time another one can be chosen"
+    page.click("#choose-other [data-other='1']")
+    first = page.js("compared")["first"]
+    assert first.startswith("Compared with: The third is linked before the second"), first
 
 
 def test_a_first_move_that_differs(page):

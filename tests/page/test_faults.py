@@ -49,7 +49,8 @@ FAULTS = [
     (f"{CALLED}0 go\n", 3, 1, ["Unknown move “go”", "acquire, add, read, release, write"]),
 ]
 REFUSALS = [
-    (f"{HEADER}2 acquire\n", 2, 0, ["There is no thread 2", "2 threads", "NoSuchThread"]),
+    (f"{HEADER}2 acquire\n", 2, 0,
+     ["There is no thread 2: the lock has 2 threads, numbered from 0 to 1.", "NoSuchThread"]),
     (f"{HEADER}0 rlock\n", 2, 0, ["“rlock” is not a move of this lock", "call “acquire”"]),
     (f"{CALLED}0 acquire\n", 3, 1, ["has a pending call", "make the step “add”"]),
     (f"{HEADER}0 release\n", 2, 0,
@@ -100,7 +101,7 @@ def test_what_is_offered_is_written(page):
     page.js("click", "#verdict [data-mend]")
     assert "“writ”" in page.text("#verdict")
     page.js("click", "#verdict [data-mend]")
-    shown = page.shown()
+    shown = page.shown(position="2 of 2")
     assert shown["verdict"].endswith("end 2"), shown
     assert shown["area"] == "lock mcs threads 2\n0 acquire\n0 write\n"
 

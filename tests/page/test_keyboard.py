@@ -1,7 +1,7 @@
 """The page by keys alone: not one click. What the list of keys says of each."""
 import pytest
 
-from tree import VERSION
+from tree import VERSION, cases
 
 LATE_LINK = "#lesson=mcs-late-link&move="
 
@@ -38,6 +38,20 @@ def test_running(page):
     page.becomes("true", *runs)
     page.press("Space")
     page.becomes("false", *runs)
+
+
+@cases("stops", {
+    "why": lambda page: page.press("y"), "quiz": lambda page: page.press("q"),
+    "undo": lambda page: page.press("u"), "another": lambda page: page.lesson("ticket-hand-over"),
+    "edit": lambda page: page.js("write", "lock ticket threads 1\n0 acquire\n")})
+def test_what_stops_the_moves(page, stops):
+    """No move is made while one reads about a line, answers, or changes the text."""
+    page.open(f"{LATE_LINK}0")
+    page.lesson("mcs-record-used-again")
+    page.press(",", "Space")
+    assert page.js("attribute", "#run", "aria-pressed") == "true"
+    stops(page)
+    assert page.js("attribute", "#run", "aria-pressed") == "false"
 
 
 def test_running_from_the_end(page):

@@ -44,15 +44,29 @@ def test_what_moves_is_in_view(page, lockreplay, lock, threads):
             assert any(letter.isdigit() for letter in shown["note"]), where
 
 
+# Twenty threads take the lock one after another, in six moves each.
+ROUNDS = "".join(["lock ticket threads 20\n", *(
+    f"{thread} {word}\n" for thread in range(20)
+    for word in ("acquire", "add", "read", "release", "read", "write"))])
+
+
 def test_idle_lanes_are_folded(page):
-    """Twenty threads move once, and only those that are busy in view have lanes."""
+    """Only threads that are busy in view have lanes."""
     page.open()
-    lines = ["lock ticket threads 20"]
-    for thread in range(20):
-        lines += [f"{thread} {word}" for word in "acquire add read release read write".split()]
-    page.js("open", ["\n".join(lines) + "\n", "lessons", 120])
+    page.js("open", [ROUNDS, "lessons", 120])
     shown = page.js("drawn")
     assert shown["lanes"] <= 6 and shown["note"].startswith(f"{20 - shown['lanes']} threads"), shown
+
+
+def test_each_move_in_view_has_a_lane(page):
+    """Whichever move of its thread's round is the first or the last one in view."""
+    page.open()
+    page.js("open", [ROUNDS, "lessons", 0])
+    for move in range(90, 97):
+        page.go(move)
+        numbered, drawn = page.js("movesInView")
+        assert len(drawn) > 6 and drawn == [one for one in numbered if one <= move], (
+            move, numbered, drawn)
 
 
 # A writer of a read-write lock polls ten times.

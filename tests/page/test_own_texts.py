@@ -56,6 +56,19 @@ def test_the_line_of_the_move(page):
     page.shown(position="2 of 3")
 
 
+def test_the_line_of_a_refused_move(page):
+    """It is shown with the caret in its line, or below it."""
+    page.open()
+    page.show("lock ticket threads 2\n0 acquire\n0 read\n1 acquire\n", 1)
+    page.click("#text")
+    page.press("Control+Home", "ArrowDown", "ArrowDown")
+    assert page.shown(position="refused")["place"] == 2
+    page.press("ArrowUp")
+    page.shown(position="1 of 1")
+    page.press("ArrowDown", "ArrowDown")
+    page.shown(position="refused")
+
+
 def test_dropped_and_pasted(page):
     page.open()
     page.js("dropFile", "lock mcs threads 1\n0 acquire\n")

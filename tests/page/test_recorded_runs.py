@@ -106,6 +106,12 @@ DIFFERENT = {
         "lock mcs threads 2", LINKED + "1 write next of 0 left 2", "next of 0", "OtherWord", [
             "The recorded run: write on next of 0. The lock here: write on locked of 1.",
             "A step on locked of 1 may be missing before it, or this one is on the wrong word."]),
+    "a word of the thread's own record": (
+        "lock mcs threads 2", LINKED + "1 write next left 0", "next", "OtherWord", [
+            "The recorded run: write on next of 1. The lock here: write on locked of 1."]),
+    "the other word of the thread's own record": (
+        "lock mcs threads 2", "0 acquire; 0 write locked", "locked", "OtherWord", [
+            "The recorded run: write on locked of 0. The lock here: write on next of 0."]),
     "a word of another lock": (
         "lock mcs threads 2", "0 acquire; 0 write now_serving", "now_serving", "OtherWord", [
             "The recorded run: write on now_serving. The lock here: write on next of 0."]),

@@ -7,7 +7,7 @@ import re
 
 import pytest
 
-from tree import TOP
+from tree import TOP, cases
 
 LOCKS = ["ticket", "mcs", "rw-simple", "rw-fifo"]
 DOCUMENT = (TOP / "docs" / "LOCKS.md").read_text()
@@ -169,6 +169,19 @@ def test_by_hand(page):
                                "nothing": [NOTHING]}
 
 
+@cases("way", {
+    "key": lambda page: page.press("ArrowLeft"), "button": lambda page: page.click("#why-back")})
+def test_each_line_begins_at_its_top(page, way):
+    """However far the reader has scrolled at another line."""
+    page.resize(390, 500)
+    page.open(f"{LATE_LINK}9")
+    page.press("y", "ArrowRight")
+    assert page.js("scrolledToEnd") > 0
+    way(page)
+    assert page.js("stop")["lines"] == [12] and page.js("scrolled") == 0
+    assert page.js("scrolledToEnd") > 0, "these changes have less room than they need, too"
+
+
 def test_a_run_is_played(page):
     """By the lock as it is, in whose turns it goes right; and Y leads back to the change."""
     page.open(f"{LATE_LINK}9")
@@ -203,6 +216,8 @@ def test_a_run_that_the_lock_refuses(page):
     assert page.text("#now .own-say") == (
         "Changed here: CasTail, if it finds the thread's own, whatever is there. The changed lock "
         "goes on with “0 acquire”.")
+    page.press("y")
+    assert page.js("stop")["lines"] == [12] and page.js("isAtPlayed", 2), "the third change"
 
 
 def test_a_split_step(page):

@@ -45,6 +45,14 @@ function wrongBelow() {
   return [...wrong(), ...(last.bottom <= rect(dialog).bottom ? [] : ['the end is not reached'])];
 }
 
+// How far the dialog is scrolled, by the reader and at most.
+const scrolled = () => byId('why').scrollTop;
+function scrolledToEnd() {
+  const dialog = byId('why');
+  dialog.scrollTop = dialog.scrollHeight;
+  return scrolled();
+}
+
 // The least letters of the dialog as a share of the screen's height.
 function leastLetters() {
   const scale = rect(document.body).width / document.body.offsetWidth;
