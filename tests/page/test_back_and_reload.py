@@ -106,6 +106,15 @@ def test_a_long_schedule(page):
     assert name in page.js("keptNames")
 
 
+def test_a_schedule_that_is_too_long_for_a_link(page):
+    """It is saved as a file, byte for byte."""
+    page.open(LESSON)
+    page.show(LONG)
+    page.press("Escape", "l")
+    assert "saved as a file" in page.until("notice")
+    assert page.saved("schedule.txt", len(LONG)) == LONG.encode()
+
+
 def test_a_link_from_disk(page):
     """A reader who copies it is told that it names a file of this disk."""
     page.open(LESSON)

@@ -116,6 +116,7 @@ def test_what_was_wrong_is_listed_at_the_end(page):
     while page.js("asked"):
         page.js("answer", "0,0")
         page.press("End")
+    assert page.text(".quiz-end .hint") == "That was the last move. Wrong were:"
     listed = page.js("texts", ".quiz-end li")
     wrong = int(page.text(".score").split(" right, ")[1].split(" ")[0])
     assert len(listed) == wrong > 0 and all("(" in one for one in listed), listed

@@ -70,6 +70,21 @@ def test_lines_go_with_their_lock(page):
     assert page.js("fill", [["lock", "ticket"]]) == ""
 
 
+def test_what_was_filled_in_stays(page):
+    """The dialog is opened again as it was left, until another lock is shown."""
+    page.open(HAND_OVER)
+    page.press("m")
+    page.js("fill", [["lock", "mcs"], ["kind", "12"]])
+    page.press("Escape", "m")
+    assert page.js("value", "#find-lock") == "mcs"
+    assert "cas failed" in page.js("value", "#find-sketch")
+    page.press("Escape")
+    page.lesson("fifo-second-writer")
+    page.press("m")
+    assert page.js("value", "#find-lock") == "rw-fifo"
+    assert page.js("value", "#find-sketch") == ""
+
+
 def test_lines_of_ones_own(page):
     """By thread, word and value, over more threads and rounds than are shown."""
     page.open(HAND_OVER)

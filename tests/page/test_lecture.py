@@ -118,6 +118,18 @@ def test_the_last_step(page):
     assert page.text("#lecture [data-lecture=next]") == "Last step"
 
 
+def test_the_step_before(page):
+    """It is at its own place again; before the first step there is none."""
+    begin(page, "mcs")
+    first = page.js("step")["place"]
+    page.press("n")
+    assert page.js("step")["step"].startswith("Step 2 ")
+    for _ in range(2):
+        page.click("#lecture [data-lecture=back]")
+        shown = page.js("step")
+        assert shown["step"].startswith("Step 1 ") and shown["place"] == first, shown
+
+
 def test_minutes():
     """Each plan has ten, in at least five steps of its lock, and homework."""
     assert [plan["lock"] for plan in PLANS] == list(LESSONS)

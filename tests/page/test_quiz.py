@@ -32,6 +32,7 @@ def test_all_right(page):
         score = page.text("#now .score")
         assert score.startswith(f"Points: {right} ({right} right, 0 wrong)"), score
     assert shown["position"] == "15 of 15" and right >= 6, (right, shown)
+    assert page.text(".quiz-end") == "That was the last move.", "nothing was wrong"
     page.go(2)
     assert not page.js("question")["move"], "a move is asked once"
 

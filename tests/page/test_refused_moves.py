@@ -1,6 +1,8 @@
 """A refused move is a scene: in lessons and links, on paper, and in Play."""
 import pytest
 
+from tree import EXAMPLES
+
 # The lesson, how many moves are accepted, the report's last line, and what is said of it. Written
 # by hand from examples/ and docs/LOCKS.md.
 LESSONS = [
@@ -88,6 +90,9 @@ def test_fault_on_paper(page, name, last, parts):
     paper, _ = page.js("onPaper")
     for part in [last, *parts]:
         assert part in paper
+    number = int(last.split()[2])
+    lines = (EXAMPLES / f"fault-{name}.schedule").read_text("ascii").split("\n")
+    assert page.js("texts", "#paper tr.wrong") == [f"✕ {number} {lines[number - 1]}".strip()]
 
 
 # The line after that of move 8. Left are two names, the questions of moves 7 and 8 with their

@@ -72,6 +72,16 @@ def test_the_end_of_a_lesson(page):
     assert page.js("ticked") == ["ticket-hand-over"]
 
 
+def test_the_end_of_a_schedule_of_ones_own(page):
+    """No lesson follows it, which a step more says."""
+    page.open("#lesson=ticket-hand-over&move=10")
+    page.show("lock ticket threads 1\n0 acquire\n")
+    page.press("ArrowRight")
+    assert page.shown()["place"] == 1 and page.text("#notice") != "That was the last move."
+    page.press("ArrowRight")
+    assert page.shown()["place"] == 1 and page.text("#notice") == "That was the last move."
+
+
 def test_a_refused_move_ends_its_lesson(page):
     """Which is ticked off with it, and not with the last move that is accepted."""
     page.open("#lesson=refused-busy&move=1")
