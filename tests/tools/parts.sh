@@ -2,7 +2,8 @@
 # Runs targets of the Makefile one after the other: tests/tools/parts.sh TARGET...
 #
 # Ends with a table of how long each took, in time and as seconds of one processor, and how many
-# passed. The first that fails ends the whole.
+# passed. The first that fails ends the whole. Processes that nobody waits for, as some of a
+# browser's, are not in the seconds of one processor.
 set -euo pipefail
 cd "$(dirname "$0")/../.."
 room=$(mktemp -d)
