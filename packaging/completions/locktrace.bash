@@ -11,12 +11,14 @@ _locktrace() {
     *,check,--color) _locktrace_of 'auto always never' ;;
     *,check,-j | *,check,--jobs) _locktrace_of '{1..64}' ;;
     *,order,-o | *,tour,-o) _filedir -d ;;
+    *,check,--page | *,check,--from) _filedir ;;
     *,cover,--require) _locktrace_kinds ;;
     *,find,--rounds | *,space,--rounds) _locktrace_of 'any' ;;
     *,--format | *,--color | *,--moves | *,--names | *,--rounds | *,--bits | *,--limit) ;;
     1,*) _locktrace_of "$commands --help -h --version -V" ;;
     2,help,*) _locktrace_of "$commands" ;;
-    *,check,*) _locktrace_files '--format --color --summary --quiet -q --jobs -j --help -h' ;;
+    *,check,*) _locktrace_files '--format --color --summary --quiet -q --jobs -j --page --from
+            --help -h' ;;
     *,explain,*) _locktrace_files '--moves --names --help -h' ;;
     *,order,*) _locktrace_files '-o --format --quiet -q --help -h' ;;
     *,schedule,*) _locktrace_files '--help -h' ;;

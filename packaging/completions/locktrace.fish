@@ -77,6 +77,8 @@ complete -c locktrace -n $check -l color -x -a 'auto always never' -d 'When the 
 complete -c locktrace -n $check -s q -l quiet -d 'Write no report'
 complete -c locktrace -n $check -l summary -d 'Count moves, waits and more'
 complete -c locktrace -n $check -s j -l jobs -x -a '(seq 64)' -d 'How many threads share the files'
+complete -c locktrace -n $check -l page -r -F -d 'Write the page with the trace in it'
+complete -c locktrace -n $check -l from -r -F -d 'The page that takes the trace'
 complete -c locktrace -n $explain -l moves -x -d 'Only the moves in these lines, as 5..10'
 complete -c locktrace -n $explain -l names -x -d 'What the threads are called'
 complete -c locktrace -n $order -s o -x -a '(__fish_complete_directories)' \

@@ -29,6 +29,8 @@ _locktrace() {
         '--color[when the text has colors]:when:(auto always never)' \
         '(-q --quiet)'{-q,--quiet}'[write no report]' \
         '(-j --jobs)'{-j,--jobs}'[how many threads share the files]:number:' \
+        '--page[write the page with the trace in it]:page:_files' \
+        '--from[the page that takes the trace]:page:_files' \
         '*:trace:_files' ;;
     explain) _arguments '(- *)'{-h,--help}'[print help]' \
         '--moves[only the moves in these lines]:lines, as 5..10:' \

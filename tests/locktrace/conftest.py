@@ -1,4 +1,4 @@
-"""Programs in a folder with the texts of traces.py."""
+"""Fixtures that run a program in a folder with the texts of traces.py."""
 import pytest
 
 from traces import LOGS, TEXTS

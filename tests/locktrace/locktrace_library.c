@@ -1,5 +1,5 @@
-/* The static library from C: a trace that is accepted, one that is refused, and texts that are
-   none. Status 0 where all is as worked out by hand. */
+/* Calls the static library from C on a trace that it accepts, a trace that it refuses, and texts
+   that are no traces. Ends with status 0 if every answer is the one worked out by hand. */
 #include <stdio.h>
 #include <string.h>
 

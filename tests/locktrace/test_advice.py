@@ -1,4 +1,4 @@
-"""The advice of `locktrace check`, by the lock and the step that its thread was due to make.
+"""The advice of `locktrace check` after a refused move fits the lock and the step that was due.
 
 The rows of tests/rows/advice.txt are written by hand, from docs/LOCKS.md.
 """
@@ -8,7 +8,7 @@ from tree import ROWS
 
 
 def rows():
-    """Each lock, with its moves and the advice after the last of them."""
+    """The lock, moves and advice of each row. A name stands for the moves that it defines."""
     runs = {}
     for line in (ROWS / "advice.txt").read_text().splitlines():
         name, _, moves = line.partition(" = ")
@@ -22,7 +22,7 @@ def rows():
 
 @pytest.mark.parametrize("lock, moves, advice", rows())
 def test_advice(tracer, lock, moves, advice):
-    """It is the last line, and the moves before the last one are accepted."""
+    """The last move is the refused one, and the advice is the last line of the report."""
     texts = [f"lock {lock} threads 2", *moves]
     output, *more = tracer.run("check", stdin="\n".join(texts) + "\n")
     assert more == ["", 1]

@@ -1,5 +1,5 @@
-"""`locktrace check`, and what all commands share: words, texts, formats, files that fail, inputs
-without end, devices that take nothing, little memory, several threads, and a terminal.
+"""`locktrace check`, and what all commands share: arguments, texts, formats, unreadable files,
+inputs without end, devices that take nothing, little memory, several threads, and a terminal.
 
 Expected texts are written by hand from packaging/man/locktrace.1 and docs/FORMATS.md.
 """
@@ -134,7 +134,7 @@ ODD = [chr(code) for code in [*range(1, 32), *b'"\\', 127, 0xE9]]
 @pytest.mark.parametrize("name", [*(f"a{sign}b" for sign in ODD), "".join(ODD),
                                   'a "name"\\\x01\n.trace'], ids=ascii)
 def test_name_in_json(tracer, name):
-    """Each byte that a string of JSON has to escape, alone and all together."""
+    """JSON escapes in a file name each byte that it has to, alone and all together."""
     (tracer.folder / name).write_text(FAULTY)
     text = tracer.run("check", "--format", "json", name)[0]
     assert (text[-1:], [sign for sign in text[:-1] if sign < " "]) == ("\n", [])
@@ -161,13 +161,13 @@ def test_tap(tracer):
         f"not ok {k} - bad\n# line {SHOWN}# line 2: {MISSPELT}\n" for k in range(1, 3_001))),
 })
 def test_long_report(tracer, more, due):
-    """Reports are longer than the program's buffer, 65,536 bytes."""
+    """A report may be longer than the program's buffer, which has 65,536 bytes."""
     tracer.write(bad="lock mcs threads 1\n0 aquire\n")
     assert tracer.run("check", *more, *["bad"] * 3_000) == (due, "", 4)
 
 
 def test_long_summary(tracer):
-    """A number of four digits, and the last of 64 threads."""
+    """A summary groups the digits of 1,200, and counts only threads that moved, here the last."""
     longer = "lock ticket threads 64 bits 8\n" + 200 * "".join(f"63 {word}\n" for word in ROUND)
     assert tracer.run("check", "--summary", stdin=longer) == (
         "-: 1 thread, 1,200 moves, 0 waits, 0 failed compare-and-swaps, 0 polls of a late link, "
@@ -193,7 +193,7 @@ ESCAPE = f"column 3: '\\x1b[31mswap', expected {ACTION}\n"
         f"{ACTION}\n", "", 4)),
 })
 def test_odd_text(tracer, words, text, due):
-    """Line ends of another system, and bytes that a terminal would take for commands."""
+    """CR LF ends no line, and messages pass no escape or undecodable byte to the terminal."""
     stdin = (f"lock mcs threads 2\n0 {text}\n" if text else "lock mcs threads 2\r\n0 acquire\r\n")
     assert tracer.run(*words.split(), stdin=stdin, errors="surrogateescape") == due
 
@@ -264,7 +264,7 @@ def test_closed_output(tracer):
 
 
 def test_input_without_end(tracer):
-    """A refused move ends the reading."""
+    """The program stops reading at the refused move, so it answers before the input ends."""
     os.mkfifo(tracer.folder / "endless")
 
     def feed():
@@ -288,7 +288,7 @@ def test_input_without_end(tracer):
     "no trace": (["check", "--format", "tap", "wrong", "faulty"], 4),
 })
 def test_reader_that_left(tracer, words, status):
-    """The status says how the job ended, whoever reads."""
+    """The status says how the job ended, even if nobody reads the output."""
     moves = "0 acquire\n0 add\n0 read\n0 release\n0 read\n0 write\n" * 40_000
     tracer.write(many="lock ticket threads 1\n" + moves)
     with left_pipe() as pipe:
@@ -297,7 +297,7 @@ def test_reader_that_left(tracer, words, status):
 
 @pytest.mark.parametrize("name", ["runs", "runs/"])
 def test_folder(tracer, name):
-    """The traces and schedules of a folder, by their names, and nothing else of it."""
+    """A folder stands for its traces and schedules, by their names, and for no other file."""
     (tracer.folder / "runs").mkdir()
     tracer.write(**{"runs/b.trace": OTHER, "runs/a.schedule": SCHEDULE,
                     "runs/notes.txt": "no trace\n", "runs/c.trace": FAULTY})
@@ -312,7 +312,7 @@ def test_folder(tracer, name):
 @pytest.mark.parametrize("when, on_terminal, has_colors", [
     ("auto", True, True), ("auto", False, False), ("never", True, False), ("always", False, True)])
 def test_colors(tracer, when, on_terminal, has_colors):
-    """On a terminal alone, unless they are asked for."""
+    """Colors appear on a terminal alone, unless an option says otherwise."""
     with Terminal() as terminal:
         out = {"stdout": terminal.writer} if on_terminal else {}
         text, _, status = tracer.run("check", "--color", when, "wrong", **out)
@@ -323,8 +323,8 @@ def test_colors(tracer, when, on_terminal, has_colors):
 
 
 def test_little_memory(tracer):
-    """Under each limit the answer is the right one, or that memory was refused, and both occur.
-    With too little memory to begin, the program ends by a signal and answers nothing."""
+    """Under each limit the program answers as with ample memory, or that it is out of memory, and
+    both occur. With too little memory to start, it writes no answer and fails in another way."""
     answered, refused = (WRONG_LINE.format("wrong"), "", 1), ("", "locktrace: out of memory\n", 3)
     found = {tracer.run("check", "wrong", preexec_fn=little_memory(size << 10))
              for size in range(2_000, 8_000, 20)}

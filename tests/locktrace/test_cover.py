@@ -1,7 +1,7 @@
-"""`locktrace cover`: how often schedules take each kind of transition, and those that are missing.
+"""`locktrace cover` counts how often schedules take each kind of transition, and lists the rest.
 
-The names of kinds are those of tests/rows/kinds.txt, and the second replayer says which kinds a
-schedule has. Expected texts are written by hand from packaging/man/locktrace.1.
+tests/rows/kinds.txt has the names of the kinds, and the oracle says which kinds a schedule takes.
+Expected texts are written by hand from packaging/man/locktrace.1.
 """
 import json
 import shlex
@@ -83,7 +83,7 @@ def test_no_trace(program):
 
 
 def counted(program, schedule):
-    """The count of each kind of a schedule's one lock, and the command that finds it."""
+    """The count of each kind for a schedule, and the kinds with the commands that find them."""
     output, *more = program.run("cover", "--format", "json", stdin=schedule)
     assert more == ["", 0]
     kinds = json.loads(output)["kinds"]
@@ -93,7 +93,7 @@ def counted(program, schedule):
 
 @pytest.mark.parametrize("lock", search_rows.names())
 def test_command_for_each_kind(tracer, lock):
-    """The command for each missing kind gives a schedule that has it."""
+    """The command that `cover` names for a missing kind finds a schedule that takes the kind."""
     named = search_rows.names()[lock]
     counts, commands = counted(tracer, f"lock {lock} threads 2\n")
     assert counts == dict.fromkeys(named.values(), 0)

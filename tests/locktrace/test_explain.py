@@ -40,7 +40,7 @@ def test_lines(tracer, lines, due):
 @pytest.mark.parametrize("thread, name, names", [
     (0, "left", ["--names", "left"]), (1, "thread 1", ["--names", "left"]), (0, "thread 0", [])])
 def test_refused_call(tracer, thread, name, names):
-    """A name if the thread has one."""
+    """The message calls a thread by its name, if `--names` gives it one."""
     assert tracer.run("explain", *names, stdin=f"lock mcs threads 2\n{thread} release\n") == (
         f"2: refused: '{thread} release', but {name} does not hold the lock in that mode "
         "(NotHolder)\n  held by nobody; queue empty\n"

@@ -1,8 +1,8 @@
-"""`locktrace find`: how a sketch is read, the messages, and the schedules that are found.
+"""`locktrace find`: how it reads a sketch, its messages, and the schedules that it finds.
 
-Messages are written by hand from packaging/man/locktrace.1 and docs/FORMATS.md. Lengths and
-counts of states are those of tests/rows/sketches.txt, and a schedule is a run of the second
-replayer.
+Messages are written by hand from packaging/man/locktrace.1 and docs/FORMATS.md.
+tests/rows/sketches.txt has the lengths of runs and the counts of states, and the oracle makes every
+move of a schedule.
 """
 import re
 import shlex
@@ -13,7 +13,7 @@ import search_rows
 from spaces import measured, searched, walk
 from tree import cases, ran
 
-# The words after `find`, and the message: no run has the lines.
+# The arguments of `find`, and its message that no run has the lines.
 NOWHERE = [
     (["mcs", "2", "0 cas done", "0 swap"],
      "no run of 2 threads with 1 round each has '0 swap' after '0 cas done': "
@@ -46,7 +46,8 @@ OPEN = ("'next_ticket', 'now_serving', 'tail', 'next', 'locked', 'moved', 'waits
         "'entered', 'left'")
 STEPS = "a call (acquire, rlock ..) or a step (read, write, swap, cas, add, section)"
 
-# A line that no sketch may have, and its message: column, what is there, what could be.
+# A line that is not one of a sketch, and its message: the column, the word there, the words
+# expected.
 FAULTS = [
     ("* caz failed", f"  column 3: 'caz', expected {STEPS}; did you mean 'cas'?\n"),
     ("x cas", "  column 1: 'x', expected '*', or a thread's number, from 0 to 255\n"),
@@ -70,7 +71,7 @@ FAULTS = [
     ("not not 1 cas", "  column 5: 'not', expected '*', or a thread's number, from 0 to 255\n"),
 ]
 
-# A line that no run of an MCS lock of two threads has, and why.
+# A line that no run of an MCS lock with two threads has, and the reason.
 NEVER = [
     ("0 add", "the lock has no such operation or step (WrongLock)"),
     ("* section waits", "the lock has no such operation or step (WrongLock)"),
@@ -81,7 +82,7 @@ NEVER = [
     ("not 2", "no such thread (NoSuchThread)"),
 ]
 
-# A line whose facts a ticket lock of two threads does not have.
+# A line that names no facts of a ticket lock with two threads.
 NO_FACTS = ["is ", "is hold", "is hold 2", "is hold 0 1", "is 0 at", "is 2 at Idle",
             "is 0 at idle", "is 0 at AwaitTurn(0)", "is tail 0", "is now_serving",
             "is now_serving x", "is now_serving  1", "is hold 0,", "is hold 0,, hold 1",
@@ -93,7 +94,7 @@ NO_FACT = ("not facts of this lock: 'hold T', 'queue T,..', 'T at PHASE' or 'WOR
 # The message for a `not` in the last line.
 OPEN_NOT = "'not' holds up to the next line, and there is none (NoNextLine)\n"
 
-# The words after `space`, and the message: they name no lock.
+# Arguments of `space` that name no lock, and the message.
 NO_LOCKS = [
     (["ms", "2"], "'lock ms threads 2': not a header (BadHeader)\n  column 6: 'ms', expected "
                   "ticket, mcs, rw-simple or rw-fifo; did you mean 'mcs'?\n"),
@@ -116,7 +117,7 @@ def test_usage(tracer, words):
 
 @pytest.mark.parametrize("line, why", NEVER)
 def test_line_that_no_run_has(tracer, line, why):
-    """In the words of the command, and in a text. Nothing is searched."""
+    """Arguments and texts with the line get the message, before any search."""
     said = f"no run has this line: {why}\n"
     assert tracer.run("find", "mcs", "2", "* cas", line) == (
         "", f"locktrace: '{line}': {said}", 2)
@@ -131,7 +132,7 @@ def test_no_lock(tracer, words, said):
 
 @pytest.mark.parametrize("line, said", FAULTS)
 def test_line_that_is_none(tracer, line, said):
-    """In the words of the command, and in a text."""
+    """Arguments and texts with the line get the message."""
     assert tracer.run("find", "mcs", "2", "* cas", line) == (
         "", f"locktrace: '{line}': {LINE}\n{said}", 2)
     assert tracer.run("find", "-", stdin=f"lock mcs threads 2\n\n{line}\n") == (
@@ -140,7 +141,7 @@ def test_line_that_is_none(tracer, line, said):
 
 @pytest.mark.parametrize("line", NO_FACTS)
 def test_no_fact(tracer, line):
-    """In the words of the command, and in a text. Nothing is searched."""
+    """Arguments and texts with the line get the message, before any search."""
     assert tracer.run("find", "ticket", "2", "0 add", line) == (
         "", f"locktrace: '{line}': {NO_FACT}", 2)
     assert tracer.run("find", "-", stdin=f"lock ticket threads 2\n\n{line}\n") == (
@@ -148,7 +149,7 @@ def test_no_fact(tracer, line):
 
 
 def test_position_in_a_schedule(tracer):
-    """A schedule says after which of its lines the lock is so: after the header at its start."""
+    """A comment names the line after which the facts hold: at the start that is the header."""
     output, *more = tracer.run("find", "ticket", "2", "is now_serving 0, queue -", "1 add",
                                "is hold 1, 0 at Idle", "not 0", "1 write")
     assert more == ["", 0]
@@ -167,7 +168,7 @@ def test_not_without_a_next_line(tracer):
 
 
 def test_not_in_a_schedule(tracer):
-    """A schedule says before which of its lines it holds."""
+    """A comment in the schedule names the line before which a `not` holds."""
     output, *more = tracer.run("find", "mcs", "2", "0 read next found 0", "not * cas failed",
                                "not 1 read", "0 write locked of 1")
     assert more == ["", 0]
@@ -225,7 +226,8 @@ def test_any_rounds_of_a_text(tracer):
 
 @pytest.mark.parametrize("lock", ["ticket", "rw-fifo"])
 def test_space_without_end(tracer, lock):
-    """Counters in wide words only grow. Four threads need words of three bits."""
+    """In wide words the counters grow without end, so the message proposes --bits 3, the narrowest
+    words for four threads."""
     output, error, status = tracer.run("find", lock, "4", "--rounds", "any", "--limit", "9",
                                        "0 release" if lock == "ticket" else "0 runlock")
     assert (output, status) == ("", 3)
@@ -243,7 +245,7 @@ def test_limit(tracer):
 
 @pytest.mark.parametrize("sketch", list(search_rows.sketches()), ids=str)
 def test_sketch(tracer, lockreplay, sketch):
-    """A schedule that is found is shortest, has its lines where it says, and is accepted whole."""
+    """The schedule is shortest, has the lines where its comments say, and is accepted."""
     lock, threads, rounds, bits = sketch.space
     output, error, status = tracer.run("find", lock, threads, "--rounds", rounds, "--bits", bits,
                                        *sketch.lines)

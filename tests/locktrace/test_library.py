@@ -1,4 +1,4 @@
-"""The static library of traces, from C and from Python, as examples/bindings shows."""
+"""C and Python call the static library of traces, as examples/bindings shows."""
 import sys
 from pathlib import Path
 

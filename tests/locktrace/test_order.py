@@ -1,4 +1,5 @@
-"""`locktrace order`: the order of a run's logs, its trace and schedules, and logs that have none.
+"""`locktrace order` finds an order for a run's logs, and writes a trace and schedules of it; or it
+names the step that has no place.
 
 Expected texts are worked out by hand from docs/FORMATS.md and packaging/man/locktrace.1.
 """
@@ -11,7 +12,8 @@ from tree import cases
 ORDERED = b"\r\x1b[Kordering 100000 moves\r\x1b[Kwriting 100000 moves\r\x1b[K"
 MORE = ("{0}: warning: cut off, without its last line\n"
         "locktrace: note: ordered up to there: {1} steps\n")
-# The step that cannot be placed, the next step of the other thread, if it has one, and the end.
+# The message about a step that cannot be placed: the step and the cause, the next step of the other
+# thread if there is one, the number of placed steps, and the holders and queue.
 STUCK = "{0}: cannot be placed: {1}\n{4}{0}: note: {2} steps placed; {3}\n"
 NEXT = "{0}.log:{1}: note: thread {0}'s next step is '{2}': {3}\n"
 WAITS = "a step of another thread has to come before"
@@ -25,8 +27,8 @@ AWAITED = ["acquire", "write next left 0", "swap tail found 1", "write locked le
 RETURNED = ["release", "read next found 0", "cas tail done", *SWAPPED[:2], "swap tail found 1"]
 
 # The lock, the moves of threads 0 and 1 with the last lines of their logs, the status, and the
-# message. A step that the lock cannot make, or that leaves another value, is surely wrong; less so
-# are, in this order, an outcome, a value that was found, and a step that waits for another.
+# message. A step that the lock cannot make, or that leaves another value, is surely wrong. Less
+# certain are, in this order, another outcome, another value found, and a step that only waits.
 ENDINGS = [
     ("a wrong step beside a cut log", "mcs", SWAPPED,
      ["acquire", "write next left 0", "swap tail found 1 left 1", *WHOLE], 1,
@@ -52,8 +54,8 @@ ENDINGS = [
                   "thread 1's write found 5 in next of 1; the published algorithm has 0", 3,
                   "held by nobody; queue empty", NEXT.format(0, 4, "0 swap tail found 0", WAITS))),
 ]
-# The second of two wrong steps is named, whichever thread makes it. `{t}` is its thread, and `{o}`
-# the other one, of which the line and the next step follow.
+# Two wrong steps, of which the message blames the second, whichever thread makes it. `{t}` is that
+# thread, and `{o}` the other thread, whose line and next step end the row.
 SUSPECTS = [
     ("a refused step and a value", "ticket", ["acquire", "add next_ticket found 5"],
      ["acquire", "read now_serving found 0"],
@@ -144,7 +146,7 @@ def test_text_of_a_log(tracer, first, second, status, error):
     "a last line": ([HEADER.format("", 1).rstrip()], "dropped 0", [], BAD_MOVE.format(2)),
 })
 def test_long_line(tracer, size, before, line, after, error):
-    """A line of more bytes than a header or a move may have: what it begins with does not count."""
+    """A line has more bytes than a header or a move may have, so its first words do not save it."""
     text = "\n".join([*before, line.ljust(size), *after, ""])
     assert order(tracer, HEADER.format("", 0) + TAKEN, text) == ("", error, 4)
 
@@ -201,7 +203,7 @@ FAULT = "faulty.log:2: not a move (BadLine)\n"
     "no log": ({}, "faulty thread-0.log", 4, "faulty:1: not a log's header", "\n"),
     "cut off": ({"thread-1.log": CUT}, "thread-0.log thread-1.log", 0,
                 "thread-1.log: warning: cut off", "ordered up to there: 7 steps\n"),
-    # the greatest status wins, whichever log comes first; each is named
+    # The greatest status wins, whichever log comes first, and a message names each log.
     "faulty, absent": (FAULTY_LOG, "faulty.log absent.log", 4, f"{FAULT}absent.log: ", "\n"),
     "absent, faulty": (FAULTY_LOG, "absent.log faulty.log", 4, "absent.log: ", f"\n{FAULT}"),
 })
@@ -220,7 +222,7 @@ def test_folder_that_cannot_be_made(tracer):
 
 
 def test_ten_million_moves(tracer):
-    """They are ordered; within 200 MB the message is that memory is short."""
+    """`order` places ten million moves; within 200 MB it says that it is out of memory."""
     tracer.write(**{"long.log": log("ticket", 0, ROUND * 1_666_667 + WHOLE, 1)})
     words = ["order", "long.log", "-o", "long"]
     assert tracer.run(*words) == ("", "", 0)
@@ -231,7 +233,7 @@ def test_ten_million_moves(tracer):
 
 
 MOST = 65_536  # moves of a schedule
-PAIRS = 4_681  # rounds of each of two threads: 14 moves a pair, but one poll less at the start
+PAIRS = 4_681  # rounds of each thread: a pair of rounds has 14 moves, the first pair a poll less
 LEFT_OUT = ("locktrace: warning: {} in no schedule. A schedule has at most 65536 moves, and after "
             "those somebody was in a call\n")
 
@@ -243,7 +245,7 @@ def schedules_in(folder):
 
 
 def test_parts_of_a_run(tracer):
-    """A run of one thread may be cut after each round: its schedules have all of its moves."""
+    """A long run of one thread is cut after some round, so its schedules keep every move."""
     lines = []
     for ticket in range(30_000):
         lines += ["acquire", f"add next_ticket found {ticket}", f"read now_serving found {ticket}",
@@ -257,9 +259,9 @@ def test_parts_of_a_run(tracer):
 
 
 def handed_over(polls):
-    """The logs of two threads that hand the lock over to each other: each has a failed poll when
-    the other one leaves, so somebody is in a call all the time. The last one polls `polls` times
-    more than that."""
+    """The logs of two threads that hand the lock over to each other. Each thread makes a failed
+    poll before the other one leaves, so somebody is in a call all the time. The last round has
+    `polls` failed polls more."""
     logs = [[], []]
     for ticket in range(2 * PAIRS):
         moves = logs[ticket % 2]
@@ -276,7 +278,8 @@ def handed_over(polls):
     (3, ""), (4, LEFT_OUT.format("1 move is")), (5, LEFT_OUT.format("2 moves are")),
     (17, LEFT_OUT.format("14 moves are"))])
 def test_moves_left_out(tracer, polls, said):
-    """14 moves a pair of rounds, less one, and the polls: 65,533 and those."""
+    """The run has 14 * PAIRS - 1 + polls moves, which is 65,533 + polls. The schedule has the first
+    65,536, and a warning counts the others."""
     tracer.write(**{f"thread-{thread}.log": log("ticket", thread, [*moves, *WHOLE])
                     for thread, moves in enumerate(handed_over(polls))})
     assert tracer.run("order", *LOGS, "-o", "made") == ("", said, 0)
@@ -286,12 +289,12 @@ def test_moves_left_out(tracer, polls, said):
 
 
 def test_files_of_an_earlier_order(tracer):
-    """They are removed, and nothing else of the folder is."""
+    """A new order removes the files of an earlier order, and nothing else in the folder."""
     made = tracer.folder / "again"
     made.mkdir()
     own = ["own.schedule", "run-0002.schedules", "run-0009.schedule"]
     tracer.write(**{f"again/{name}": "lock mcs threads 2\n" for name in own})
-    # a schedule has at most 65,536 moves: 10,922 rounds of 6
+    # A schedule has at most 65,536 moves, which are 10,922 rounds of 6.
     for count, schedules in ((21_845, 3), (10_923, 2), (10_922, 1)):
         tracer.write(**{"one.log": log("ticket", 0, ROUND * count + WHOLE, 1)})
         assert tracer.run("order", "one.log", "-o", "again") == ("", "", 0)
@@ -302,7 +305,7 @@ def test_files_of_an_earlier_order(tracer):
 
 @pytest.mark.parametrize("name", ["run.trace", "run-0001.schedule"])
 def test_file_that_no_order_wrote(tracer, name):
-    """It may be a folder, too."""
+    """`order` refuses to replace what it did not write, here a folder."""
     (tracer.folder / "own").mkdir()
     (tracer.folder / "own" / name).mkdir()
     assert tracer.run("order", *LOGS, "-o", "own") == (
@@ -312,7 +315,7 @@ def test_file_that_no_order_wrote(tracer, name):
 
 @pytest.mark.parametrize("moves, said", [(99_998, b""), (100_000, ORDERED)])
 def test_progress_on_a_terminal(tracer, moves, said):
-    """From 100,000 moves on, progress is shown and then cleared."""
+    """From 100,000 moves on the terminal shows the progress, which is cleared at the end."""
     calls = [line for n in range(1, moves // 2 + 1)
              for line in (["runlock", "rlock"][n % 2], f"section {n}")]
     tracer.write(**{"one.log": log("rw-simple", 0, [*calls, *WHOLE], 1)})

@@ -1,8 +1,8 @@
-"""Random traces: each is accepted as it is, and with one value changed it is refused at that line.
+"""`locktrace check` accepts random traces, and refuses one with a changed value at that line.
 
-The runs are those of random_runs.py, with what each step found and left. The machine has another
-value than the changed one. A section's count alone may also be changed to one that is still in
-order, and is then accepted, or refused at the next count that is not above it.
+random_runs.py makes the runs, with the values that each step found and left. The machine has a
+value that differs from the changed one. A section's count is the exception: a changed count that is
+still in order is accepted, or refused at the next count that is not above it.
 """
 import json
 
@@ -15,8 +15,8 @@ RUNS = 10_000
 
 
 def changed_run(dice):
-    """A run; the line in its trace whose value is changed, 0 if none is, and whether it is a
-    count."""
+    """A run; the number of the line with a changed value, 0 if there is none; and whether the value
+    is a count."""
     run = random_run(dice)
     changeable = [k for k, (_, line) in enumerate(run.moves) if has_value(line)]
     if not changeable or dice.random() < 0.5:

@@ -1,4 +1,4 @@
-"""`locktrace space`: the counts of the worked rows, and the graph of a space as a drawing."""
+"""`locktrace space` gives the counts of the worked rows, and draws the graph of a space."""
 import json
 import re
 
@@ -62,7 +62,7 @@ def test_limit(tracer, more):
 
 
 def graph_of(text):
-    """The moves from each state, by its number, with the states that they lead to."""
+    """A map from each state's number to its moves, and from each move to the state after it."""
     graph = {int(node): {} for node in re.findall(r"^  (\d+) \[label=", text, re.MULTILINE)}
     edges = re.findall(r'^  (\d+) -> (\d+) \[label="(\d+) (\w+)"\]$', text, re.MULTILINE)
     for start, end, thread, word in edges:
@@ -73,8 +73,8 @@ def graph_of(text):
 @pytest.mark.parametrize("rounds", [1, search_rows.ANY])
 @pytest.mark.parametrize("lock", search_rows.names())
 def test_drawing(tracer, lock, rounds):
-    """The graph of a space is that of the second replayer, from the first state on. Rounds without
-    a bound are not counted."""
+    """The drawn graph equals the oracle's, up to the numbers of states. Labels count rounds only if
+    rounds have a bound."""
     output, *more = tracer.run("space", lock, "2", "--rounds", rounds, "--bits", "2",
                                "--format", "dot")
     assert more == ["", 0]

@@ -1,8 +1,8 @@
-"""`locktrace tour`: schedules that are accepted and together take every transition, the files that
-it writes and removes, and folders that fail.
+"""`locktrace tour` writes schedules that are accepted and together take every transition, removes
+the files of an earlier tour, and reports folders in which it cannot write.
 
-The ways of one thread are worked out by hand. That the schedules of two and three threads take
-every transition is counted over the second replayer (spaces.py).
+The schedules of one thread are worked out by hand. For two and three threads, spaces.py counts over
+the oracle whether the schedules take every transition.
 """
 import re
 
@@ -90,7 +90,7 @@ def test_every_transition(tracer, lockreplay, lock, threads):
 
 
 def test_files_of_an_earlier_tour(tracer):
-    """They are removed, and nothing else."""
+    """A new tour removes the files of an earlier tour, and nothing else."""
     folder = tracer.folder / "again"
     tracer.run("tour", "mcs", "2", "-o", folder)
     count = len(files_in(folder))
@@ -121,7 +121,7 @@ def test_file_that_no_tour_wrote(tracer):
 
 @pytest.mark.parametrize("name", ["0001.schedule.new", "tour.list.new"])
 def test_links_are_not_followed(tracer, name):
-    """The name under which a file is written, before it gets its own, may be a link."""
+    """A link with the name of a temporary file is replaced, and its target stays as it was."""
     own, folder = tracer.folder / "own", tracer.folder / "linked"
     own.write_text("own\n")
     folder.mkdir()
@@ -133,7 +133,7 @@ def test_links_are_not_followed(tracer, name):
 
 
 def test_link_in_the_place_of_a_schedule(tracer):
-    """It leads nowhere, and is still not of a tour."""
+    """A dangling link is not a file of an earlier tour, so nothing replaces it."""
     (tracer.folder / "linked").mkdir()
     (tracer.folder / "linked/0001.schedule").symlink_to("nowhere")
     assert tracer.run("tour", "ticket", "1", "-o", "linked") == (
@@ -153,7 +153,7 @@ def test_failure(tracer, words, status, said):
 
 
 def test_write_that_fails(tracer):
-    """A schedule of over 100 bytes fails, or the output; then both are written."""
+    """A tour fails if its schedule or its output does. The second failure leaves the files."""
     words = ["tour", "ticket", "1", "-o", "short"]
     with open("/dev/full", "w", encoding="utf-8") as full:
         for how in ({"preexec_fn": short_files(100)}, {"stdout": full}):

@@ -1,4 +1,4 @@
-"""`locktrace` writes what the rows of tests/rows/locktrace say, and nothing else."""
+"""`locktrace` writes exactly the outputs that the rows of tests/rows/locktrace have."""
 from transcripts import transcripts
 from tree import cases
 

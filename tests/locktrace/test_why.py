@@ -1,5 +1,5 @@
-"""`locktrace why`: its verdicts and its runs beside a search over the second replayer, and what the
-page has of them."""
+"""`locktrace why` gives the verdicts that a search over the oracle finds, and runs that show them;
+the page has its output."""
 import re
 
 import pytest
@@ -10,7 +10,7 @@ from tree import TOP
 VERDICT = re.compile(r"(?P<illegal>[\d,]+) moves?, and thread \d .+"
                      r"|(?P<stuck>[\d,]+) moves? to where a call can never end: .+"
                      r"|harmless: all (?P<harmless>[\d,]+) states? were searched")
-ROUNDS = 2  # by default
+ROUNDS = 2  # the default
 
 
 def read(text):
@@ -20,7 +20,7 @@ def read(text):
 
 
 def parts_of(output):
-    """The heading, and by the name of each change the verdict with the lines after it."""
+    """The heading, and a map from each change to its verdict with the lines of its run."""
     heading, *parts = re.split(r"\n(?! )", output.removesuffix("\n"))
     return heading, dict(part.split(": ", 1) for part in parts)
 
@@ -50,8 +50,8 @@ def followed(lock, run):
 @pytest.mark.parametrize("lock, change", [(lock, change) for lock, changes in CHANGES.items()
                                           for change in [AS_IT_IS, *changes]])
 def test_run(tracer, lock, change):
-    """A run has as many moves as its line says, and goes wrong in that way. There may be other
-    runs of this length."""
+    """A run has as many moves as its verdict says, and does the harm that the verdict names. It may
+    differ from the run that the search finds."""
     output, *more = tracer.run("why", lock, 2, "--runs")
     assert more == ["", 0]
     told, *run = parts_of(output)[1][change].split("\n")

@@ -1,5 +1,9 @@
-"""Traces and logs of two threads, with what `locktrace` says of each, for several tests."""
+"""Traces and logs of two threads that several tests use, with the answers of `locktrace check`."""
+import base64
 
+from tree import TOP
+
+PAGE = TOP / "page" / "lockreplay.html"
 GOOD = """# Two threads of an MCS lock
 lock mcs threads 2
 
@@ -47,9 +51,16 @@ LOGS = {
     "thread-1.log": "lock ticket threads 2 thread 1\nacquire\nadd next_ticket found 1\n"
                     "read now_serving found 0\nread now_serving found 1\ndropped 0\n",
 }
-ROUND = ["acquire", "add", "read", "release", "read", "write"]  # of one thread
+ROUND = ["acquire", "add", "read", "release", "read", "write"]  # the moves of one thread in a round
 
 
 def has(text, *parts):
-    """Whether a text has these parts, the first of them at its front."""
+    """Whether a text begins with the first part, and contains the others."""
     return text.startswith(parts[0]) and all(part in text for part in parts)
+
+
+def page_with(trace):
+    """The page with a trace in it, as `check --page` has to write it."""
+    empty = '<meta name="trace" content="">'
+    before, after = PAGE.read_text().split(empty)
+    return f"{before}{empty[:-2]}{base64.b64encode(trace).decode()}{empty[-2:]}{after}"

@@ -3,12 +3,12 @@
 A file of rows has lines that begin with `@`, and the lines after them:
 
     @row NAME              a row begins, with no files
-    @file NAME LINE        a file of the row: this line and those after it, where `; ` ends one too
-    @run WORDS => STATUS   the program is run with these words, and ends with this status
-    @out, @err             what it writes to standard output and standard error: nothing if left out
+    @file NAME LINE        a file of the row: LINE and those after it, where `; ` ends a line too
+    @run WORDS => STATUS   a run of the program with these arguments, which ends with this status
+    @out, @err             the standard output and standard error of the run, empty if left out
 
 A line that begins with `//` before the first file or run of a row is a comment. `\\e` is the byte
-27. A file is there until the row ends, and what a run writes into a folder too.
+27. The files of a row, and those that its runs write, are there until the row ends.
 """
 import shlex
 
@@ -16,7 +16,7 @@ from tree import ROWS
 
 
 class Run:
-    """The words of a run, its status, and the lines of its outputs."""
+    """The arguments of a run, its status, and the lines of its outputs."""
 
     def __init__(self, rest):
         words, _, status = rest.rpartition(" => ")
@@ -42,7 +42,7 @@ def text_of(lines):
 
 
 def rows_in(path):
-    """The rows of a file, which have an empty line between them."""
+    """The rows of a file. An empty line before `@row` separates rows, and is no output."""
     rows, lines = [], None
     for line in path.read_text().replace("\n\n@row", "\n@row").splitlines():
         word, _, rest = line.partition(" ")
@@ -65,6 +65,6 @@ def rows_in(path):
 
 
 def transcripts():
-    """Each row by the name of its file and its own."""
+    """A map from the name of the file and of the row to the row."""
     return {f"{path.stem}: {row.name}": row for path in sorted((ROWS / "locktrace").glob("*.txt"))
             for row in rows_in(path)}

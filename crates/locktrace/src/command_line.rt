@@ -1,6 +1,7 @@
 //! The words after the program's name, and the job that they ask for. `clap` reads the words.
 
 use crate::commands::program_command;
+use crate::page::PageJob;
 use crate::searches::{self, SearchJob};
 use clap::ArgMatches;
 use clap::error::ErrorKind;
@@ -19,6 +20,7 @@ pub enum Job {
         job: CheckJob,
         /// Whether the text has colors. If nothing is said of it, a terminal's has.
         colored: Option<bool>,
+        page: Option<PageJob>,
     },
     Schedule {
         file: String,
@@ -116,6 +118,29 @@ fn format_given(alloc: Global, matches: &ArgMatches<'_>) -> Result<Format, Parse
     choice(alloc, matches, "format", &forms, Format::Text)
 }
 
+// The page that is to be written, if one is.
+fn page_given(alloc: Global, matches: &ArgMatches<'_>) -> Result<Option<PageJob>, ParseFault> {
+    let from = matches.get_str("from");
+    let Some(file) = matches.get_str("page") else {
+        if from.is_some() {
+            return usage(alloc, "error: --from goes with --page\n");
+        }
+        return Ok(None);
+    };
+    if file.is_empty() {
+        return usage(
+            alloc,
+            "error: --page takes the name of a file, and the name is empty\n",
+        );
+    }
+    let from = match from {
+        Some(from) => Some(String::from_str(alloc, from)?),
+        None => None,
+    };
+    let file = String::from_str(alloc, file)?;
+    Ok(Some(PageJob { file, from }))
+}
+
 fn check_given(alloc: Global, matches: &ArgMatches<'_>) -> Result<Job, ParseFault> {
     let colors = [
         ("auto", None),
@@ -131,7 +156,8 @@ fn check_given(alloc: Global, matches: &ArgMatches<'_>) -> Result<Job, ParseFaul
         workers: matches.get_one::<u8>("jobs").unwrap_or(1),
         files: copied(alloc, matches.get_strs("files").unwrap_or(&[STANDARD]))?,
     };
-    Ok(Job::Check { job, colored })
+    let page = page_given(alloc, matches)?;
+    Ok(Job::Check { job, colored, page })
 }
 
 /// The folder that is written to. With an empty name, as of a variable that is not set, that would

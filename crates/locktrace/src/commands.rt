@@ -41,7 +41,7 @@ type Word = (&'static str, Spelling, &'static str, Form, &'static str);
 type Row = (&'static str, &'static str, &'static [Word]);
 
 /// The version of the program, as the file VERSION has it.
-const VERSION: &str = "1.0.0";
+const VERSION: &str = "2.0.0";
 
 /// The most workers of a check.
 const MOST_WORKERS: u8 = 64;
@@ -102,6 +102,12 @@ const COLOR: Word =
 
 const WORKERS: Word = word!("jobs" Both('j'), "N" Workers, "How many threads share the files");
 
+const PAGE: Word = word!("page" Name, "FILE" Text,
+    "Writes the page with the trace in it, for a browser; it takes one trace, of a file");
+
+const FROM: Word = word!("from" Name, "FILE" Text,
+    "The page that --page takes; the one installed with the program if it is not given");
+
 const MOVES: Word =
     word!("moves" Name, "FIRST..LAST" Text, "Only the moves in these lines, as 5..10, 5.. or 5");
 
@@ -132,7 +138,7 @@ static COMMANDS: [Row; 9] = [
     (
         "check",
         "Checks each move, and each value that is given, with the lock's machine",
-        &[FORMAT, SUMMARY, QUIET, COLOR, WORKERS, FILES],
+        &[FORMAT, SUMMARY, QUIET, COLOR, WORKERS, PAGE, FROM, FILES],
     ),
     (
         "explain",

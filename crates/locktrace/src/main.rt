@@ -7,6 +7,7 @@
 mod command_line;
 mod commands;
 mod folders;
+mod page;
 mod patient;
 mod searches;
 
@@ -24,6 +25,7 @@ use lk_jobs::why::explain_changes;
 use lk_lines::Status;
 use lk_text::report::worst;
 use lk_text::{Failure, Text};
+use page::{Page, PageJob};
 use patient::Patient;
 use searches::SearchJob;
 use std::alloc::{AllocError, Global};
@@ -115,6 +117,29 @@ where
     Ok(worst(&check_files(rt, alloc, &job, told, output)?))
 }
 
+// Checks a trace, and writes the page with it unless it cannot be read.
+fn check_for_page<R: Runtime + Threads + Sync + Clone + Drop, O: Write + IsTerminal>(
+    rt: &R,
+    alloc: Global,
+    (job, colored): (&CheckJob, Option<bool>),
+    asked: &PageJob,
+    told: bool,
+    output: &mut O,
+    errors: &mut Text,
+) -> Result<u8, Failure>
+where
+    R::File: Send,
+{
+    let Some(page) = Page::new(rt, alloc, asked, &job.files, errors)? else {
+        return Ok(Status::Misused as u8);
+    };
+    let status = check(rt, alloc, job, colored, told, output)?;
+    if status <= Status::Refused as u8 {
+        page.write(rt, alloc)?;
+    }
+    Ok(status)
+}
+
 // Does a job, and gives the status that the program ends with. `told` if standard error is a
 // terminal.
 fn perform<R: Runtime + Threads + Sync + Clone + Drop, O: Write + IsTerminal>(
@@ -129,7 +154,14 @@ where
     R::File: Send,
 {
     let ending = match job {
-        Job::Check { job, colored } => return check(rt, alloc, job, *colored, told, output),
+        Job::Check { job, colored, page } => {
+            return match page {
+                None => check(rt, alloc, job, *colored, told, output),
+                Some(page) => {
+                    check_for_page(rt, alloc, (job, *colored), page, told, output, errors)
+                }
+            };
+        }
         Job::Search(job) => return search(rt, alloc, job, output, errors),
         Job::Schedule { file } => write_schedule(rt, alloc, file, output, errors)?,
         Job::Explain(job) => explain_trace(rt, alloc, job, output, errors)?,
