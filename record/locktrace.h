@@ -25,7 +25,7 @@ extern "C" {
 
 /* generated: version */
 /* clang-format off */
-#define LT_VERSION "1.0.0"
+#define LT_VERSION "2.0.0"
 /* clang-format on */
 /* end */
 

@@ -7,7 +7,7 @@
    evaluated first, since they may be operations too. No macro sees an operator on an `_Atomic`
    variable, as in `count++`, or assembler.
 
-   In C++ `lr::atomic<T>` stands for `std::atomic<T>`; without points it is that.
+   In C++ `lr::atomic<T>` stands for `std::atomic<T>`; without points the two are the same type.
 
    Include this header after all others: what is included after it has scheduling points too. With
    VALUES these do nothing but make noise. */
@@ -18,7 +18,7 @@
 
 #if LR_POINTS
 
-/* A point before an operation on a word of so many bytes. */
+/* A point before an operation on a word of `size` bytes. */
 static inline void lr_point(const volatile void *word, size_t size, int writes)
 {
     if (lr_self == &lr_outside) return;

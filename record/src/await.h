@@ -1,8 +1,8 @@
-/* Waiting for a run's end. A run that is only slow goes on: what counts is whether moves come. */
+/* Waits for a run's end. A slow run is not stopped as long as it makes moves. */
 
 enum { LR_TICKS = 10, LR_TICK = 1000000000 / LR_TICKS }; /* of a second, in nanoseconds */
 
-/* How many moves and turns were made until now. A full log has no more moves. */
+/* How many moves and turns were made until now. A full log counts no further moves. */
 typedef struct lr_progress {
     size_t moves, turns;
 } lr_progress;
@@ -15,7 +15,7 @@ static inline lr_progress lr_progress_of(const lr_run *run)
     return progress;
 }
 
-/* The last note of each thread that has not ended. */
+/* Appends the last note of each thread that has not ended to what is said. */
 static inline void lr_tell_lasts(lr_run *run)
 {
     const char *between = ": ";
@@ -27,7 +27,7 @@ static inline void lr_tell_lasts(lr_run *run)
     }
 }
 
-/* Says what a run waits for in which no move came for so long. */
+/* Says what a run waits for, after `seconds` without a move. */
 static inline void lr_say_late(lr_run *run, unsigned seconds, int has_turns)
 {
     if (run->begun < run->threads) {
@@ -48,7 +48,7 @@ static inline void lr_say_late(lr_run *run, unsigned seconds, int has_turns)
     }
 }
 
-/* Waits until all threads have ended or the run is over: 1, or 0 if a tick has passed. */
+/* Waits for at most a tick. Returns 1 if all threads have ended or the run is over, else 0. */
 static inline int lr_wait_a_tick(lr_run *run)
 {
     struct timespec until;
@@ -62,8 +62,8 @@ static inline int lr_wait_a_tick(lr_run *run)
     return !late;
 }
 
-/* Waits until all threads have ended, the run is over, or no move came for `seconds`; the number of
-   threads that have not ended. */
+/* Waits until all threads have ended, the run is over, or no move came for `seconds`. Returns the
+   number of threads that have not ended. */
 static inline unsigned lr_wait_for(lr_run *run, unsigned seconds)
 {
     unsigned long idle = 0;

@@ -31,7 +31,9 @@ static inline void lr_tell_fault(lr_run *run, const struct lt_answer *answer,
                 lr_text_of(line, log, move));
     }
     lr_tell(run->said, ": %s", why);
-    if (at < run->ordered) lr_tell_published(run, steps, at, answer->fault);
+    if (at >= run->ordered) return;
+    lr_tell_published(run, steps, at, answer->fault);
+    lr_tell_record(run, lr_move_at(run, at));
 }
 
 /* The outcome of the last step of each thread, by the lock's machine. */
@@ -41,8 +43,8 @@ static inline void lr_last_outcomes(const lr_run *run, const struct lt_step *ste
     for (size_t i = 0; i < run->ordered; i++) last[steps[i].thread] = steps[i].outcome;
 }
 
-/* Whether a thread has ended inside a call; in a run that came to its end, also whether one that
-   the lock's machine has let through has not ended. */
+/* Whether a thread has ended inside a call. In a run that was not stopped, also whether a thread
+   has not ended though the lock's machine has completed its last call. */
 static inline int lr_is_beside(lr_run *run, const struct lt_step *steps, int was_stopped)
 {
     uint32_t last[LR_THREADS];
@@ -59,7 +61,7 @@ static inline int lr_is_beside(lr_run *run, const struct lt_step *steps, int was
     return 0;
 }
 
-/* Appends to what is said why a run is refused: 1, or 0 if it is accepted. */
+/* Appends to what is said why a run is refused. Returns 1 if it is, else 0. */
 static inline int lr_check_steps(lr_run *run, const lr_text *text, struct lt_step *steps,
                                  int was_stopped)
 {
@@ -71,8 +73,8 @@ static inline int lr_check_steps(lr_run *run, const lr_text *text, struct lt_ste
     return 1;
 }
 
-/* Checks a run: 0 if it is accepted; else 1, and `lr_said` has the reason. A step that is refused
-   comes before the reason why the run ended, which may be only its effect. */
+/* Checks a run: 0 if it is accepted; else 1, and `lr_said` has the reason. A refused step is said
+   before the reason why the run ended, which may be only an effect of that step. */
 static inline int lr_check(lr_run *run)
 {
     lr_text text = {NULL, NULL, 0, 0, 0};

@@ -3,10 +3,9 @@
    Without LR_PCT each thread that can go on is as likely as another. With LR_PCT=d the turns are
    those of Burckhardt, Kothari, Musuvathi and Nagarakatte, "A randomized scheduler with
    probabilistic guarantees of finding bugs" (ASPLOS 2010): each thread has a priority, the one with
-   the greatest goes on, and at d - 1 drawn turns the one that runs becomes the last. What is
-   different here: a thread that polled in vain is passed over until another one made a move, as if
-   it were blocked.
-   LR_STEPS is their k, about how many turns a run has; a run's trace says how many it had. */
+   the greatest goes on, and at d - 1 drawn turns the one that runs becomes the last. Unlike there,
+   a thread that polled in vain is skipped until another thread has made a move, as if it were
+   blocked. LR_STEPS is their k, about how many turns a run has; its trace says how many it had. */
 
 #ifndef LR_STEPS
 #define LR_STEPS 1000

@@ -44,7 +44,10 @@ static inline int lr_remove_earlier(const char *folder, unsigned from)
     return fault;
 }
 
-static inline void lr_say_kept(const char *folder)
+/* `more` is what is known of the end. */
+static inline void lr_say_kept(const char *folder, const char *more)
 {
-    lr_say("the program ended before its run was saved: its moves until then are in %s", folder);
+    lr_say("the program ended before its run was saved: its moves until then are in the folder "
+           "%s%s",
+           folder, more);
 }

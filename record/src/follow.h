@@ -1,9 +1,9 @@
 /* FOLLOW: a schedule says who is next, and which move that thread has to make.
 
-   Each line of the schedule is a turn, which ends at the note of its move; that of a section ends
-   when the monitor has been left. LR_SWITCH, points and signals decide nothing here: a thread
-   that waits in a monitor looks again when the schedule says so. A move that is not the line's ends
-   the run, and it is the last one that is saved.
+   Each line of the schedule is a turn, which ends at the note of its move; the turn of a section
+   ends when the thread has left the monitor. LR_SWITCH, points and signals decide nothing here: a
+   thread that waits in a monitor looks again when the schedule says so. A move that is not the
+   line's ends the run, and it is the last one that is saved.
 
        lr_run *run = lr_follow("mcs", 64, "tour/0017.schedule");
        ... on each thread, between lr_begin and lr_end:

@@ -30,9 +30,9 @@
      VALUES   the threads run as they like. A note is a few stores into the thread's own memory.
               `locktrace order` puts the threads' logs into an order
      FOLLOW   one thread runs at a time: a schedule says which one is next, and what it has to do
-     OFF      (or no LR_MODE) nothing is recorded. Macros of calls and steps are empty, and their
-              arguments are not even compiled; those of a monitor do what the code does without
-              this header, and the functions of a run do nothing
+     OFF      (or no LR_MODE, of which `lr_main` warns) nothing is recorded. Macros of calls and
+              steps are empty, and their arguments are not even compiled; a monitor's macros do
+              what the code does without this header, and the functions of a run do nothing
 
    OPTIONS: what is defined beside a mode.
      LR_ATOMICS=0    a turn changes only after a note, not before an atomic operation. Else
@@ -41,8 +41,8 @@
                      variable, volatile accesses and assembler have none
      LR_CHECK        with SEED and FOLLOW: each run is checked as with EXPLORE
      LR_MAPPED=0     with VALUES: a run's notes are in memory alone. Else, on Linux, they are in the
-                    file run.notes of its folder while it goes on
-    LR_NOISE        with VALUES: threads are held up at one note in eight, or in LR_NOISE
+                     file run.notes of its folder while it goes on
+     LR_NOISE        with VALUES: threads are held up at one note in eight, or in LR_NOISE
      LR_PCT=d        with SEED: few changes of the turn, at drawn places; LR_STEPS=k
      LR_SPURIOUS=n   with SEED: one turn in n wakes a thread of LR_WAIT that nobody signalled; else
                      one in 8 does with an even seed. EXPLORE wakes such a thread in place of a
@@ -52,7 +52,7 @@
      LR_PATIENCE=n   a run hangs after n turns with nothing but repeated polls
      LR_MOVES=n      with EXPLORE: room for n moves of each thread (4,096)
      LR_REDUCE=0     with EXPLORE: runs are made that differ only in the order of steps on different
-                     words. What has neither a point nor a note is not seen as a step
+                     words. An operation without a point or a note is not seen as a step
 
    CALLS AND STEPS, each right after what it notes. A step on a word that no lock has it on is not
    compiled, and a counter's value takes the width of the counter.
@@ -96,20 +96,21 @@
    saves what was noted until then. If that is killed as well, the notes are in run.notes:
    `lr_recover("folder")` waits for the end of the run, and then makes its logs unless they are
    there. `lr_await` waits for all threads, or until no move has come for `seconds`;
-   `lr_said(run)` has why it gave up. All that goes wrong is said on standard error: `lr_open` then
-   gives NULL, `lr_save` and `lr_recover` an errno (ENOBUFS if a log was full), and a call that may
-   not be made here ends the program with status 2. */
+   `lr_said(run)` has why it gave up. Each fault is said on standard error: `lr_open` then gives
+   NULL, `lr_save` and `lr_recover` give an errno (ENOBUFS if a log was full), and a call that is
+   not allowed there ends the program with status 2. */
 #ifndef LOCKREPLAY_RECORD_H
 #define LOCKREPLAY_RECORD_H
 
 /* generated: version */
 /* clang-format off */
-#define LR_VERSION "1.0.0"
+#define LR_VERSION "2.0.0"
 /* clang-format on */
 /* end */
 
 #include "modes.h"
 #include "moves.h"
+#include "words.h"
 
 #if LR_RECORDS
 #include "run.h"

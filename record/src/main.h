@@ -6,8 +6,8 @@
        PROGRAM recover FOLDER                              VALUES: `lr_recover(FOLDER)`
        PROGRAM SCHEDULES FOLDER                            FOLLOW: the schedules of a folder
 
-   With one thread at a time a run is checked if the program can do it. SECONDS (60) is how long no
-   move may come. Status: 0 all is well; 1 a run is refused or hangs, or a schedule was not
+   With one thread at a time a run is checked if the program can do it. SECONDS (60) is the longest
+   time without a move. Status: 0 all is well; 1 a run is refused or hangs, or a schedule was not
    followed; 2 usage; 3 the system refused memory, a thread or a file, a log was full, or a file is
    no schedule of this lock. */
 
@@ -15,33 +15,46 @@
 enum { LR_ROUND = 128 };
 
 #if LR_EXPLORES
+/* Warns that accepted runs had an operation that was not seen, so no other thread had its turn
+   right before it or within it. */
+static inline void lr_say_unseen(const lr_explored *explored)
+{
+    char at[LR_LINE];
+    if (explored->is_refused || !explored->unseen.line) return;
+    lr_say("%s: no atomic operation was seen before this note: EXPLORE sees atomic_load and its "
+           "kin, and no operator on an _Atomic variable",
+           lr_at(at, explored->unseen.file, explored->unseen.line));
+}
+
 static inline int lr_main(const lr_driver *driver, int count, char **words)
 {
     lr_explored explored;
-    if (count < 5 || count > 6) {
+    unsigned threads = count < 5 || count > 6 ? 0 : (unsigned)atoi(words[1]);
+    if (threads < 1 || threads > LR_THREADS) {
         fprintf(stderr,
                 "usage: %s THREADS ROUNDS PREEMPTIONS FOLDER [RUNS]\n"
                 "       %s THREADS ROUNDS again TRACE\n",
                 words[0], words[0]);
         return 2;
     }
-    unsigned threads = (unsigned)atoi(words[1]), rounds = (unsigned)atoi(words[2]);
+    unsigned rounds = (unsigned)atoi(words[2]);
     int is_again = !strcmp(words[3], "again");
     unsigned long most = count > 5 ? strtoul(words[5], NULL, 10) : 1000000;
     int fault = is_again ? lr_explore_again(driver, threads, rounds, words[4], &explored)
                          : lr_explore(driver, threads, rounds, (unsigned)atoi(words[3]), most,
                                       words[4], &explored);
-    if (fault && is_again) lr_say("%s: %s", words[4], strerror(fault));
+    if (fault && is_again && !explored.is_refused) lr_say("%s: %s", words[4], strerror(fault));
     if (!is_again && explored.runs)
         printf("%lu run%s with up to %u preemption%s, %s\n", explored.runs,
                explored.runs == 1 ? "" : "s", explored.preemptions,
                explored.preemptions == 1 ? "" : "s",
-               explored.is_refused    ? "not all of them, the last one is refused"
+               explored.is_refused    ? "the last one is refused"
                : explored.is_complete ? "all of them accepted"
                                       : "all of them accepted, and there are more");
     if (explored.is_refused) printf("%s\n", explored.said);
     if (explored.is_refused && !is_again)
         printf("again: %s %u %u again %s/run.trace\n", words[0], threads, rounds, words[4]);
+    lr_say_unseen(&explored);
     fflush(stdout);
     _Exit(fault ? 3 : explored.is_refused);
 }
@@ -75,7 +88,7 @@ static inline int lr_main_run(const lr_driver *driver, unsigned threads, unsigne
     is_refused = lr_check(run) || is_refused;
 #endif
     if (run->said[0]) lr_say("%s", run->said);
-    if (lr_save(run)) return 3;
+    if (lr_save(run) || run->lacks_thread) return 3;
     if (!missing) lr_close(run);
     return is_refused;
 }
@@ -94,12 +107,22 @@ static inline void *lr_do_task(void *of)
     return NULL;
 }
 
+/* Without LR_MODE a user may believe that the lock was checked. */
+static inline void lr_say_mode(void)
+{
+    if (!LR_HAS_MODE)
+        fputs("lockreplay_record: built without LR_MODE, so nothing is recorded. Begin with "
+              "-DLR_MODE=EXPLORE; -DLR_MODE=OFF is silent\n",
+              stderr);
+}
+
 /* The threads do their rounds. */
 static inline int lr_main_run(const lr_driver *driver, unsigned threads, unsigned rounds,
                               uint64_t seed, const char *folder, unsigned seconds)
 {
     static lr_task tasks[64];
     (void)seed, (void)folder, (void)seconds;
+    lr_say_mode();
     if (driver->reset) driver->reset();
     for (unsigned t = 0; t < threads; t++) {
         tasks[t].driver = driver;

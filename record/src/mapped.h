@@ -1,18 +1,19 @@
 /* The memory of a run. With LR_MAPPED it is a file in the run's folder, `run.notes`.
 
-   A kill of the program alone spares the process that saves its logs (watch.h). But the end of a
-   container, of a job or of a service kills that one too, and so may a lack of memory. A store into
-   a shared mapping of a file is in the file whoever is killed, so a note is the same few stores as
-   without it. Notes are not text: to write text at each would cost as much as a hundred notes.
-   `lr_recover` makes the logs from the file, by the functions that save every run. A note counts
-   once `end` is past it, and that is stored after it: a half one is never read.
+   If the program alone is killed, the process that saves its logs survives (watch.h). But the end
+   of a container, a job or a service kills that process too, and so may a lack of memory. A store
+   into a shared mapping of a file reaches the file whichever process is killed, so a note costs the
+   same few stores as without the file. Notes are not text: to write text at each would cost as much
+   as a hundred notes. `lr_recover` makes the logs from the file, by the functions that save every
+   run. A note counts once `end` is past it, and `end` is stored after the note, so half a note is
+   never read.
 
-   Whoever has the file open holds its lock, so `lr_recover` waits for a run that goes on, and for
-   one that is being saved. The blocks of the file are its own before the first note: else a full
-   disk would be a SIGBUS in the middle of a run. */
+   A process that writes or saves a run holds the file's lock, so `lr_recover` waits for it. The
+   blocks of the file are allocated before the first note: else a full disk would raise SIGBUS in
+   the middle of a run. */
 
-/* How large the memory of a run is: then come the moves of its threads, two more for each that
-   nobody makes, and whose each move is. */
+/* The size of a run's memory: `lr_run`, then the moves of each thread after two that nobody makes,
+   then a byte for each of them, which names a move's thread. */
 static inline size_t lr_size_of(unsigned threads, size_t moves)
 {
     return sizeof(lr_run) + threads * (moves + 2) * (sizeof(lr_move) + 1);
@@ -57,7 +58,8 @@ static inline int lr_new_notes(const char *folder, size_t size)
     return -1;
 }
 
-/* Nothing is left to be recovered. Another run may have its own file there by now. */
+/* Removes the notes once nothing is left to be recovered, unless another run has its own file there
+   by now. */
 static inline void lr_remove_notes(const lr_run *run)
 {
     char path[LR_PATH];
@@ -83,7 +85,7 @@ static inline void lr_drop_notes(const char *folder)
     if (!lr_path_in(path, folder, LR_NOTES)) remove(path);
 }
 
-/* Lets go of the file: what is in it stays there. */
+/* Closes the file, whose contents stay. */
 static inline void lr_close_notes(lr_run *run)
 {
     if (run->notes >= 0) close(run->notes);

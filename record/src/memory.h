@@ -4,7 +4,8 @@ static w2c_lockreplay lt_module;
 
 static uint8_t *lt_at(uint64_t address) { return lt_module.w2c_memory.data + address; }
 
-/* Makes room for so many bytes: the address of the first. A program without memory ends. */
+/* Makes room for some bytes, and returns the address of the first. If memory is refused, the
+   program ends. */
 static uint64_t lt_make_room(uint64_t bytes)
 {
     wasm_rt_memory_t *memory = &lt_module.w2c_memory;

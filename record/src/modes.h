@@ -2,6 +2,9 @@
 
 #ifndef LR_MODE
 #define LR_MODE OFF
+#define LR_HAS_MODE 0
+#else
+#define LR_HAS_MODE 1
 #endif
 #define LR_JOINED_(one, other) one##other
 #define LR_JOINED(one, other) LR_JOINED_(one, other)

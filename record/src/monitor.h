@@ -80,7 +80,7 @@ static inline void lr_wake(const void *condition, int all)
     run->parked &= ~waiters;
 }
 #else
-/* The threads run as they like, so all of this is the monitor's own matter. */
+/* The threads run as they like, so the monitor's own operations do all of this. */
 #define LR_LOCK(lock) ((void)(lock))
 #define LR_UNLOCK(unlock) ((void)(unlock))
 #define LR_WAIT(condition, unlock, wait, lock) ((void)(wait))

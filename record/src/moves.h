@@ -23,14 +23,6 @@ enum {
     /* end */
     LR_PLACES
 };
-/* A step on a word that no lock has it on is an error when it is compiled. */
-enum {
-    LR_WORD_TO_ADD_TO_next_ticket = LR_PLACE_next_ticket,
-    LR_WORD_TO_SWAP_tail = LR_PLACE_tail,
-    LR_WORD_TO_COMPARE_AND_SWAP_tail = LR_PLACE_tail,
-    LR_WORD_OF_A_RECORD_next = LR_PLACE_next,
-    LR_WORD_OF_A_RECORD_locked = LR_PLACE_locked
-};
 enum {
     LR_PART_none,
     /* generated: parts */

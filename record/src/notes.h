@@ -1,21 +1,33 @@
 /* The notes: what a step of a lock found or left, written down for its thread. */
 
-#define LR_CALL(call) LR_NOTE(LR_CALL_##call, LR_PLACE_none, LR_OWN, LR_PART_none, 0)
-#define LR_READ(word, found) LR_NOTE(LR_STEP_read, LR_PLACE_##word, LR_OWN, LR_PART_found, found)
-#define LR_WRITE(word, left) LR_NOTE(LR_STEP_write, LR_PLACE_##word, LR_OWN, LR_PART_left, left)
+#define LR_CALL(call)                                                                              \
+    LR_NOTE(LR_NAMED(LR_IS_CALL_##call, LR_NO_CALL_OF, LR_CALL_##call), LR_PLACE_none, LR_OWN,     \
+            LR_PART_none, 0)
+#define LR_READ(word, found)                                                                       \
+    LR_NOTE(LR_STEP_read, LR_NAMED(LR_IS_WORD_##word, LR_NO_WORD_OF, LR_PLACE_##word), LR_OWN,     \
+            LR_PART_found, found)
+#define LR_WRITE(word, left)                                                                       \
+    LR_NOTE(LR_STEP_write, LR_NAMED(LR_IS_WORD_##word, LR_NO_WORD_OF, LR_PLACE_##word), LR_OWN,    \
+            LR_PART_left, left)
 #define LR_SWAP(word, found)                                                                       \
-    LR_NOTE(LR_STEP_swap, LR_WORD_TO_SWAP_##word, LR_OWN, LR_PART_found, found)
+    LR_NOTE(LR_STEP_swap, LR_NAMED(LR_IS_SWAPPED_##word, LR_NOT_SWAPPED, LR_PLACE_##word), LR_OWN, \
+            LR_PART_found, found)
 #define LR_ADD(word, found)                                                                        \
-    LR_NOTE(LR_STEP_add, LR_WORD_TO_ADD_TO_##word, LR_OWN, LR_PART_found, found)
+    LR_NOTE(LR_STEP_add, LR_NAMED(LR_IS_ADDED_##word, LR_NOT_ADDED, LR_PLACE_##word), LR_OWN,      \
+            LR_PART_found, found)
 #define LR_CAS(word, wrote)                                                                        \
-    LR_NOTE(LR_STEP_cas, LR_WORD_TO_COMPARE_AND_SWAP_##word, LR_OWN,                               \
+    LR_NOTE(LR_STEP_cas, LR_NAMED(LR_IS_SWAPPED_##word, LR_NOT_COMPARED, LR_PLACE_##word), LR_OWN, \
             (wrote) ? LR_PART_done : LR_PART_failed, 0)
 #define LR_READ_OF(word, j, found)                                                                 \
-    LR_NOTE(LR_STEP_read, LR_WORD_OF_A_RECORD_##word, lr_owner(j), LR_PART_found, found)
+    LR_NOTE(LR_STEP_read, LR_NAMED(LR_IS_OF_A_RECORD_##word, LR_NOT_OF_A_RECORD, LR_PLACE_##word), \
+            lr_owner(j), LR_PART_found, found)
 #define LR_WRITE_OF(word, j, left)                                                                 \
-    LR_NOTE(LR_STEP_write, LR_WORD_OF_A_RECORD_##word, lr_owner(j), LR_PART_left, left)
+    LR_NOTE(LR_STEP_write,                                                                         \
+            LR_NAMED(LR_IS_OF_A_RECORD_##word, LR_NOT_OF_A_RECORD, LR_PLACE_##word), lr_owner(j),  \
+            LR_PART_left, left)
 #define LR_SECTION(count, outcome)                                                                 \
-    LR_NOTE(LR_STEP_section, LR_PLACE_none, LR_OWN, LR_OUTCOME_##outcome, count)
+    LR_NOTE(LR_STEP_section, LR_PLACE_none, LR_OWN,                                                \
+            LR_NAMED(LR_IS_OUTCOME_##outcome, LR_NO_OUTCOME_OF, LR_OUTCOME_##outcome), count)
 #define LR_NOTE(word, place, owner, part, value)                                                   \
     LR_DO(lr_note(lr_self, word, place, owner, part, (uint64_t)(value), __FILE__, __LINE__))
 #define LR_RECORD(first, pointer) ((pointer) ? (uint64_t)((pointer) - (first)) + 1 : (uint64_t)0)
@@ -26,18 +38,18 @@
 /* A record that is no thread's, as a wrong lock may reach, is named 255. */
 static inline unsigned lr_owner(int64_t thread)
 {
-    return thread >= 0 && thread < LR_THREADS ? (unsigned)thread : 255u;
+    return thread >= 0 && thread < LR_THREADS ? (unsigned)thread : (unsigned)LR_UNKNOWN;
 }
 
-/* A note knows its kind when it is compiled, so what it does is worked out then. For this a move is
-   handed on by value, and stored part by part: one that is first put together in memory costs as
-   much as all the rest. */
+/* The kind of a note is a constant when it is compiled, so the compiler evaluates all tests of it.
+   For this a move is passed by value, and stored field by field: building it in memory first costs
+   as much as all the rest. */
 #define LR_AT_ONCE static inline __attribute__((always_inline))
 
 LR_AT_ONCE int lr_waits(lr_move move) { return lr_move_part(&move) == LR_OUTCOME_waits; }
 
-/* Whether a move is a poll that found what another move did, wherever they were noted. A section
-   that waits has no value. */
+/* Whether a move is a poll that found the same as another move, wherever the two were noted. A
+   section that waits has no value. */
 LR_AT_ONCE int lr_is_same(lr_move move, const lr_move *other)
 {
     if (lr_move_word(&move) != LR_STEP_read && !lr_waits(move)) return 0;
@@ -45,11 +57,11 @@ LR_AT_ONCE int lr_is_same(lr_move move, const lr_move *other)
            (lr_waits(move) || move.value == other->value);
 }
 
-/* Whether a move is left out: the third one or a later one of a thread that polls and finds the
-   same. The second is written: if the first found what the thread waited for, it shows that the
-   thread did not see it. With one thread at a time a section is left out only if nobody moved in
-   between, since it has no value. A schedule that is followed has every poll. `end` is where the
-   thread's moves end. */
+/* Whether a move is left out: it is the third or a later one of a thread's polls in a row that
+   found the same. The second is written: if the first found what the thread waited for, it shows
+   that the thread did not see it. With one thread at a time a section is left out only if nobody
+   moved in between, since it has no value. A schedule that is followed has every poll. `end` is
+   where the thread's moves end. */
 LR_AT_ONCE int lr_is_left_out(const lr_log *log, const lr_move *end, lr_move move)
 {
     if (LR_FOLLOWS) return 0;
@@ -65,8 +77,8 @@ __attribute__((cold)) static inline void lr_end_outside(const char *file, unsign
     _Exit(2);
 }
 
-/* Looks up another file than that of the thread's last note. A thread that is in no run has none.
-   Files from LR_FILES on share the last number. */
+/* Looks up the file of a note, if the thread's last note was in another one. A thread outside a run
+   has none. Files from LR_FILES on share the last number. */
 __attribute__((cold)) static inline void lr_turn_to(lr_log *log, const char *file, unsigned line)
 {
     unsigned number = 1;
@@ -112,8 +124,8 @@ LR_AT_ONCE void lr_append(lr_log *log, lr_move move)
     lr_set_count(run->ordered, run->ordered + 1);
 }
 
-/* The same if the file is another one, or the log is full. Other notes make no call, so they have
-   nothing to keep across one. */
+/* The same if the note is in another file than the last one, or the log is full. Other notes call
+   no function, so they need not save registers. */
 __attribute__((cold)) static inline void lr_append_elsewhere(lr_log *log, lr_move move,
                                                              const char *file, unsigned line)
 {

@@ -81,7 +81,7 @@ static inline lr_run *lr_open(const char *lock, unsigned threads, unsigned bits,
                               uint64_t seed, const char *folder)
 {
     if (lr_is_wrong(lock, threads, bits, moves) || lr_folder_fault(folder)) return NULL;
-    /* Until this run is saved its folder has no logs that would pass for its own. */
+    /* Logs of an earlier run must not pass for this one's until it is saved. */
     if (lr_remove_earlier(folder, 0)) return NULL;
     lr_run *run = lr_memory_of(threads, moves, folder);
     if (!run) return NULL;
@@ -128,7 +128,8 @@ static inline void lr_may_begin(const lr_log *log)
     _Exit(2);
 }
 
-/* Lets no thread go on before all have come, or with one at a time before it is its turn. */
+/* A thread waits here until all threads have come, and with one thread at a time until it is its
+   turn. */
 static inline void lr_begin(lr_log *log)
 {
     lr_run *run = log->run;

@@ -14,7 +14,7 @@ static inline int lr_is_on_word(const lr_move *move, unsigned thread, const lr_m
     return (own == LR_OWN ? thread : own) == (others == LR_OWN ? by : others);
 }
 
-/* The lock's value in the word of the move at a place in the order, after the moves before it. */
+/* The published lock's value in the word of a move, after the moves before place `at`. */
 static inline uint64_t lr_left_before(const lr_run *run, const struct lt_step *steps, size_t at,
                                       const lr_move *move)
 {
@@ -36,14 +36,15 @@ static inline const lr_move *lr_move_at(const lr_run *run, size_t at)
     return &run->logs[run->order[at]].moves[before];
 }
 
-/* The count of the last section before a place in the order. */
-static inline uint64_t lr_count_before(const lr_run *run, size_t at)
+/* Says the count of the last section before a place in the order, if there is one. */
+static inline void lr_tell_count(lr_run *run, size_t at)
 {
     while (at--) {
         const lr_move *move = lr_move_at(run, at);
-        if (lr_move_word(move) == LR_STEP_section) return move->value;
+        if (lr_move_word(move) != LR_STEP_section) continue;
+        lr_tell(run->said, ": a section before it has %" PRIu64, move->value);
+        return;
     }
-    return 0;
 }
 
 enum { LR_WORD_TEXT = 24 };
@@ -93,7 +94,7 @@ static inline const char *lr_text_of_step(char *line, const lr_run *run, const s
     return line;
 }
 
-/* Says how the published lock's step differs from that of the thread. */
+/* Says how the published lock's step differs from the thread's. */
 static inline void lr_tell_step(lr_run *run, uint32_t fault, const struct lt_step *step)
 {
     char *said = run->said, text[LR_LINE];
@@ -113,8 +114,7 @@ static inline void lr_tell_step(lr_run *run, uint32_t fault, const struct lt_ste
         lr_tell(said, "'s next step is '%s'", lr_text_of_step(text, run, step));
 }
 
-/* The place in the order of the last move that a thread made before another one; that one's own if
-   there is none. */
+/* The place of the last move before `at` by the same thread; `at` if there is none. */
 static inline size_t lr_last_before(const lr_run *run, size_t at)
 {
     for (size_t i = at; i--;)
@@ -122,8 +122,9 @@ static inline size_t lr_last_before(const lr_run *run, size_t at)
     return at;
 }
 
-/* Whether a thread makes a call without having come through the last one: it did not wait, or did
-   something else too little or too much. Says at which move. */
+/* Says at which move a thread left the published lock's call: at a poll after which it went on,
+   though the lock still waits, or at the step that ended the call, after which it made another one.
+   Returns 0 if it did neither. */
 static inline int lr_tell_call(lr_run *run, const struct lt_step *steps, size_t at, uint32_t fault)
 {
     size_t last = lr_last_before(run, at);
@@ -145,13 +146,25 @@ static inline int lr_tell_call(lr_run *run, const struct lt_step *steps, size_t 
     return 1;
 }
 
+/* Says how to note a record of an MCS lock, if a move names a record that no thread has. */
+static inline void lr_tell_record(lr_run *run, const lr_move *move)
+{
+    unsigned place = lr_move_place(move);
+    int is_pointer = place == LR_PLACE_tail || place == LR_PLACE_next;
+    if (strcmp(run->lock, "mcs")) return;
+    if (lr_move_owner(move) == LR_UNKNOWN || (is_pointer && move->value == LR_UNKNOWN + 1))
+        lr_tell(run->said, ": no thread has this record (lr_own_record says whose it is)");
+    else if (is_pointer && move->value > LR_THREADS)
+        lr_tell(run->said, ": a pointer is noted as LR_RECORD gives it");
+}
+
 /* Says what the published lock does at the move at a place in the order, if that is known. */
 static inline void lr_tell_published(lr_run *run, const struct lt_step *steps, size_t at,
                                      uint32_t fault)
 {
     if (lr_tell_call(run, steps, at, fault)) return;
     if (fault == LT_COUNT_NOT_ABOVE)
-        lr_tell(run->said, ": a section before it has %" PRIu64, lr_count_before(run, at));
+        lr_tell_count(run, at);
     else if (steps[at].line)
         lr_tell_step(run, fault, &steps[at]);
     else if (fault == LT_FOUND_OTHER)

@@ -5,7 +5,7 @@
 static inline void lr_set_record(const void *first, size_t length)
 {
     lr_extent *record = &lr_self->record;
-    /* Another thread that notes a pointer looks this up. */
+    /* Another thread reads this when it notes a pointer. */
     if (record->first && record->first != (uintptr_t)first) lr_touch_all(lr_self->run);
     __atomic_store_n(&record->length, length, __ATOMIC_RELAXED);
     __atomic_store_n(&record->first, (uintptr_t)first, __ATOMIC_RELAXED);
@@ -18,13 +18,14 @@ static inline int lr_has(const lr_log *log, uintptr_t address)
     return first && address - first < length;
 }
 
-/* The thread in whose record an address is, or 255. The thread's own record is looked at first. */
+/* The thread in whose record an address is, or LR_UNKNOWN. The thread's own record is looked at
+   first. */
 static inline unsigned lr_thread_at(const lr_log *log, uintptr_t address)
 {
     if (lr_has(log, address)) return log->thread;
     for (unsigned t = 0; log->run && t < log->run->threads; t++)
         if (lr_has(&log->run->logs[t], address)) return t;
-    return 255;
+    return LR_UNKNOWN;
 }
 
 static inline uint64_t lr_pointer_at(const lr_log *log, uintptr_t address)
@@ -32,8 +33,8 @@ static inline uint64_t lr_pointer_at(const lr_log *log, uintptr_t address)
     return address ? (uint64_t)lr_thread_at(log, address) + 1 : 0;
 }
 
-/* Whose word is at an address. This is asked before the operation: after it that thread may have
-   another record. */
+/* The thread whose word is at an address. It is looked up before the operation: afterwards that
+   thread may have another record. */
 LR_AT_ONCE unsigned lr_owner_at(unsigned place, uintptr_t address)
 {
     if (place != LR_PLACE_next && place != LR_PLACE_locked) return LR_OWN;

@@ -1,15 +1,16 @@
-/* The logs of a run of which every process was killed, made of its notes (mapped.h). */
+/* Makes the logs of a run from its notes (mapped.h) after every process of it was killed. */
 
 #if LR_MAPPED
 
-/* Whether these bytes are a note, and not those of a page that did not come to the disk. */
+/* Whether these bytes are a note, and not part of a page that never reached the disk. */
 static inline int lr_is_note(const lr_move *move)
 {
     return lr_move_word(move) < LR_WORDS && lr_move_place(move) < LR_PLACES &&
            lr_move_part(move) < LR_PARTS && lr_move_file(move);
 }
 
-/* Whether this is the memory of a run of such a program as this one, and its logs' room. */
+/* Whether this is the memory of a run of a program with this one's layout. `room` gets the room of
+   a log. */
 static inline int lr_is_run(const lr_run *run, size_t size, size_t *room)
 {
     char stamp[LR_STAMP];
@@ -21,7 +22,8 @@ static inline int lr_is_run(const lr_run *run, size_t size, size_t *room)
     return places >= 2 && lr_size_of(run->threads, *room) == size;
 }
 
-/* A log's moves are elsewhere in this process, as many as before. */
+/* Sets a log's pointers to its moves in this process. The log ends before the first move that was
+   lost. */
 static inline void lr_find_moves(lr_run *run, unsigned thread, size_t room)
 {
     lr_log *log = &run->logs[thread];
@@ -34,7 +36,7 @@ static inline void lr_find_moves(lr_run *run, unsigned thread, size_t room)
     if (whole < count) log->ended = 0;
 }
 
-/* Makes the logs of a file that no process has any more. */
+/* Makes the logs of a file whose processes have all ended. */
 static inline int lr_recover_of(int file, const char *folder)
 {
     struct stat found;
@@ -55,7 +57,7 @@ static inline int lr_recover_of(int file, const char *folder)
         for (unsigned t = 0; t < run->threads; t++) lr_find_moves(run, t, room);
         fault = lr_save_files(run);
         if (!fault) lr_remove_notes(run);
-        if (!fault) lr_say_kept(folder);
+        if (!fault) lr_say_kept(folder, "");
     }
     munmap(memory, size);
     return fault;

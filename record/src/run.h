@@ -18,6 +18,7 @@
 #include <unistd.h>
 
 enum { LR_THREADS = 64, LR_OWN = 256, LR_NOBODY = 256, LR_APART = 128, LR_SAID = 1024 };
+enum { LR_UNKNOWN = 255 }; /* in place of the thread whose record it is, if none has it */
 enum { LR_FILES = 256, LR_STAMP = 64, LR_NAME = 16 };
 #define LR_NOTES "run.notes"
 
@@ -95,6 +96,12 @@ typedef struct lr_log {
     const char *files[LR_FILES]; /* in which the thread noted, from 1 on */
 } lr_log;
 
+/* A place in the user's source; the line is 0 if there is none. */
+typedef struct lr_place {
+    const char *file;
+    unsigned line;
+} lr_place;
+
 /* A line of a schedule that is followed. */
 typedef struct lr_line {
     unsigned char thread, word;
@@ -125,6 +132,7 @@ typedef struct lr_run {
     unsigned begun;
     int is_over;        /* nobody gets a turn any more */
     int is_crashed;     /* the program ended before the run was saved */
+    int lacks_thread;   /* the system refused one */
     int watch;          /* by which the process that saves it then is told that all is well */
     char said[LR_SAID]; /* why it ended before its threads, or why it is refused */
     lr_log logs[LR_THREADS];
@@ -153,6 +161,7 @@ typedef struct lr_run {
     lr_step *steps;
     size_t stepped, steps_room;
     uint64_t preempted; /* those that made no step since they lost their turn */
+    lr_place unseen;    /* of the first note of a step whose operation had no point */
 } lr_run;
 
 /* The log of the thread that runs, one variable for all files of a program. A thread that has none
@@ -218,6 +227,12 @@ __attribute__((format(printf, 2, 3))) static inline void lr_tell(char *text, con
     va_start(values, format);
     vsnprintf(text + length, LR_SAID - length, format, values);
     va_end(values);
+}
+
+/* Says once that a run cannot keep all that happens in it. */
+static inline void lr_tell_no_memory(lr_run *run, const char *things)
+{
+    if (!run->said[0]) lr_tell(run->said, "no memory for the run's %s", things);
 }
 
 static inline const char *lr_word(unsigned word)

@@ -183,7 +183,8 @@ static inline int lr_save_files(lr_run *run)
     return fault ? fault : lr_save_trace(run, path);
 }
 
-/* Says of which threads a log was full. What is written is right, but it is not the whole run. */
+/* Names the threads whose logs were full. The moves that were written are right, but they are not
+   the whole run. */
 static inline int lr_full_fault(const lr_run *run)
 {
     int fault = 0;

@@ -29,7 +29,7 @@ static inline int lr_read_header(const char *text, char *lock, unsigned *threads
            sscanf(text, "lock %15s threads %u %c", lock, threads, &end) == 2;
 }
 
-/* Reads a line `T WORD`, of which a trace's further parts are not looked at. */
+/* Reads `T WORD` from a line, and ignores the further parts of a trace's. */
 static inline int lr_read_line(const char *text, unsigned threads, unsigned number, lr_line *line)
 {
     char name[16];
@@ -56,27 +56,40 @@ static inline int lr_add_line(lr_run *run, const lr_line *line)
     return 0;
 }
 
-/* Reads a schedule into a run that has only its lock and its bits: 0, or what is wrong is said. */
+/* Reads a line as far as there is room for it: a comment may be longer. Returns 0 at the end. */
+static inline int lr_read_text(char *text, size_t room, FILE *file)
+{
+    size_t length = 0;
+    int byte;
+    while ((byte = getc(file)) != EOF && byte != '\n')
+        if (length + 1 < room) text[length++] = (char)byte;
+    text[length] = '\0';
+    return byte != EOF || length;
+}
+
+/* Reads a schedule into a run that has only its lock and its bits. Returns 0, or an errno. */
 static inline int lr_read_schedule(lr_run *run, FILE *file, const char *path)
 {
     char text[256], lock[16] = "";
     unsigned number = 0, bits = run->bits;
+    int is_wrong = 0;
     lr_line line;
-    while (fgets(text, sizeof text, file)) {
+    while (!is_wrong && lr_read_text(text, sizeof text, file)) {
         number++;
-        if (text[0] == '#' || text[0] == '\n') continue;
-        if (!lock[0] && !lr_read_header(text, lock, &run->threads, &bits)) break;
-        if (run->threads < 1 || run->threads > LR_THREADS) break;
-        if (strcmp(lock, run->lock) || bits != run->bits) {
-            lr_say("%s: it is of the lock %s with %u bits, and not of %s with %u", path, lock, bits,
-                   run->lock, run->bits);
-            return EINVAL;
+        if (text[0] == '#' || !text[0]) continue;
+        if (lock[0]) {
+            is_wrong = !lr_read_line(text, run->threads, number, &line);
+            if (!is_wrong && lr_add_line(run, &line)) return ENOMEM;
+            continue;
         }
-        if (!strncmp(text, "lock ", 5)) continue;
-        if (!lr_read_line(text, run->threads, number, &line)) break;
-        if (lr_add_line(run, &line)) return ENOMEM;
+        is_wrong = !lr_read_header(text, lock, &run->threads, &bits) || run->threads < 1 ||
+                   run->threads > LR_THREADS;
+        if (is_wrong || (!strcmp(lock, run->lock) && bits == run->bits)) continue;
+        lr_say("%s: it is of the lock %s with %u bits, and not of %s with %u", path, lock, bits,
+               run->lock, run->bits);
+        return EINVAL;
     }
-    if (feof(file) && lock[0]) return 0;
+    if (!is_wrong && feof(file) && lock[0]) return 0;
     lr_say("%s:%u: this is no line of a schedule of %u threads", path, number, run->threads);
     return EINVAL;
 }
@@ -159,6 +172,7 @@ static inline int lr_call_one(const lr_driver *driver, const char *path, const c
     called->moves += run->ordered;
     if (is_wrong) lr_say("%s: %s", path, run->said);
     if (is_wrong || !LR_CHECKS) fault = lr_save_trace(run, trace);
+    if (run->lacks_thread) fault = EAGAIN;
     if (!missing) lr_close(run);
     return fault;
 }

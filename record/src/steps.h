@@ -5,10 +5,10 @@
    their operations or by their notes. A section of a monitor, and a step whose note comes without
    such an operation, may touch anything: each step is dependent on them.
 
-   Neighbours that are independent may be swapped: the run comes to the same state, and so does the
-   lock's machine, which goes on by the word and by what its thread did before. So it accepts both
-   traces or neither. After Godefroid, "Partial-Order Methods for the Verification of Concurrent
-   Systems" (1996). */
+   Adjacent steps that are independent may be swapped: the run reaches the same state, and so does
+   the lock's machine, whose step depends only on its word and on what its thread did before. So the
+   machine accepts both traces or neither. After Godefroid, "Partial-Order Methods for the
+   Verification of Concurrent Systems" (1996). */
 
 #if LR_REDUCES
 static inline void lr_touch_all(lr_run *run) { run->footprint.is_all = 1; }
@@ -23,8 +23,8 @@ static inline void lr_touch(lr_log *log, uintptr_t word, size_t size, int writes
     own->writes |= writes;
 }
 
-/* The note of a step has a word, which is in a trace whatever was touched. That of a call has
-   none. */
+/* The note of a step names a word, which the trace has whatever the step touched. The note of a
+   call names none. */
 static inline void lr_touch_noted(lr_log *log, const lr_move *move)
 {
     lr_footprint *own = &log->run->footprint;
@@ -33,6 +33,10 @@ static inline void lr_touch_noted(lr_log *log, const lr_move *move)
     if (owner == LR_OWN) owner = is_of_a_record ? log->thread : 0;
     unsigned noted = place | owner << LR_AT_PLACE;
     if (lr_move_word(move) < LR_STEP_read) return;
+    if (LR_POINTS && !own->size && place && !log->run->unseen.line) {
+        log->run->unseen.file = log->file;
+        log->run->unseen.line = lr_move_line(move);
+    }
     own->is_all |= !own->size || (own->noted && own->noted != noted);
     own->noted = noted;
     own->writes |= lr_move_word(move) != LR_STEP_read;
@@ -70,7 +74,7 @@ static inline void lr_end_step(lr_run *run)
         size_t room = run->steps_room * 2 + 256;
         void *steps = realloc(run->steps, room * sizeof(lr_step));
         if (!steps) {
-            lr_tell(run->said, "no memory for %zu steps", room);
+            lr_tell_no_memory(run, "steps");
             return;
         }
         run->steps = (lr_step *)steps;
@@ -91,7 +95,7 @@ static inline void lr_touch(lr_log *log, uintptr_t word, size_t size, int writes
     (void)log, (void)word, (void)size, (void)writes;
 }
 static inline void lr_touch_noted(lr_log *log, const lr_move *move) { (void)log, (void)move; }
-/* Any step may be what the others wait for. */
+/* Any step may end the others' waits. */
 static inline uint64_t lr_still_stuck(const lr_run *run, unsigned moving)
 {
     (void)run, (void)moving;

@@ -1,4 +1,4 @@
-/* One thread runs at a time: how the turn goes from one to the next.
+/* One thread runs at a time: these functions pass the turn from thread to thread.
 
    A thread keeps its turn until a hook of this header passes it. `lr_choose` says who is next; each
    mode has its own. A thread that goes on itself costs a call; another one costs a semaphore's post
@@ -25,7 +25,8 @@ static inline unsigned lr_after(uint64_t threads, unsigned current)
     return next;
 }
 
-/* The activity of a thread without progress. After a move that is no poll it polls unnoted. */
+/* The activity of a thread that makes no progress. If its last note is no poll, it polls without a
+   note. */
 static inline const char *lr_what_it_does(const lr_run *run, unsigned thread)
 {
     const lr_move *last = lr_last_of(&run->logs[thread]);
@@ -35,7 +36,7 @@ static inline const char *lr_what_it_does(const lr_run *run, unsigned thread)
     return is_poll ? "polls" : last ? "has noted nothing since" : "has noted nothing";
 }
 
-/* Says of each thread that is left what it does; nobody moves any more. */
+/* Says what each thread that has not ended does, since none of them makes progress any more. */
 static inline void lr_hang(lr_run *run)
 {
     lr_tell(run->said, "the run hangs:");
@@ -103,13 +104,14 @@ static inline void lr_pass(lr_log *log)
     lr_await_turn(log);
 }
 
-/* Ends the turn of a section that was noted in a monitor which has been left since. */
+/* Ends the turn of a section, once its thread has left the monitor. */
 static inline void lr_pass_if_due(lr_log *log)
 {
     if (log->turn.is_due) lr_pass(log);
 }
 
-/* Before an atomic operation. After a pass nothing was done yet, so one is enough. */
+/* Passes the turn before an atomic operation, unless the thread is in a monitor or has done nothing
+   since it last passed. */
 static inline void lr_point_of(lr_log *log)
 {
     if (!log->turn.in_monitor && !log->turn.has_passed) lr_pass(log);

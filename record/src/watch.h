@@ -1,16 +1,28 @@
 /* A run that is to be saved is also saved if its program crashes, is killed, or ends too early.
 
    The memory of a run is shared with a process of its own, which waits at a socket. Whatever ends
-   the program closes the socket, also `kill -9`; then that process writes what was noted until
-   then. It has no part in the run, so a note costs nothing more. It is a grandchild, which the
-   program need not wait for, in a session of its own, which no interrupt of a terminal ends. */
+   the program, even `kill -9`, closes the socket; that process then writes what was noted. It has
+   no part in the run, so a note costs nothing more. It is a grandchild, which the program need not
+   wait for, in a session of its own, which no interrupt of a terminal ends. */
 
 static inline int lr_save_files(lr_run *run);
 
-/* The other process: it ends in silence if a byte comes. */
+/* Which thread ran when the program ended, and its last move. */
+static inline void lr_tell_end(char *text, const lr_run *run)
+{
+#if LR_TURNS
+    if (run->holder >= run->threads) return;
+    lr_tell(text, "; thread %u ran", run->holder);
+    lr_tell_last(text, &run->logs[run->holder]);
+#else
+    (void)text, (void)run;
+#endif
+}
+
+/* The other process saves the run when the socket is closed, and only ends if a byte comes. */
 static inline void lr_keep_watch(lr_run *run, int from)
 {
-    char byte;
+    char byte, more[LR_SAID] = "";
     ssize_t got;
     setsid();
     close(0);
@@ -21,12 +33,13 @@ static inline void lr_keep_watch(lr_run *run, int from)
     run->is_crashed = 1;
     if (!lr_save_files(run)) {
         lr_remove_notes(run);
-        lr_say_kept(run->folder);
+        lr_tell_end(more, run);
+        lr_say_kept(run->folder, more);
     }
     _Exit(0);
 }
 
-/* Without another process a run is kept all the same, unless it crashes. */
+/* Without the other process the program saves the run itself, unless it crashes or is killed. */
 static inline void lr_watch(lr_run *run)
 {
     int ends[2];
@@ -44,7 +57,7 @@ static inline void lr_watch(lr_run *run)
     run->watch = ends[1];
 }
 
-/* The run was saved, or nobody wants it. */
+/* Ends the other process: the run was saved, or is not wanted. */
 static inline void lr_leave_unwatched(lr_run *run)
 {
     if (run->watch < 0) return;

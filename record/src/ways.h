@@ -1,5 +1,5 @@
-/* EXPLORE: the ways that are still to be tried. A way is the choices with which a run begins; after
-   them each thread goes on as long as it can. */
+/* EXPLORE: the ways that are still to be tried. A way is the list of choices with which a run
+   begins; after them each thread goes on as long as it can. */
 
 #if LR_EXPLORES
 
@@ -27,7 +27,7 @@ static inline lr_way *lr_take(lr_way **list)
     return way;
 }
 
-/* Adds the way that a run took up to a choice, and there takes another thread. */
+/* Adds the way of a run up to a choice, with another thread chosen there. */
 static inline lr_way *lr_add_way(lr_search *search, const lr_run *run, size_t at, unsigned other,
                                  unsigned cost)
 {

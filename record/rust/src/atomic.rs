@@ -288,8 +288,8 @@ impl<A: Plain> Atomic<A> {
         }
     }
 
-    /// Lets others go first. The record that the word is in is looked for before the operation:
-    /// afterwards its thread may have left it.
+    /// Lets other threads go first. The record that has the word is looked up before the operation:
+    /// afterwards its thread may use another one.
     #[track_caller]
     fn begin(&self, writes: bool) -> (Turn, Option<usize>) {
         let turn = current::turn_of_atomic(self.name.word().is_some());

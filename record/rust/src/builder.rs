@@ -64,17 +64,17 @@ impl RunBuilder {
         RunBuilder { room: moves, ..self }
     }
 
-    /// Spurious wakeups, with [`Mode::Seed`] and [`Mode::Pct`]: one turn in so many wakes a thread
-    /// that waits for a notification, though nobody gave it; 0 means none. They show a thread that
-    /// does not look again after its wait. By default, one turn in 8 has one with an even seed.
-    /// Runs that are [explored](RunBuilder::explore) have them unless this is 0.
+    /// Spurious wakeups, with [`Mode::Seed`] and [`Mode::Pct`]: one turn in this many wakes a
+    /// thread that waits for a notification which nobody gave; 0 means none. They reveal a thread
+    /// that does not test its condition again after its wait. By default, one turn in 8 has one
+    /// with an even seed. Runs that are [explored](RunBuilder::explore) have them unless this is 0.
     pub fn spurious(self, one_in: usize) -> RunBuilder {
         RunBuilder { spurious: Some(one_in), ..self }
     }
 
     /// Whether [explored](RunBuilder::explore) runs leave out orders of steps that touch different
-    /// words, or load the same one; they do if this is not said. What a thread does without an
-    /// atomic, a mutex or a note of this crate is not seen.
+    /// words, or load the same one; they do by default. An operation without an atomic, a mutex or
+    /// a note of this crate is not seen.
     pub fn reduced(self, reduces: bool) -> RunBuilder {
         RunBuilder { reduces, ..self }
     }
@@ -90,9 +90,9 @@ impl RunBuilder {
     ///
     /// # Errors
     ///
-    /// The threads or the bits are such as no run has, the schedule that is to be followed is of
-    /// another lock, the mode has no seed for [wakes](RunBuilder::spurious), memory was refused, or
-    /// a log cannot be [kept](RunBuilder::kept_in).
+    /// No run has these threads or bits, the schedule that is to be followed is of another lock,
+    /// the mode has no seed for [wakes](RunBuilder::spurious), memory was refused, or a log cannot
+    /// be [kept](RunBuilder::kept_in).
     pub fn open(self) -> Result<Run, Error> {
         let (rule, chooser) = match &self.mode {
             Mode::Free | Mode::Noise(_) => (Rule::AtOnce, Chooser::Seed(Draw::new(0))),
@@ -113,16 +113,16 @@ impl RunBuilder {
         self.open_by(rule, chooser, number)
     }
 
-    /// All runs with at most so many *preemptions*: turns taken from a thread that could go on. The
-    /// threads run by turns, whatever the mode. A thread that polled in vain, finding the same in
-    /// one atomic twice in a row, cannot go on until another steps. One that waits for a
-    /// notification may wake up without it, which counts as a preemption.
+    /// All runs with at most this many *preemptions*: turns taken from a thread that could go on.
+    /// The threads run by turns, whatever the mode. A thread that polled in vain, finding the same
+    /// value in one atomic twice in a row, cannot go on until another thread makes a step. A thread
+    /// that waits for a notification may wake up without it, which counts as a preemption.
     ///
     /// Runs with fewer preemptions come first. Each has to be run before the next one is asked for,
-    /// with a new lock. If none is refused and none hangs, no run of these threads with so
-    /// few preemptions is wrong: those left out differ from one that is made only in the order of
-    /// [independent](RunBuilder::reduced) steps. Begin with two threads and a round each: there are
-    /// many runs.
+    /// with a new lock. If none is refused and none hangs, no run of these threads with at most
+    /// this many preemptions is wrong: a run that is left out differs from one that is made only in
+    /// the order of [independent](RunBuilder::reduced) steps. Begin with two threads and a round
+    /// each: there are many runs.
     ///
     /// ```
     /// use lockreplay_record::{AtomicU8, Ending, Error, Lock, Run};

@@ -55,9 +55,9 @@ extern "C" {
 }
 
 impl Run {
-    /// Checks the run's trace as `locktrace check` does, in this process: up to 65,536 moves. It is
-    /// refused too if a thread has not ended, though the lock's machine has let it through its last
-    /// call, or has ended inside a call.
+    /// Checks the run's trace as `locktrace check` does, in this process: up to 65,536 moves. The
+    /// run is refused too if a thread has not ended though the lock's machine has completed its
+    /// last call, or if a thread has ended inside a call.
     ///
     /// With the feature `check` alone, for which the build needs a C compiler.
     ///

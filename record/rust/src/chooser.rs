@@ -1,4 +1,4 @@
-//! The choice of whose turn is next, when one thread runs at a time.
+//! Chooses whose turn is next, when one thread runs at a time.
 // SPDX-License-Identifier: Apache-2.0 OR MIT
 
 use crate::draw::Draw;
@@ -9,9 +9,9 @@ use crate::path::{Effect, Path};
 use crate::priorities::Priorities;
 use crate::tape::Added;
 
-/// The run hangs after this many turns in vain, one after another.
+/// The run hangs after this many turns in vain in a row.
 const PATIENCE: u32 = 20_000;
-/// The same if all runs are explored: there no draw can leave out a thread that makes progress.
+/// The same for a run that is explored, where no draw can leave out a thread that makes progress.
 const PATIENCE_OF_A_PATH: u32 = 1_000;
 
 /// Chooses whose turn is next.
@@ -53,8 +53,8 @@ impl Chooser {
         self.path()?.end_step(holder, ready)
     }
 
-    /// One of those who are ready, after the one whose turn it was; or of those who are asleep, if
-    /// all runs are explored.
+    /// Chooses one of the ready threads, given the one whose turn it was; if all runs are explored,
+    /// also one that is asleep.
     pub(crate) fn choose(
         &mut self,
         holder: Option<usize>,
@@ -69,7 +69,7 @@ impl Chooser {
         }
     }
 
-    /// Which of those who wait for a notification is woken.
+    /// Chooses which of the threads that wait for a notification is woken.
     pub(crate) fn choose_waiter(&mut self, waiters: &[usize]) -> Option<usize> {
         match self {
             Chooser::Seed(draw) => draw.one_of(waiters),

@@ -56,7 +56,7 @@ pub(crate) struct Recorder {
     pub(crate) thread: usize,
     pub(crate) tape: Tape,
     pub(crate) noise: Option<Draw>,
-    /// How many turns are taken, one inside another.
+    /// How deep turns are nested.
     depth: usize,
     /// How many operations on atomics were made in the turn.
     operations: usize,
@@ -154,11 +154,11 @@ pub(crate) fn turn(may_be_step: bool) -> Turn {
     Turn { is_recorded: with(|recorder| recorder.take_turn(may_be_step)).is_some(), source }
 }
 
-/// The same of an operation on an atomic.
+/// The same for an operation on an atomic.
 ///
 /// # Panics
 ///
-/// If it is the second one in a turn, as in an [`operation`] that is none.
+/// If it is the second one in a turn, as in an [`operation`] that is really two.
 #[track_caller]
 pub(crate) fn turn_of_atomic(may_be_step: bool) -> Turn {
     let turn = turn(may_be_step);
@@ -240,13 +240,13 @@ pub(crate) fn touch(address: usize, writes: bool) {
     with(|recorder| recorder.shared.turns.touch(|step| step.touch(address, writes)));
 }
 
-/// Something was done at an address that is not noted. What changed nothing may be a poll.
+/// An operation without a note was made at an address. One that changed nothing may be a poll.
 pub(crate) fn unnoted(address: usize, changed: bool) {
     with(|recorder| recorder.shared.turns.unnoted(recorder.thread, address, changed));
 }
 
-/// Writes a step that the atomics cannot know of. It belongs right after its operation, and both
-/// into one [`operation`].
+/// Writes a step that the atomics cannot know of. The note belongs right after its operation, and
+/// both belong into one [`operation`].
 ///
 /// ```
 /// use lockreplay_record::{note, operation, AtomicU32, Step, Word};
@@ -269,12 +269,12 @@ pub fn note(step: Step) {
     with(|recorder| recorder.note(Move::Step(step), source));
 }
 
-/// One operation of several parts, as an atomic's and its notes: no other thread gets its turn in
-/// it. It must not wait for another thread.
+/// Makes one operation of several parts, such as an atomic operation and its notes: no other thread
+/// gets a turn within it. It must not wait for another thread.
 ///
 /// # Panics
 ///
-/// If a second operation on an atomic is made in it: then it is not one.
+/// If a second operation on an atomic is made in it: then the parts are not one operation.
 #[track_caller]
 pub fn operation<R>(parts: impl FnOnce() -> R) -> R {
     let _turn = turn(true);

@@ -70,7 +70,7 @@ pub enum Error {
         /// The fault, and the step of the published lock there.
         reason: String,
     },
-    /// A thread that has come through its call, by the lock's machine, has not ended.
+    /// A thread has not ended, though the lock's machine has completed its call.
     GoesOn {
         /// The thread.
         thread: usize,

@@ -90,8 +90,8 @@ impl Following {
         std::mem::take(&mut self.is_made)
     }
 
-    /// Whose turn is next of those who are ready: the due line's thread, and after the last line
-    /// each, so that it comes to its end. Nobody, if that thread has ended.
+    /// Chooses the thread of the due line, or nobody if that thread has ended. After the last line
+    /// it chooses each ready thread, so that it comes to its end.
     pub(crate) fn choose(&mut self, ready: &[usize]) -> Option<usize> {
         let thread = match self.due() {
             Some(line) => line.thread,
@@ -121,7 +121,7 @@ impl Following {
         }
     }
 
-    /// The first departure counts: what comes after it, the threads do while they are stopped.
+    /// Only the first departure counts: the threads make later ones while they are being stopped.
     fn depart(&mut self, thread: usize, did: Did) {
         let due = self.due();
         self.departure.get_or_insert(Departure { due, thread, did });

@@ -5,10 +5,10 @@
 //! which an earlier one took, and a note without an operation, may touch anything: each step is
 //! dependent on them.
 //!
-//! Neighbours that are independent may be swapped: the run comes to the same state, and so does the
-//! lock's machine, which goes on by the word and by what its thread did before. So it accepts both
-//! traces or neither. After Godefroid, "Partial-Order Methods for the Verification of Concurrent
-//! Systems" (1996).
+//! Adjacent steps that are independent may be swapped: the run reaches the same state, and so does
+//! the lock's machine, whose step depends only on its word and on what its thread did before. So
+//! the machine accepts both traces or neither. After Godefroid, "Partial-Order Methods for the
+//! Verification of Concurrent Systems" (1996).
 // SPDX-License-Identifier: Apache-2.0 OR MIT
 
 use crate::moves::{Move, Word};
@@ -16,7 +16,7 @@ use crate::moves::{Move, Word};
 /// A word that a note names.
 #[derive(Clone, Copy, Debug, PartialEq, Eq)]
 enum Noted {
-    /// It has the thread in whose record it is.
+    /// The thread in whose record the word is.
     Word(Word, Option<usize>),
     Section,
 }
@@ -45,7 +45,7 @@ impl Footprint {
         self.is_all = true;
     }
 
-    /// A move was noted. That of a call has no word.
+    /// A move was noted. A call's move has no word.
     pub(crate) fn note(&mut self, thread: usize, made: &Move) {
         let noted = match made {
             Move::Call(_) => return,

@@ -106,10 +106,11 @@
 //! # What is not recorded
 //!
 //! A thread that has no [`Log`], and one that panics, records nothing: its operations are made as
-//! they are. So a lock with these atomics can be used without a run, for a look at a thread-local
-//! variable each. Without the feature `record`, which is on by default, the same types are those of
-//! the standard library in all but name: they are as large, and nothing of the notes is left. A
-//! lock's own crate depends on this one with `default-features = false`, and its tests with them.
+//! they are. So a lock with these atomics can be used without a run; each operation then costs a
+//! look at a thread-local variable. Without the feature `record`, which is on by default, the same
+//! types are those of the standard library in all but name: they are as large, and nothing of the
+//! notes is left. A lock's own crate depends on this one with `default-features = false`, and its
+//! tests with them.
 // SPDX-License-Identifier: Apache-2.0 OR MIT
 #![deny(unsafe_code)] // but for the two calls of a C library in `check`
 #![cfg_attr(not(feature = "check"), forbid(unsafe_code))]

@@ -11,7 +11,7 @@ use crate::mode::Mode;
 /// How many runs have a number from the time, which two runs of one process may have in common.
 static OPENED: AtomicU64 = AtomicU64::new(0);
 
-/// From the seed or the schedule if that decides the run, else from the time.
+/// The number comes from the seed or the schedule if that decides the run, else from the time.
 pub(crate) fn of(mode: &Mode) -> u64 {
     match mode {
         Mode::Seed(seed) | Mode::Pct { seed, .. } => Draw::new(*seed).next(),

@@ -1,4 +1,5 @@
-//! The next thread of a run that is explored: by the given choices, and then without preemption.
+//! Chooses the next thread of a run that is explored: first by the given choices, then without
+//! preemption.
 // SPDX-License-Identifier: Apache-2.0 OR MIT
 
 use std::mem;
@@ -10,9 +11,9 @@ use crate::reduce::Step;
 #[derive(Clone, Debug)]
 pub(crate) struct Decision {
     options: Vec<usize>,
-    /// Those who wait for a notification. To choose one of them instead is a spurious wakeup.
+    /// The threads that wait for a notification. The choice of one of them is a spurious wakeup.
     asleep: Vec<usize>,
-    /// The thread that had the turn, if it could go on. Another one in its place is a preemption.
+    /// The thread that had the turn, if it could go on. The choice of another one is a preemption.
     running: Option<usize>,
     chosen: usize,
     /// How many steps were made before.
@@ -20,7 +21,7 @@ pub(crate) struct Decision {
 }
 
 impl Decision {
-    /// All who could have been chosen.
+    /// All threads that could have been chosen.
     fn all(&self) -> impl Iterator<Item = &usize> {
         self.options.iter().chain(&self.asleep)
     }
@@ -30,7 +31,7 @@ impl Decision {
         self.running.is_some() || self.asleep.contains(&other)
     }
 
-    /// Who else could have been chosen, each with whether that is a preemption.
+    /// The other threads that could have been chosen, each with whether that is a preemption.
     pub(crate) fn others(&self) -> impl Iterator<Item = (usize, bool)> + '_ {
         let others = self.all().filter(|&&it| it != self.chosen);
         others.map(|&other| (other, self.costs(other)))
@@ -58,8 +59,8 @@ pub(crate) enum Effect {
     Again,
 }
 
-/// The threads that have polled in vain since anybody made a step; or one on which their poll is
-/// dependent, if steps have footprints.
+/// The threads that have polled in vain, and no thread has made a step since. If steps have
+/// footprints, only a step on which the poll is dependent counts.
 #[derive(Debug, Default)]
 pub(crate) struct Stuck(Vec<usize>);
 
@@ -78,7 +79,7 @@ impl Stuck {
         self.0.retain(|&stuck| stuck != thread);
     }
 
-    /// Those of the ready who are not stuck.
+    /// The ready threads that are not stuck.
     pub(crate) fn free(&self, ready: &[usize]) -> Vec<usize> {
         ready.iter().copied().filter(|thread| !self.0.contains(thread)).collect()
     }
@@ -98,18 +99,18 @@ pub(crate) struct Path {
     has_moved: bool,
     stuck: Stuck,
     has_strayed: bool,
-    /// Nothing, if each order of independent steps is tried.
+    /// `None` if each order of independent steps is tried.
     record: Option<Record>,
 }
 
-/// The steps of a run, and what their words are.
+/// The steps of a run, and the words that they touch.
 #[derive(Debug, Default)]
 struct Record {
     footprint: Footprint,
     steps: Vec<Step>,
-    /// What each thread that polled in vain polls.
+    /// The footprint of the poll of each thread that polled in vain.
     polls: Vec<(usize, Footprint)>,
-    /// Those who made no step since they lost their turn.
+    /// The threads that made no step since they lost their turn.
     preempted: Vec<usize>,
 }
 
@@ -154,8 +155,9 @@ impl Path {
         Some(footprint)
     }
 
-    /// Who of those who are ready goes on. A thread that polled in vain does not, as long as there
-    /// is another one; if all did, they poll by turns. One that is asleep may wake up spuriously.
+    /// Chooses which ready thread goes on. A thread that polled in vain does not, as long as there
+    /// is another one; if all of them did, they poll by turns. A thread that is asleep may wake up
+    /// spuriously.
     pub(crate) fn choose(
         &mut self,
         holder: Option<usize>,
@@ -185,21 +187,22 @@ impl Path {
         self.steps().len()
     }
 
-    /// Who goes on if nobody could: one that lost its turn only after all others. It may sleep.
+    /// The thread that goes on if the last one cannot: a preempted thread comes only after all
+    /// others, since it may sleep.
     fn first_of(&self, free: &[usize], holder: Option<usize>) -> Option<usize> {
         let preempted = self.record.as_ref().map_or(&[][..], |record| &record.preempted);
         let others = free.iter().copied().filter(|thread| !preempted.contains(thread));
         after(&others.collect::<Vec<_>>(), holder).or_else(|| after(free, holder))
     }
 
-    /// Which of those who wait is woken. That is no preemption.
+    /// Chooses which waiting thread is woken. The choice is no preemption.
     pub(crate) fn choose_waiter(&mut self, waiters: &[usize]) -> Option<usize> {
         let first = *waiters.first()?;
         let (options, asleep, step) = (waiters.to_vec(), Vec::new(), self.step());
         Some(self.decide(Decision { options, asleep, running: None, chosen: first, step }))
     }
 
-    /// Chooses as the way says, and after the way's end what is chosen already.
+    /// Chooses as the way says, and after the way's end what the decision has already.
     fn decide(&mut self, first: Decision) -> usize {
         if first.options.len() + first.asleep.len() == 1 {
             return first.chosen;
@@ -225,14 +228,14 @@ impl Path {
         }
     }
 
-    /// Whether a choice of the way was none here, or did not come up: the threads did not do what
-    /// they did before.
+    /// Whether a choice of the way was not possible here, or did not come up: the threads did not
+    /// repeat what they did before.
     pub(crate) fn has_strayed(&self) -> bool {
         self.has_strayed || self.made.len() < self.way.len()
     }
 
-    /// The ways that leave this run after its own way, each with whether it has one preemption
-    /// more.
+    /// The ways that leave this run after its own way, each with whether it has one more
+    /// preemption.
     pub(crate) fn others(&self) -> Vec<(Way, bool)> {
         let places = self.made.iter().enumerate().skip(self.way.len());
         let others = places.flat_map(|(place, decision)| {
@@ -241,7 +244,7 @@ impl Path {
         others.collect()
     }
 
-    /// The way of this run up to a decision, and there another thread.
+    /// The way of this run up to a decision, with another thread chosen there.
     pub(crate) fn way_to(&self, place: usize, other: usize) -> Way {
         let same = self.made.iter().take(place).map(|decision| decision.chosen);
         same.chain([other]).collect()

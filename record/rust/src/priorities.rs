@@ -1,8 +1,8 @@
 //! Turns by priorities, which change at few drawn turns.
 //!
 //! After Burckhardt, Kothari, Musuvathi and Nagarakatte, "A randomized scheduler with probabilistic
-//! guarantees of finding bugs" (ASPLOS 2010). What is different here: a thread that polled in vain
-//! is passed over until another one made a step, as if it were blocked.
+//! guarantees of finding bugs" (ASPLOS 2010). Unlike there, a thread that polled in vain is skipped
+//! until another thread has made a step, as if it were blocked.
 // SPDX-License-Identifier: Apache-2.0 OR MIT
 
 use crate::draw::Draw;
@@ -33,7 +33,7 @@ impl Priorities {
         Priorities { draw, of, changes, turns: 0, stuck: Stuck::default() }
     }
 
-    /// Who of those who are ready goes on.
+    /// Chooses which ready thread goes on.
     pub(crate) fn choose(&mut self, holder: Option<usize>, ready: &[usize]) -> Option<usize> {
         self.turns += 1;
         self.lower(holder);
@@ -52,8 +52,8 @@ impl Priorities {
         self.stuck.made(thread, effect);
     }
 
-    /// At a drawn turn the thread that runs gets a priority below all that were drawn, and below
-    /// those that an earlier change of the list gives.
+    /// At a drawn turn the running thread gets a priority below all drawn ones, and below those
+    /// that earlier changes in the list give.
     fn lower(&mut self, holder: Option<usize>) {
         let turns = self.turns;
         let lowest = (0..self.changes.len()).rev().zip(&self.changes);

@@ -7,7 +7,7 @@ use crate::lock::Lock;
 use crate::moves::{self, Call, Move, Outcome, Word};
 use crate::tape::Source;
 
-/// The faults of record/locktrace.h of which more is said.
+/// The faults of record/locktrace.h that are explained further.
 const BUSY: u32 = 3;
 const NO_CALL: u32 = 6;
 const OTHER_WORD: u32 = 8;
@@ -32,7 +32,8 @@ const OUTCOMES: [Outcome; 4] = [
 /// A move of a run, by its thread, and where in the source it was made.
 pub(crate) type Made = (usize, Move, Source);
 
-/// What the published lock does there, to be appended to a fault; nothing if that is not known.
+/// The published lock's step at a refused move, to be appended to the fault; empty if it is not
+/// known.
 pub(crate) fn told(lock: Lock, moves: &[Made], steps: &[Step], answer: &Answer) -> String {
     let said = usize::try_from(answer.moves).ok().and_then(|at| {
         let of_call = told_of_call(moves, steps, at, answer.fault);
@@ -44,7 +45,8 @@ pub(crate) fn told(lock: Lock, moves: &[Made], steps: &[Step], answer: &Answer) 
     said.map_or_else(String::new, |said| format!(": {said}"))
 }
 
-/// For a call before the last one is over, or a step after it: the move before it.
+/// For a call that comes before the last one is over, or a step that comes after its end: the
+/// thread's move before it.
 fn told_of_call(moves: &[Made], steps: &[Step], at: usize, fault: u32) -> Option<String> {
     let (thread, made, _) = moves.get(at)?;
     let last = moves.get(..at)?.iter().rposition(|(by, ..)| by == thread)?;

@@ -1,19 +1,19 @@
-//! Whose MCS record an address is in, so that a pointer to it has a value.
+//! Finds the thread in whose MCS record an address is, which gives a pointer its value in a trace.
 //!
 //! Nothing is read through the addresses: a record may be gone already.
 // SPDX-License-Identifier: Apache-2.0 OR MIT
 
 use std::sync::atomic::{AtomicUsize, Ordering};
 
-/// The owner of a record that no thread has named, as a wrong lock may reach: no run has so many
-/// threads.
+/// The owner of a record that no thread has named, which a wrong lock may reach. No run has a
+/// thread of this number.
 pub(crate) const NOBODY: usize = 255;
 
 /// The record of each thread.
 #[derive(Debug)]
 pub(crate) struct Records(Vec<Extent>);
 
-/// Where a record begins, and how long it is. It begins at 0 as long as there is none.
+/// The address and the length of a record. The address is 0 as long as there is none.
 #[derive(Debug, Default)]
 struct Extent {
     first: AtomicUsize,
@@ -33,7 +33,7 @@ impl Records {
         Records((0..threads).map(|_| Extent::default()).collect())
     }
 
-    /// From now on the thread's record is this. Whether it had another one.
+    /// Makes this the thread's record. Returns whether it had another one.
     pub(crate) fn set<T: ?Sized>(&self, thread: usize, record: &T) -> bool {
         let first = (record as *const T).cast::<u8>() as usize;
         let own = self.0.get(thread).map(|extent| (extent, extent.first.load(Ordering::Relaxed)));
@@ -47,7 +47,7 @@ impl Records {
         }
     }
 
-    /// The thread in whose record an address is; `own` is looked at first.
+    /// The thread in whose record an address is. The record of `own` is looked at first.
     pub(crate) fn owner_of(&self, address: usize, own: usize) -> usize {
         let is_own = self.0.get(own).map_or(false, |extent| extent.has(address));
         let found = if is_own { Some(own) } else { self.0.iter().position(|e| e.has(address)) };

@@ -53,10 +53,11 @@ impl Shared {
 pub enum Ending {
     /// All threads came to their end.
     Complete,
-    /// These threads did not, and nobody got on: there was nothing but failed polls and waits.
+    /// These threads did not end, and no thread made progress: there was nothing but failed polls
+    /// and waits.
     Hangs(Vec<usize>),
-    /// These threads did not: its time was over, though it may only have been slow; or the schedule
-    /// that it followed ends in the middle of their calls. Their logs end there.
+    /// These threads did not end. The run's time was over, though it may only have been slow; or
+    /// the schedule that it followed ends in the middle of their calls. Their logs end there.
     Stopped(Vec<usize>),
     /// The lock left the schedule that the run followed. The move that it made is the last one of
     /// the run.
@@ -100,7 +101,7 @@ impl Run {
     ///
     /// # Panics
     ///
-    /// If the work panics, with the same. Clones of the run have what was noted until then.
+    /// If the work panics, with the same payload. Clones of the run have what was noted until then.
     pub fn threads<F>(&self, limit: Duration, work: F) -> Result<Ending, Error>
     where
         F: Fn(&Log) + Sync,
@@ -159,12 +160,12 @@ impl Run {
         self.0.turns.stage().path().map(look)
     }
 
-    /// Begins to record on the thread that calls, as this thread of the run. It waits until all
+    /// Begins to record on the calling thread, as this thread of the run. It waits until all
     /// threads of the run have come. [`Run::threads`] does this for threads that it starts.
     ///
     /// # Errors
     ///
-    /// There is no such thread, it has come before, the thread that calls has a log already, or the
+    /// There is no such thread, it has come before, the calling thread has a log already, or the
     /// run was stopped.
     pub fn enter(&self, thread: usize) -> Result<Log, Error> {
         let Header { threads, .. } = self.0.header;
@@ -190,8 +191,8 @@ impl Run {
         Ok(log)
     }
 
-    /// Waits until all threads have ended, and stops them if they do not end in time. The threads
-    /// that have not ended are the answer. [`Run::threads`] does this for threads that it starts.
+    /// Waits until all threads have ended, and stops them if they do not end in time. Returns the
+    /// threads that have not ended. [`Run::threads`] does this for threads that it starts.
     pub fn wait(&self, limit: Duration) -> Vec<usize> {
         self.0.turns.wait(limit)
     }
@@ -234,7 +235,7 @@ fn ended(handle: ScopedJoinHandle<'_, Result<(), Error>>) -> Result<(), Error> {
     }
 }
 
-/// A thread's log of a run. Until it is dropped, what the thread does to its lock is written.
+/// A thread's log of a run. Until it is dropped, it records what the thread does to its lock.
 #[derive(Debug)]
 pub struct Log {
     shared: Arc<Shared>,

@@ -86,8 +86,7 @@ fn write_file(
     out.flush()
 }
 
-/// The header, after comments by which runs are told apart, and that say how the run can be had
-/// again.
+/// The header, after comments that identify the run and say how to repeat it.
 fn write_header(run: &Shared, out: &mut impl Write) -> io::Result<()> {
     writeln!(out, "# run {:016x}", run.number)?;
     match run.mode {

@@ -14,8 +14,8 @@ use crate::moves::Call;
 
 /// Which thread moves next, and which move that is, for [`Mode::Follow`](crate::Mode::Follow).
 ///
-/// Its clones share their lines. The text is that of `docs/FORMATS.md`; a trace is one too, and
-/// its values are not looked at.
+/// Its clones share their lines. `docs/FORMATS.md` describes its text, which may be a trace; the
+/// values of a trace are ignored.
 ///
 /// ```
 /// use lockreplay_record::{Error, Lock, Schedule};
@@ -53,7 +53,8 @@ impl Schedule {
     pub fn read(path: impl AsRef<Path>) -> Result<Schedule, Error> {
         let path = path.as_ref();
         let refused = |error| Error::Read { path: path.to_owned(), error };
-        fs::read_to_string(path).map_err(refused)?.parse()
+        let text = fs::read(path).map_err(refused)?;
+        String::from_utf8_lossy(&text).parse() // comments may hold any bytes
     }
 
     /// The lock that it is of.
@@ -145,7 +146,7 @@ fn header_of(line: &str) -> Option<(Lock, usize, Option<u32>)> {
     header.checked().ok().map(|_| (lock, threads, bits))
 }
 
-/// Reads `T WORD`, of which a trace's further parts are not looked at.
+/// Reads `T WORD`, and ignores the further parts of a trace's line.
 fn move_of(line: &str, number: usize, threads: usize) -> Option<Line> {
     let mut words = line.split(' ');
     let thread = words.next()?.parse().ok().filter(|&thread| thread < threads)?;

@@ -34,7 +34,7 @@ pub(crate) enum Next {
     Thread(usize),
     /// All threads have gone.
     Nobody,
-    /// Threads are left, and none of them gets on.
+    /// Threads are left, and none of them makes progress.
     StandsStill,
 }
 
@@ -46,14 +46,15 @@ pub(crate) struct Stage {
     wakes: Option<Wakes>,
     pub(crate) turns: usize,
     in_vain: u32,
-    /// Where each thread looked last without a note, if nobody has made a step since; or one that
-    /// may have changed it, if steps have footprints.
+    /// The address at which each thread last looked without a note. A later step removes it; if
+    /// steps have footprints, only a step of the same thread, or one that may have changed that
+    /// address.
     looks: Vec<Option<usize>>,
     order: Vec<u8>,
     pub(crate) is_cut: bool,
-    /// Nobody got on, by turns that no schedule gave.
+    /// No thread made progress, and no schedule gave the turns.
     has_hung: bool,
-    /// The thread that had its turn when the time was over, and had not given it back for a while.
+    /// The thread that had the turn when the time was over, and did not give it back for a while.
     pub(crate) blocked: Option<usize>,
 }
 
@@ -129,7 +130,7 @@ impl Stage {
         }
     }
 
-    /// The words on a thread's end. If the run was stopped, nobody knows whether the thread would
+    /// The words on a thread's end. If the run was stopped, it is unknown whether the thread would
     /// have gone on.
     pub(crate) fn end_of(&self, thread: usize) -> &'static str {
         match self.phase(thread) {
@@ -139,7 +140,7 @@ impl Stage {
         }
     }
 
-    /// Whether nobody got on, by turns that no schedule gave.
+    /// Whether no thread made progress, though no schedule gave the turns.
     pub(crate) fn has_hung(&self) -> bool {
         self.has_hung
     }
@@ -149,7 +150,7 @@ impl Stage {
         self.in_vain < self.chooser.patience()
     }
 
-    /// Whether a turn is over since the move of its line was made. If it is, the next one begins.
+    /// Whether the turn is over, since its line's move was made. If it is, the next turn begins.
     pub(crate) fn ends_line(&mut self) -> bool {
         match &mut self.chooser {
             Chooser::Lines(following) => following.ends_turn(),
@@ -157,7 +158,7 @@ impl Stage {
         }
     }
 
-    /// A thread comes to an operation in its line's turn: whether it may make it.
+    /// Whether a thread may make the operation to which it comes in its line's turn.
     pub(crate) fn goes_on(&mut self, thread: usize) -> bool {
         self.in_vain += 1;
         if !self.is_patient() {
@@ -180,8 +181,8 @@ impl Stage {
         self.chooser.made(thread, kind, added);
     }
 
-    /// A step was made: its thread has looked nowhere since, and nor has any other one, unless the
-    /// step's footprint tells.
+    /// A step was made, so its thread's last look is forgotten. Without footprints the other
+    /// threads' are too.
     fn forget_looks(&mut self, thread: usize) {
         match self.chooser.footprint() {
             Some(_) => self.looks.iter_mut().skip(thread).take(1).for_each(|look| *look = None),
@@ -194,8 +195,8 @@ impl Stage {
         self.chooser.footprint()
     }
 
-    /// Something was done at an address that is not noted. A second look is in vain if nobody has
-    /// made a step since the first one: then it finds the same.
+    /// An operation without a note was made at an address. A second look there is in vain if no
+    /// thread has made a step since the first one: then it finds the same.
     pub(crate) fn unnoted(&mut self, thread: usize, address: usize, changed: bool) {
         let last = self.looks.get_mut(thread).and_then(|look| look.replace(address));
         let effect = match last {
@@ -218,7 +219,7 @@ impl Stage {
         self.in_vain = if effect == Effect::Step { 0 } else { self.in_vain + 1 };
     }
 
-    /// A thread could have had its turn, though nothing was done. It gets on all the same.
+    /// Another thread could have had its turn, though nothing was done: that counts as progress.
     pub(crate) fn switched(&mut self) {
         if let Chooser::Seed(_) | Chooser::Priorities(_) = self.chooser {
             self.in_vain = 0;
@@ -284,7 +285,7 @@ impl Stage {
         }
     }
 
-    /// The thread of each move, in order.
+    /// The thread of each move, in the order of the moves.
     pub(crate) fn order(&self) -> &[u8] {
         &self.order
     }

@@ -33,7 +33,7 @@ pub(crate) enum Rule {
     AtOnce,
     /// If no other thread makes one.
     Alone,
-    /// In its turn, which may be another one's before each operation.
+    /// In its turn, which may pass to another thread before each operation.
     ByTurns,
     /// In its turn, which ends with the move of its line.
     ByLines,
@@ -197,7 +197,7 @@ impl Turns {
         }
     }
 
-    /// A move of the thread was noted. If it is not that of its line, the run ends there.
+    /// A move of the thread was noted. If the line has another move, the run ends there.
     pub(crate) fn noted(&self, thread: usize, kind: Kind, added: Added) {
         if self.rule == Rule::AtOnce {
             return;
@@ -211,14 +211,14 @@ impl Turns {
         }
     }
 
-    /// Says what words the step touches that is made, if all runs are explored.
+    /// Says which words the current step touches, if all runs are explored.
     pub(crate) fn touch(&self, touch: impl FnOnce(&mut Footprint)) {
         if self.explores {
             self.stage().footprint().map(touch);
         }
     }
 
-    /// Something was done at an address that is not noted. What changed nothing may be a poll.
+    /// An operation without a note was made at an address. One that changed nothing may be a poll.
     pub(crate) fn unnoted(&self, thread: usize, address: usize, changed: bool) {
         if self.is_by_turns() {
             self.stage().unnoted(thread, address, changed);
@@ -267,7 +267,8 @@ impl Turns {
         stage.missing()
     }
 
-    /// By turns: the time is over, and if no turn comes for a while, the thread that has it blocks.
+    /// By turns, once the time is over: if the turn does not change for a while, the thread that
+    /// has it blocks.
     fn look_who_blocks<'a>(&'a self, stage: MutexGuard<'a, Stage>) -> MutexGuard<'a, Stage> {
         let before = stage.turns;
         if !self.is_by_turns() || stage.holder.is_none() {

@@ -11,7 +11,7 @@ use crate::mode::Mode;
 /// By default an even seed wakes a thread at one turn in this many.
 const BY_ITSELF: usize = 8;
 
-/// Whom a seed wakes spuriously, and when.
+/// Chooses which thread a seed wakes spuriously, and when.
 #[derive(Debug)]
 pub(crate) struct Wakes {
     draw: Draw,
@@ -19,8 +19,8 @@ pub(crate) struct Wakes {
 }
 
 impl Wakes {
-    /// At one turn in `asked`, by numbers of the run's seed other than those of its turns; none if
-    /// that is 0. By default even seeds have some.
+    /// Wakes a thread at one turn in `asked`, or never if that is 0, by numbers of the run's seed
+    /// that do not decide its turns. By default even seeds wake threads.
     pub(crate) fn of(mode: &Mode, asked: Option<usize>) -> Result<Option<Wakes>, Error> {
         let seed = match (mode, asked) {
             (Mode::Seed(seed) | Mode::Pct { seed, .. }, _) => *seed,

@@ -1,5 +1,5 @@
-//! What an atomic of the standard library has besides its operations: how it is made, and how its
-//! value is taken. Nobody else sees it then, so this is no step.
+//! How an atomic of the standard library is made, and how its value is taken. No other thread can
+//! see it then, so neither is a step.
 // SPDX-License-Identifier: Apache-2.0 OR MIT
 
 use std::ptr;

@@ -5,7 +5,8 @@
 macro_rules! as_std {
     ($name:ident, $atomics:path, $monitor:path) => {
         mod $name {
-            use std::sync::atomic::Ordering::SeqCst;
+            use std::panic::{catch_unwind, AssertUnwindSafe};
+            use std::sync::atomic::Ordering::{Acquire, Release, SeqCst};
             use std::sync::{PoisonError, TryLockError};
             use std::thread;
 
@@ -79,6 +80,27 @@ macro_rules! as_std {
                 assert!(word.swap(pointer, SeqCst).is_null());
                 assert_eq!(*word.get_mut(), pointer);
                 assert_eq!(AtomicPtr::from(pointer).into_inner(), word.into_inner());
+            }
+
+            /// A load does not release, nor does a store acquire. The compiler refuses such an
+            /// order if it sees it.
+            #[test]
+            fn of_wrong_orders() {
+                let word = AtomicU8::new(1);
+                for (acquire, release, is_wrong) in
+                    [(Acquire, Release, true), (SeqCst, SeqCst, false)]
+                {
+                    let makes: [&dyn Fn(); 5] = [
+                        &|| assert_eq!(word.load(release), 1),
+                        &|| word.store(1, acquire),
+                        &|| assert_eq!(word.compare_exchange(2, 3, SeqCst, release), Err(1)),
+                        &|| assert_eq!(word.compare_exchange_weak(2, 3, SeqCst, release), Err(1)),
+                        &|| assert_eq!(word.fetch_update(SeqCst, release, |_| None), Err(1)),
+                    ];
+                    for make in makes {
+                        assert_eq!(catch_unwind(AssertUnwindSafe(make)).is_err(), is_wrong);
+                    }
+                }
             }
 
             #[test]

@@ -93,6 +93,47 @@ fn a_step_frees_those_who_polled_in_vain() -> Result<(), Error> {
     Ok(())
 }
 
+/// A look at one word and then at another is no poll in vain, nor are two looks with a step between
+/// them: without a preemption thread 0 makes all of its additions before thread 1's, or after it.
+#[test]
+fn looks_that_are_not_in_vain() -> Result<(), Error> {
+    type Work = fn(&AtomicBool, &AtomicBool, &AtomicU8);
+    let rows: [(Work, [&str; 2]); 2] = [
+        (
+            |one, other, _| {
+                one.load(SeqCst);
+                other.load(SeqCst);
+            },
+            ["01", "10"],
+        ),
+        (
+            |one, _, word| {
+                one.load(SeqCst);
+                word.fetch_add(1, SeqCst);
+                one.load(SeqCst);
+            },
+            ["001", "100"],
+        ),
+    ];
+    for (work, due) in rows {
+        let mut orders = Vec::new();
+        for run in Run::of(Lock::Ticket, 2).explore(0) {
+            let (run, [one, other]) = (run?, [AtomicBool::new(false), AtomicBool::new(false)]);
+            let word = AtomicU8::new(0).noted(Word::NextTicket);
+            run.threads(LIMIT, |log| {
+                if log.thread() == 0 {
+                    work(&one, &other, &word);
+                }
+                word.fetch_add(1, SeqCst);
+            })?;
+            orders.push(run.trace()?.lines().skip(2).map(|line| &line[..1]).collect::<String>());
+        }
+        orders.sort_unstable();
+        assert_eq!(orders, due);
+    }
+    Ok(())
+}
+
 /// Two wait for a notification, and each of them is woken in some run.
 #[test]
 fn who_is_woken_is_explored() -> Result<(), Error> {

@@ -5,8 +5,8 @@
 mod ticket;
 
 use std::sync::atomic::Ordering::SeqCst;
-use std::thread;
 use std::time::Duration;
+use std::{env, fs, process, thread};
 
 use lockreplay_record::{
     call, note, operation, switch, AtomicBool, AtomicU8, Call, Condvar, Ending, Error, Lock, Log,
@@ -183,6 +183,26 @@ fn a_section_is_a_turn() -> Result<(), Error> {
     let outcomes: Vec<&str> =
         trace.lines().skip(2).filter_map(|line| line.split(' ').nth(3)).collect();
     assert_eq!(outcomes, ["entered", "waits", "waits", "waits", "left", "entered"]);
+    Ok(())
+}
+
+#[test]
+fn a_schedule_says_whose_it_is() -> Result<(), Error> {
+    for (bits, due) in [("", None), (" bits 8", Some(8))] {
+        let text = format!("# of two\nlock ticket threads 2{bits}\n\n0 acquire\n#\n0 add\n");
+        let it: Schedule = text.parse()?;
+        assert_eq!((it.lock(), it.threads(), it.bits(), it.moves()), (Lock::Ticket, 2, due, 2));
+    }
+    Ok(())
+}
+
+#[test]
+fn a_comment_may_hold_any_bytes() -> Result<(), Error> {
+    let path = env::temp_dir().join(format!("lockreplay-bytes-{}.schedule", process::id()));
+    fs::write(&path, b"# \xFF\x00\nlock mcs threads 2\n1 acquire\n").expect("there is room");
+    let read = Schedule::read(&path);
+    fs::remove_file(&path).expect("it was written");
+    assert_eq!(read?, "#\nlock mcs threads 2\n1 acquire\n".parse()?);
     Ok(())
 }
 

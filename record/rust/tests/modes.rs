@@ -5,18 +5,20 @@
 
 mod ticket;
 
-use std::sync::atomic::{AtomicUsize, Ordering::SeqCst};
+use std::env;
+use std::process::Command;
+use std::sync::atomic::Ordering::SeqCst;
+use std::sync::Mutex;
 use std::thread;
 use std::time::{Duration, Instant};
 
 use lockreplay_record::{
-    operation, switch, AtomicBool, AtomicU8, Call, Condvar, Ending, Error, Lock, Mode, Mutex,
-    Outcome, Run, Word,
+    operation, switch, AtomicBool, AtomicU8, Call, Ending, Error, Lock, Mode, Run, Word,
 };
 use ticket::TicketLock;
 
 const LIMIT: Duration = Duration::from_secs(60);
-/// On a loaded machine too a thread with nothing to do has ended by then.
+/// By then a thread with nothing to do has ended, even on a loaded machine.
 const LONG: Duration = Duration::from_secs(2);
 
 /// How a run without progress ends: by turns it is known that it hangs, else its time is over.
@@ -72,12 +74,15 @@ fn the_number_is_that_of_the_run() -> Result<(), Error> {
 }
 
 #[test]
-fn the_same_seed_gives_the_same_run() -> Result<(), Error> {
+fn the_same_seed_gives_the_same_run_and_others_give_others() -> Result<(), Error> {
     let moves = |seed| -> Result<String, Error> {
         Ok(trace_of(Mode::Seed(seed))?.lines().skip(3).collect())
     };
-    assert_eq!(moves(5)?, moves(5)?);
-    assert_ne!(moves(5)?, moves(6)?);
+    let mut runs = (0..8).map(moves).collect::<Result<Vec<String>, Error>>()?;
+    assert_eq!(runs[5], moves(5)?);
+    runs.sort_unstable();
+    runs.dedup();
+    assert_eq!(runs.len(), 8);
     Ok(())
 }
 
@@ -171,6 +176,24 @@ fn atomics_without_a_name_are_switched_too() -> Result<(), Error> {
     Ok(())
 }
 
+/// Threads that look, and each time let others go first, do not hang, however long it takes.
+#[test]
+fn a_switch_is_progress() -> Result<(), Error> {
+    let modes = || [Mode::Seed(1), Mode::Pct { seed: 1, depth: 3, steps: 100 }];
+    for (threads, mode) in modes().map(|it| (1, it)).into_iter().chain(modes().map(|it| (2, it))) {
+        let run = Run::of(Lock::Ticket, threads).mode(mode).open()?;
+        let word = AtomicU8::new(0);
+        let ending = run.threads(LIMIT, |_| {
+            (0..25_000).for_each(|_| {
+                word.load(SeqCst);
+                switch();
+            });
+        })?;
+        assert_eq!(ending, Ending::Complete);
+    }
+    Ok(())
+}
+
 #[test]
 fn nobody_comes_between_the_parts_of_an_operation() -> Result<(), Error> {
     for mode in (0..20).map(Mode::Seed).chain([Mode::Ordered]) {
@@ -214,6 +237,61 @@ fn a_slow_run_does_not_hang() -> Result<(), Error> {
     Ok(())
 }
 
+/// The environment variable that tells this program what to do in a process of its own.
+const ALONE: &str = "LOCKREPLAY_RECORD_TEST";
+
+/// If the time is over, a message names the thread that blocks in its turn, and none if the run is
+/// only slow.
+#[test]
+fn a_thread_that_blocks_is_named() -> Result<(), Error> {
+    if let Ok(how) = env::var(ALONE) {
+        let word = AtomicU8::new(0);
+        let lock = if how == "blocks in a queue" { Lock::Mcs } else { Lock::RwFifo };
+        let run = Run::of(lock, 2).mode(Mode::Seed(1)).open()?;
+        run.threads(Duration::from_millis(100), |log| {
+            if how != "is slow" && log.thread() == 1 {
+                thread::sleep(Duration::from_secs(3));
+            }
+            loop {
+                word.fetch_add(1, SeqCst);
+            }
+        })?;
+        return Ok(());
+    }
+    let due = |more| {
+        let said = "thread 1 has its turn and does not give it back: it blocks";
+        let end = "or it polls without this crate's atomics";
+        format!("lockreplay_record: {said}{more}, {end}\n")
+    };
+    let of_a_monitor = due(" (its Mutex and Condvar have to be this crate's)");
+    let rows = [("blocks", of_a_monitor), ("blocks in a queue", due("")), ("is slow", "".into())];
+    for (how, due) in rows {
+        let mut own = Command::new(env::current_exe().expect("it has a path"));
+        let own = own.args(["--exact", "a_thread_that_blocks_is_named", "--nocapture"]);
+        let done = own.env(ALONE, how).output().expect("it was started");
+        assert!(done.status.success(), "{done:?}");
+        assert_eq!(String::from_utf8_lossy(&done.stderr), due, "{how}");
+    }
+    Ok(())
+}
+
+/// The second thread tries for ever, by an operation that changes nothing.
+#[test]
+fn a_try_in_vain_is_no_progress() -> Result<(), Error> {
+    let tries: [fn(&AtomicBool) -> bool; 3] = [
+        |taken| taken.swap(true, SeqCst),
+        |taken| taken.fetch_or(true, SeqCst),
+        |taken| taken.compare_exchange(false, true, SeqCst, SeqCst).is_err(),
+    ];
+    for is_vain in tries {
+        let taken = AtomicBool::new(false);
+        let run = Run::of(Lock::Mcs, 2).mode(Mode::Seed(1)).open()?;
+        let ending = run.threads(LIMIT, |_| while is_vain(&taken) {})?;
+        assert!(matches!(&ending, Ending::Hangs(left) if left.len() == 1), "{ending:?}");
+    }
+    Ok(())
+}
+
 #[test]
 fn threads_that_poll_for_ever_are_stopped() -> Result<(), Error> {
     let begun = Instant::now();
@@ -232,136 +310,26 @@ fn threads_that_poll_for_ever_are_stopped() -> Result<(), Error> {
     Ok(())
 }
 
-/// Thread 0 waits, and thread 1 says nothing: in no mode is the wait over.
+/// One operation in eight is held up, and others in each thread. A yield may end at once, so fewer
+/// are seen to last.
 #[test]
-fn a_missing_notification_is_seen() -> Result<(), Error> {
-    for mode in [Mode::Seed(1), Mode::Seed(2), Mode::Free, Mode::Ordered] {
-        let (open, changed) = (Mutex::new(false), Condvar::new());
-        let limit = if matches!(mode, Mode::Seed(_)) { LIMIT } else { LONG };
-        let run = Run::of(Lock::RwSimple, 2).mode(mode.clone()).open()?;
-        let is_asleep = AtomicBool::new(false);
-        let ending = run.threads(limit, |log| {
-            let mut state = open.lock().unwrap();
-            if log.thread() == 0 {
-                is_asleep.store(true, SeqCst);
-                while !*state {
-                    state = changed.wait(state).unwrap();
-                }
-            } else if is_asleep.peek(SeqCst) {
-                *state = true;
-            }
-        })?;
-        assert_eq!(ending, cut_short(&mode, vec![0]), "{mode:?}");
-    }
-    Ok(())
-}
-
-/// Two wait, and one notification is for one of them; all are for both.
-#[test]
-fn one_or_all_are_woken() -> Result<(), Error> {
-    for seed in 0..20 {
-        for all in [false, true] {
-            let (waiting, changed) = (Mutex::new(0), Condvar::new());
-            let woken = AtomicUsize::new(0);
-            let setup = Run::of(Lock::RwSimple, 3).mode(Mode::Seed(seed)).spurious(0);
-            setup.open()?.threads(LIMIT, |log| {
-                if log.thread() < 2 {
-                    let mut state = waiting.lock().unwrap();
-                    *state += 1;
-                    drop(changed.wait(state).unwrap());
-                    woken.fetch_add(1, SeqCst);
-                } else {
-                    while *waiting.lock().unwrap() < 2 {}
-                    if all {
-                        changed.notify_all()
-                    } else {
-                        changed.notify_one()
-                    }
-                }
-            })?;
-            assert_eq!(woken.load(SeqCst), if all { 2 } else { 1 });
-        }
-    }
-    Ok(())
-}
-
-/// Thread 0 waits once, and takes a wake for a change. Thread 1 comes later, by turns. Whether
-/// thread 0 saw what it waited for, and the trace.
-fn waits_once(seed: u64, spurious: usize) -> Result<(bool, String), Error> {
-    let (open, changed, has_seen) = (Mutex::new(false), Condvar::new(), AtomicBool::new(true));
-    let setup = Run::of(Lock::RwSimple, 2).mode(Mode::Seed(seed)).spurious(spurious);
-    let run = setup.open()?;
-    let ending = run.threads(LIMIT, |log| {
-        if log.thread() == 1 {
-            (0..20).for_each(|_| switch());
-            *open.lock().unwrap() = true;
-            changed.notify_all();
-            return;
-        }
-        let mut state = open.lock().unwrap();
-        if !*state {
-            state.note(Outcome::Waits);
-            state = changed.wait(state).unwrap();
-        }
-        has_seen.store(*state, SeqCst);
+fn each_thread_has_a_noise_of_its_own() -> Result<(), Error> {
+    let held = [(); 2].map(|()| Mutex::new(Vec::new()));
+    let run = Run::of(Lock::Ticket, 2).mode(Mode::Noise(1)).open()?;
+    run.threads(LIMIT, |log| {
+        let word = AtomicU8::new(0);
+        let lasts = |_| {
+            let begun = Instant::now();
+            word.load(SeqCst);
+            begun.elapsed() > Duration::from_micros(20)
+        };
+        *held[log.thread()].lock().unwrap() = (0..2000).map(lasts).collect();
     })?;
-    assert_eq!(ending, Ending::Complete);
-    Ok((has_seen.load(SeqCst), run.trace()?))
-}
-
-#[test]
-fn a_wait_without_a_second_look_is_seen_by_a_wake_for_nothing() -> Result<(), Error> {
-    let mut missed = 0;
-    for seed in 0..20 {
-        assert!(waits_once(seed, 0)?.0);
-        let (has_seen, trace) = waits_once(seed, 2)?;
-        assert_eq!(waits_once(seed, 2)?, (has_seen, trace.clone()));
-        let header = format!("# seed {seed}\n# spurious 2\nlock rw-simple threads 2 bits 64\n");
-        assert!(after_number(&trace).starts_with(&header), "{trace}");
-        missed += usize::from(!has_seen);
-    }
-    assert!(missed > 0);
-    Ok(())
-}
-
-/// With enough spurious wakeups nobody has to notify. Without them the run hangs.
-#[test]
-fn a_wake_for_nothing_takes_the_place_of_a_notification() -> Result<(), Error> {
-    for (spurious, due) in [(0, Ending::Hangs(vec![0, 1])), (1, Ending::Complete)] {
-        let (state, changed) = (Mutex::new(()), Condvar::new());
-        let setup = Run::of(Lock::RwSimple, 2).mode(Mode::Seed(1)).spurious(spurious);
-        let waits = |_: &_| drop(changed.wait(state.lock().unwrap()).unwrap());
-        let ending = setup.open()?.threads(LIMIT, waits)?;
-        assert_eq!(ending, due);
-    }
-    Ok(())
-}
-
-/// One turn in 8 has them by itself, and it takes few turns until one comes.
-#[test]
-fn even_seeds_have_wakes_for_nothing() -> Result<(), Error> {
-    for seed in 0..20 {
-        let (state, changed) = (Mutex::new(()), Condvar::new());
-        let waits = || drop(changed.wait(state.lock().unwrap()).unwrap());
-        let run = Run::of(Lock::RwSimple, 2).mode(Mode::Seed(seed)).open()?;
-        let ending = run.threads(LIMIT, |log| match log.thread() {
-            0 => waits(),
-            _ => (0..200).for_each(|_| switch()),
-        })?;
-        let hangs = ending != Ending::Complete;
-        assert_eq!(hangs, seed % 2 == 1, "{seed}");
-    }
-    Ok(())
-}
-
-#[test]
-fn wakes_for_nothing_need_a_seed() -> Result<(), Error> {
-    let opened = |mode| Run::of(Lock::RwSimple, 2).mode(mode).spurious(9).open();
-    assert!(opened(Mode::Pct { seed: 1, depth: 2, steps: 9 }).is_ok());
-    for mode in [Mode::Free, Mode::Noise(1), Mode::Ordered] {
-        let said = opened(mode).expect_err("it has no seed").to_string();
-        assert_eq!(said, "wakes for nothing are drawn by the seed of a mode");
-    }
+    let [one, other] = held.map(|it| it.into_inner().unwrap());
+    let count = one.iter().filter(|&&lasts| lasts).count();
+    let both = one.iter().zip(&other).filter(|(&one, &other)| one && other).count();
+    assert!((40..=500).contains(&count), "{count} of 2,000");
+    assert!(both * 2 < count, "{both} of {count}");
     Ok(())
 }
 

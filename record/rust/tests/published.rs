@@ -2,20 +2,27 @@
 // SPDX-License-Identifier: Apache-2.0 OR MIT
 #![cfg(feature = "check")]
 
+use std::panic::catch_unwind;
 use std::sync::atomic::Ordering::SeqCst;
 use std::time::Duration;
 
-use lockreplay_record::{call, note, AtomicU8, Call, Error, Lock, Mutex, Outcome, Run, Step, Word};
+use lockreplay_record::{
+    call, explore, note, AtomicU8, Call, Error, Lock, Mode, Mutex, Outcome, Run, Step, Word,
+};
 
 const LIMIT: Duration = Duration::from_secs(60);
 
-/// What is said of the first run that is refused, of two threads with at most one preemption.
+/// What is said of the first run that is refused, of two threads with at most one preemption. The
+/// place of the move is in this file, whatever noted it.
 fn said<L: Sync>(lock: Lock, new: impl Fn() -> L, round: impl Fn(&L, usize) + Sync) -> String {
     for run in Run::of(lock, 2).bits(8).explore(1) {
         let (run, tested) = (run.unwrap(), new());
         run.threads(LIMIT, |log| round(&tested, log.thread())).unwrap();
         match run.check() {
-            Err(Error::Refused { reason, .. }) => return reason,
+            Err(Error::Refused { made, reason, .. }) => {
+                assert!(made.starts_with("tests/published.rs:"), "{made}");
+                return reason;
+            }
             other => other.unwrap(),
         }
     }
@@ -134,6 +141,63 @@ fn another_end_of_a_compare_and_swap() {
     is_after("WroteOther", ends, &said);
 }
 
+#[test]
+fn a_compare_and_swap_that_is_left_out() {
+    let [read, write] = [Step::read(Word::Next, 0), Step::write(Word::Next, 0)];
+    let round = |_: &(), _| {
+        let acquire = call(Call::Acquire);
+        [write, Step::swap(Word::Tail, 0)].iter().for_each(|step| note(*step));
+        drop(acquire);
+        let _release = call(Call::Release);
+        [read, read].iter().for_each(|step| note(*step));
+    };
+    let next = "the published lock's next step is 'cas tail done'";
+    is_after("WrongStep", next, &said(Lock::Mcs, || (), round));
+}
+
+/// Thread 0 writes. Thread 1 waits, and makes another call.
+#[test]
+fn another_call_of_a_thread_that_waits() {
+    for (due, then, went) in [
+        (Call::ReadLock, Call::ReadLock, "went on"),
+        (Call::WriteLock, Call::WriteLock, "went on"),
+        (Call::ReadLock, Call::ReadUnlock, "entered"),
+        (Call::WriteLock, Call::WriteUnlock, "entered"),
+    ] {
+        let said = said(
+            Lock::RwSimple,
+            || Mutex::new(()),
+            |mutex, thread| {
+                let (due, outcome) = match thread {
+                    0 => (Call::WriteLock, Outcome::Entered),
+                    _ => (due, Outcome::Waits),
+                };
+                drop(call(due));
+                mutex.lock().unwrap().note(outcome);
+                if thread == 1 {
+                    drop(call(then));
+                }
+            },
+        );
+        let due = format!(
+            "Busy: the thread has a pending call: the thread {went} while the published lock still \
+             waits: see its section at tests/published.rs:"
+        );
+        assert!(said.starts_with(&due), "{said}, due {due}");
+    }
+}
+
+/// A search that panics names the run, and the threads that wait.
+#[test]
+fn a_search_ends_with_a_panic() {
+    let polls = |open: &AtomicU8, _| while open.load(SeqCst) == 0 {};
+    let new = || AtomicU8::new(0);
+    let search = || explore(Run::of(Lock::Ticket, 2), 0, new, polls);
+    let said = catch_unwind(search).expect_err("no thread gets on");
+    let said = said.downcast_ref::<String>().expect("a text");
+    assert_eq!(said, "run 1: it hangs: threads [0, 1] wait");
+}
+
 /// Writers that do not wait.
 fn said_of_sections(mutexes: usize, due: Call) -> String {
     let new = || Vec::from_iter((0..mutexes).map(|_| Mutex::new(())));
@@ -153,4 +217,30 @@ fn another_outcome() {
 fn two_mutexes() {
     let count = "a section before it has 1";
     is_after("CountNotAbove", count, &said_of_sections(2, Call::ReadLock));
+}
+
+/// The message on a thread that ends, or goes on, in an acquire with these steps.
+fn said_of_end(steps: &[Step], goes_on: bool) -> String {
+    let run = Run::of(Lock::Ticket, 1).bits(8).mode(Mode::Seed(1)).open().unwrap();
+    let other = AtomicU8::new(0);
+    let ending = run.threads(LIMIT, |_| {
+        let _call = call(Call::Acquire);
+        steps.iter().for_each(|step| note(*step));
+        while goes_on && other.load(SeqCst) == 0 {}
+    });
+    ending.unwrap();
+    run.check().map_or_else(|error| error.to_string(), |()| String::new())
+}
+
+#[test]
+fn another_end_of_a_thread() {
+    let steps = [Step::add(Word::NextTicket, 0), Step::read(Word::NowServing, 0)];
+    for (count, goes_on, due) in [
+        (1, false, "thread 0 has ended inside a call"),
+        (1, true, ""),
+        (2, false, ""),
+        (2, true, "thread 0 goes on with a call that is over"),
+    ] {
+        assert_eq!(said_of_end(&steps[..count], goes_on), due);
+    }
 }

@@ -2,6 +2,7 @@
 // SPDX-License-Identifier: Apache-2.0 OR MIT
 #![cfg(feature = "record")]
 
+use std::error::Error as _;
 use std::fs;
 use std::path::{Path, PathBuf};
 use std::ptr;
@@ -10,7 +11,7 @@ use std::time::Duration;
 
 use lockreplay_record::{
     call, note, own_record, AtomicBool, AtomicPtr, AtomicU8, AtomicUsize, Call, Error, Lock, Mode,
-    Mutex, Outcome, Run, RunBuilder, Step, Word,
+    Mutex, Outcome, Run, RunBuilder, Schedule, Step, Word,
 };
 
 const LIMIT: Duration = Duration::from_secs(60);
@@ -40,53 +41,6 @@ fn numbered(folder: &Path, name: &str) -> (String, String) {
     (digits.to_owned(), rest.to_owned())
 }
 
-/// Counters of 8 bits that begin at 255 wrap around at once, and the trace counts from 0.
-#[test]
-fn counters_begin_where_the_run_says() -> Result<(), Error> {
-    let (next, serving) = (AtomicU8::new(255), AtomicU8::new(255));
-    let (next, serving) = (next.noted(Word::NextTicket), serving.noted(Word::NowServing));
-    let run = Run::of(Lock::Ticket, 1).bits(8).start(255).mode(Mode::Ordered).open()?;
-    run.threads(LIMIT, |_| {
-        assert_eq!(next.fetch_add(1, SeqCst), 255);
-        assert_eq!(next.fetch_add(1, SeqCst), 0);
-        serving.store(0, SeqCst);
-    })?;
-    let trace = run.trace()?;
-    let due = "# counters began at 255, here at 0\nlock ticket threads 1 bits 8\n\
-               0 add next_ticket found 0 left 1\n0 add next_ticket found 1 left 2\n\
-               0 write now_serving left 1\n";
-    assert_eq!(trace.split_once('\n').map(|(_, rest)| rest), Some(due));
-    Ok(())
-}
-
-#[test]
-fn each_operation_has_its_line() -> Result<(), Error> {
-    type Operation = fn(&AtomicUsize);
-    let rows: [(&str, Operation); 9] = [
-        ("read tail found 3", |word| assert_eq!(word.load(SeqCst), 3)),
-        ("write tail left 5", |word| word.store(5, SeqCst)),
-        ("swap tail found 3 left 5", |word| assert_eq!(word.swap(5, SeqCst), 3)),
-        ("cas tail found 3 left 5 done", |word| {
-            assert_eq!(word.compare_exchange(3, 5, SeqCst, SeqCst), Ok(3));
-        }),
-        ("cas tail found 3 failed", |word| {
-            assert_eq!(word.compare_exchange(4, 5, SeqCst, SeqCst), Err(3));
-        }),
-        ("cas tail found 3 failed", |word| {
-            assert_eq!(word.compare_exchange_weak(4, 5, SeqCst, SeqCst), Err(3));
-        }),
-        ("add tail found 3 left 5", |word| assert_eq!(word.fetch_add(2, SeqCst), 3)),
-        ("add tail found 3 left 1", |word| assert_eq!(word.fetch_sub(2, SeqCst), 3)),
-        ("", |word| assert_eq!(word.peek(SeqCst), 3)),
-    ];
-    for (due, operation) in rows {
-        let word = AtomicUsize::new(3).noted(Word::Tail);
-        let got = moves(Run::of(Lock::Mcs, 1), || operation(&word))?;
-        assert_eq!(got, Vec::from_iter((!due.is_empty()).then(|| due.to_owned())));
-    }
-    Ok(())
-}
-
 #[test]
 fn each_call_and_outcome_has_its_word() -> Result<(), Error> {
     let rows = [
@@ -103,16 +57,6 @@ fn each_call_and_outcome_has_its_word() -> Result<(), Error> {
         })?;
         assert_eq!(got, [call_due, section_due]);
     }
-    Ok(())
-}
-
-#[test]
-fn an_increment_of_the_served_ticket_is_two_steps() -> Result<(), Error> {
-    let served = AtomicU8::new(255).noted(Word::NowServing);
-    let got = moves(Run::of(Lock::Ticket, 1), || {
-        served.fetch_add(1, SeqCst);
-    })?;
-    assert_eq!(got, ["read now_serving found 255", "write now_serving left 0"]);
     Ok(())
 }
 
@@ -186,6 +130,21 @@ fn records_are_known_by_their_addresses() -> Result<(), Error> {
     Ok(())
 }
 
+/// A thread may have another record at each call. The one before is nobody's then.
+#[test]
+fn a_thread_changes_its_record() -> Result<(), Error> {
+    let [first, second] = [Record::new(), Record::new()];
+    let got = moves(Run::of(Lock::Mcs, 1), || {
+        own_record(&first);
+        first.next.store(first.pointer(), SeqCst);
+        own_record(&second);
+        second.next.store(second.pointer(), SeqCst);
+        second.next.store(first.pointer(), SeqCst);
+    })?;
+    assert_eq!(got, ["write next left 1", "write next left 1", "write next left 256"]);
+    Ok(())
+}
+
 #[test]
 fn a_full_log_counts_what_it_drops() -> Result<(), Error> {
     let word = AtomicU8::new(0).noted(Word::NextTicket);
@@ -208,6 +167,37 @@ fn a_full_log_counts_what_it_drops() -> Result<(), Error> {
     assert_eq!(log, "lock mcs threads 1 bits 64 thread 0\n# thread 0 has not ended\n");
     assert_ne!(number, other);
     assert!(!path.join("run.trace").exists());
+    fs::remove_dir_all(&path).expect("the folder was made");
+    Ok(())
+}
+
+/// By default a run has room for 65,536 moves of each thread.
+#[test]
+fn a_log_has_room_by_itself() -> Result<(), Error> {
+    let path = folder("default-room");
+    let run = Run::of(Lock::Ticket, 1).open()?;
+    run.threads(LIMIT, |_| (0..65_540).for_each(|n| note(Step::add(Word::NextTicket, n))))?;
+    run.save(&path)?;
+    let (_, log) = numbered(&path, "thread-0.log");
+    assert!(log.ends_with("\nadd next_ticket found 65535\ndropped 4\n"));
+    fs::remove_dir_all(&path).expect("the folder was made");
+    Ok(())
+}
+
+/// Logs of an earlier run with more threads are taken away, and no other file.
+#[test]
+fn an_earlier_run_leaves_no_log() -> Result<(), Error> {
+    let path = folder("earlier");
+    fs::create_dir_all(&path).expect("the folder is new");
+    for name in ["other.log", "run.trace", "thread-0.log", "thread-1.log", "thread-63.log"] {
+        fs::write(path.join(name), "of an earlier run\n").expect("there is room");
+    }
+    Run::of(Lock::Mcs, 1).open()?.save(&path)?;
+    let entries = fs::read_dir(&path).expect("the folder is there");
+    let mut names = Vec::from_iter(entries.map(|it| it.expect("it is there").file_name()));
+    names.sort_unstable();
+    assert_eq!(names, ["other.log", "thread-0.log"]);
+    assert_ne!(fs::read_to_string(path.join("thread-0.log")).unwrap(), "of an earlier run\n");
     fs::remove_dir_all(&path).expect("the folder was made");
     Ok(())
 }
@@ -280,18 +270,21 @@ fn the_longest_round_has_room() -> Result<(), Error> {
 }
 
 /// Thread 0 polls for ever, and thread 1 ends. A run that hangs says so; one that is stopped after
-/// its time does not, since it might have gone on.
+/// its time does not, nor one whose log was full, since it might have gone on.
 #[test]
 fn a_saved_run_says_who_has_ended() -> Result<(), Error> {
     let poll = "read now_serving found 0\n";
-    for (mode, limit, end) in [
-        (Mode::Seed(1), LIMIT, "has not ended"),
-        (Mode::Ordered, Duration::from_secs(1), "was stopped"),
-        (Mode::Free, Duration::from_secs(1), "has not ended"),
+    for (mode, room, limit, end) in [
+        (Mode::Seed(1), 9, LIMIT, "has not ended"),
+        (Mode::Seed(1), 0, LIMIT, "was stopped"),
+        (Mode::Ordered, 9, Duration::from_secs(1), "was stopped"),
+        (Mode::Free, 9, Duration::from_secs(1), "has not ended"),
+        (Mode::Free, 0, Duration::from_secs(1), "was stopped"),
     ] {
+        let poll = if room == 0 { "" } else { poll };
         let word = AtomicU8::new(0).noted(Word::NowServing);
         let path = folder("ends");
-        let run = Run::of(Lock::Ticket, 2).mode(mode.clone()).open()?;
+        let run = Run::of(Lock::Ticket, 2).room(room).mode(mode.clone()).open()?;
         run.threads(limit, |log| while log.thread() == 0 && word.load(SeqCst) == 0 {})?;
         run.save(&path)?;
         let read = |name: &str| fs::read_to_string(path.join(name)).unwrap_or_default();
@@ -353,6 +346,21 @@ fn a_thread_that_cannot_enter_is_refused() -> Result<(), Error> {
     refuses(first.enter(0), due);
     refuses(first.threads(LIMIT, |_| ()), due);
     refuses(second.save("/dev/null/logs"), "/dev/null/logs: Not a directory (os error 20)");
+    Ok(())
+}
+
+/// An error of the system is the source of this crate's, and no other error has one.
+#[test]
+fn the_systems_error_is_the_source() -> Result<(), Error> {
+    let run = Run::of(Lock::Mcs, 1).open()?;
+    let kept = Run::of(Lock::Mcs, 1).kept_in("/dev/null/logs").open().map(drop);
+    let read = Schedule::read("/dev/null/no.schedule").map(drop);
+    for result in [run.save("/dev/null/logs"), kept, read] {
+        let error = result.expect_err("no folder is there");
+        let source = error.source().expect("the system says why");
+        assert_eq!(source.to_string(), "Not a directory (os error 20)");
+    }
+    assert!(run.enter(1).expect_err("there is no such thread").source().is_none());
     Ok(())
 }
 

@@ -1,0 +1,107 @@
+//! The line of each operation on an atomic of a lock: its word, and what it found and left.
+// SPDX-License-Identifier: Apache-2.0 OR MIT
+#![cfg(feature = "record")]
+
+use std::sync::atomic::Ordering::SeqCst;
+use std::time::Duration;
+
+use lockreplay_record::{
+    AtomicBool, AtomicU8, AtomicUsize, Error, Lock, Mode, Run, RunBuilder, Word,
+};
+
+const LIMIT: Duration = Duration::from_secs(60);
+
+/// The moves of a run of one thread that does this.
+fn moves(setup: RunBuilder, work: impl Fn() + Sync) -> Result<Vec<String>, Error> {
+    let run = setup.mode(Mode::Ordered).open()?;
+    run.threads(LIMIT, |_| work())?;
+    let lines = run.trace()?;
+    Ok(lines.lines().skip(2).map(|line| line.strip_prefix("0 ").unwrap_or("?").into()).collect())
+}
+
+#[test]
+fn each_operation_has_its_line() -> Result<(), Error> {
+    type Operation = fn(&AtomicUsize);
+    let rows: [(&str, Operation); 16] = [
+        ("read tail found 3", |word| assert_eq!(word.load(SeqCst), 3)),
+        ("write tail left 5", |word| word.store(5, SeqCst)),
+        ("swap tail found 3 left 5", |word| assert_eq!(word.swap(5, SeqCst), 3)),
+        ("cas tail found 3 left 5 done", |word| {
+            assert_eq!(word.compare_exchange(3, 5, SeqCst, SeqCst), Ok(3));
+        }),
+        ("cas tail found 3 failed", |word| {
+            assert_eq!(word.compare_exchange(4, 5, SeqCst, SeqCst), Err(3));
+        }),
+        ("cas tail found 3 failed", |word| {
+            assert_eq!(word.compare_exchange_weak(4, 5, SeqCst, SeqCst), Err(3));
+        }),
+        ("add tail found 3 left 5", |word| assert_eq!(word.fetch_add(2, SeqCst), 3)),
+        ("add tail found 3 left 1", |word| assert_eq!(word.fetch_sub(2, SeqCst), 3)),
+        ("swap tail found 3 left 2", |word| assert_eq!(word.fetch_and(6, SeqCst), 3)),
+        ("swap tail found 3 left 7", |word| assert_eq!(word.fetch_or(4, SeqCst), 3)),
+        ("swap tail found 3 left 2", |word| assert_eq!(word.fetch_xor(1, SeqCst), 3)),
+        ("swap tail found 3 left 18446744073709551615", |word| {
+            assert_eq!(word.fetch_nand(0, SeqCst), 3)
+        }),
+        ("swap tail found 3 left 5", |word| assert_eq!(word.fetch_max(5, SeqCst), 3)),
+        ("swap tail found 3 left 3", |word| assert_eq!(word.fetch_max(2, SeqCst), 3)),
+        ("swap tail found 3 left 2", |word| assert_eq!(word.fetch_min(2, SeqCst), 3)),
+        ("", |word| assert_eq!(word.peek(SeqCst), 3)),
+    ];
+    for (due, operation) in rows {
+        let word = AtomicUsize::new(3).noted(Word::Tail);
+        let got = moves(Run::of(Lock::Mcs, 1), || operation(&word))?;
+        assert_eq!(got, Vec::from_iter((!due.is_empty()).then(|| due.to_owned())));
+    }
+    Ok(())
+}
+
+#[test]
+fn each_operation_on_a_flag_has_its_line() -> Result<(), Error> {
+    type Operation = fn(&AtomicBool, bool) -> bool;
+    let rows: [(Operation, [u8; 4]); 4] = [
+        // the results for 0 and 0, 0 and 1, 1 and 0, 1 and 1
+        (|flag, value| flag.fetch_and(value, SeqCst), [0, 0, 0, 1]),
+        (|flag, value| flag.fetch_or(value, SeqCst), [0, 1, 1, 1]),
+        (|flag, value| flag.fetch_xor(value, SeqCst), [0, 1, 1, 0]),
+        (|flag, value| flag.fetch_nand(value, SeqCst), [1, 1, 1, 0]),
+    ];
+    for (operation, due) in rows {
+        for (at, left) in due.into_iter().enumerate() {
+            let (found, value) = (at / 2 == 1, at % 2 == 1);
+            let flag = AtomicBool::new(found).noted(Word::Tail);
+            let got = moves(Run::of(Lock::Mcs, 1), || assert_eq!(operation(&flag, value), found))?;
+            assert_eq!(got, [format!("swap tail found {} left {left}", u8::from(found))]);
+        }
+    }
+    Ok(())
+}
+
+#[test]
+fn an_increment_of_the_served_ticket_is_two_steps() -> Result<(), Error> {
+    let served = AtomicU8::new(255).noted(Word::NowServing);
+    let got = moves(Run::of(Lock::Ticket, 1), || {
+        served.fetch_add(1, SeqCst);
+    })?;
+    assert_eq!(got, ["read now_serving found 255", "write now_serving left 0"]);
+    Ok(())
+}
+
+/// Counters of 8 bits that begin at 255 wrap around at once, and the trace counts from 0.
+#[test]
+fn counters_begin_where_the_run_says() -> Result<(), Error> {
+    let (next, serving) = (AtomicU8::new(255), AtomicU8::new(255));
+    let (next, serving) = (next.noted(Word::NextTicket), serving.noted(Word::NowServing));
+    let run = Run::of(Lock::Ticket, 1).bits(8).start(255).mode(Mode::Ordered).open()?;
+    run.threads(LIMIT, |_| {
+        assert_eq!(next.fetch_add(1, SeqCst), 255);
+        assert_eq!(next.fetch_add(1, SeqCst), 0);
+        serving.store(0, SeqCst);
+    })?;
+    let trace = run.trace()?;
+    let due = "# counters began at 255, here at 0\nlock ticket threads 1 bits 8\n\
+               0 add next_ticket found 0 left 1\n0 add next_ticket found 1 left 2\n\
+               0 write now_serving left 1\n";
+    assert_eq!(trace.split_once('\n').map(|(_, rest)| rest), Some(due));
+    Ok(())
+}
