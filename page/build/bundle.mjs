@@ -19,7 +19,8 @@ const path = (file, named) => posix.join(posix.dirname(file), named);
 function wrapped(file, source, variables) {
   const names = [...source.matchAll(EXPORT)].map(([, , name]) => name);
   const body = source.replace(COMMENT, '').replace(INDENT, '')
-    .replace(IMPORT, (_, list, from) => `const {${list} } = ${variables.get(path(file, from))};\n`)
+    .replace(IMPORT, (_, list, from) => (
+      `const {${list.replace(/\s/g, '')}} = ${variables.get(path(file, from))};\n`))
     .replace(EXPORT, '$1 $2');
   const other = body.match(/^(import|export) .*/m);
   if (other) throw new Error(`${file}: of another form: ${other[0]}`);

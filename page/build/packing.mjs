@@ -1,8 +1,8 @@
-// The module as the page has it: raw deflate in base64. Deflate may give other bytes on another
+// The module as the page has it: zlib's format in base64. Deflate may give other bytes on another
 // machine, so those of the page that is there are taken if they unpack to this module.
 
 import { existsSync, readFileSync } from 'node:fs';
-import { deflateRawSync, inflateRawSync } from 'node:zlib';
+import { deflateSync, inflateSync } from 'node:zlib';
 
 const PACKED = /"module":"(?<letters>[^"]*)"/;
 
@@ -10,7 +10,7 @@ const PACKED = /"module":"(?<letters>[^"]*)"/;
 function packs(letters, module) {
   const bytes = Buffer.from(letters, 'base64');
   try {
-    const { buffer, engine } = inflateRawSync(bytes, { info: true });
+    const { buffer, engine } = inflateSync(bytes, { info: true });
     return buffer.equals(module) && engine.bytesWritten === bytes.length
       && bytes.toString('base64') === letters;
   } catch {
@@ -21,5 +21,5 @@ function packs(letters, module) {
 export function packed(module, page) {
   const there = existsSync(page) && readFileSync(page, 'utf8').match(PACKED)?.groups.letters;
   if (there && packs(there, module)) return there;
-  return deflateRawSync(module, { level: 9 }).toString('base64');
+  return deflateSync(module, { level: 9 }).toString('base64');
 }

@@ -1,6 +1,7 @@
 // The address of the page, its history and the browser's storage: they follow what is shown, and
 // bring it back.
 
+import { fromBase64 } from '../lib/bytes.js';
 import { byId } from '../lib/elements.js';
 import { write } from '../lib/markup.js';
 import { askedLanguage, language } from '../texts/language.js';
@@ -17,6 +18,10 @@ import { showTheme } from './theme.js';
 const T = texts.links;
 const WAIT = 250;
 
+// The trace that `locktrace check --page` put into the page; of any other page, no byte.
+const givenTrace = () => fromBase64(
+  document.querySelector('meta[name=trace]').getAttribute('content'));
+
 export class Address {
   constructor(page) {
     this.page = page;
@@ -29,6 +34,11 @@ export class Address {
   begin() {
     this.page.quiz.bringBack(history.state);
     if (this.open()) return;
+    const given = givenTrace();
+    if (given.length) {
+      this.page.editing.openText(given);
+      return;
+    }
     this.returning = true;
     this.page.openLesson(FIRST_LESSON);
     this.returning = false;
@@ -83,7 +93,7 @@ export class Address {
     write(box, wrong || '');
   }
 
-  // Before another schedule takes the place of this one: this one stays in the history.
+  // Keeps this schedule in the history, before another one takes its place.
   leave(lesson) {
     if (this.page.session.run && !this.returning) {
       this.note();
@@ -115,7 +125,7 @@ export class Address {
     return toClipboard(location.href, `${T.copied} ${mine}`, `${T.inBar} ${mine}`);
   }
 
-  // With a delay: browsers allow few changes of the address a second.
+  // Waits before it changes the address, since browsers allow few changes a second.
   writeSoon() {
     clearTimeout(this.writing);
     this.writing = setTimeout(() => this.flush(), WAIT);
@@ -132,7 +142,8 @@ export class Address {
     return fragmentOf(session) ?? `#kept=${this.keptName}${endOf(session.place)}`;
   }
 
-  // Notes a schedule of one's own, to be kept when there is time. Of one that is kept, the place.
+  // Notes a schedule of the reader's own, to be kept when there is time. If it is kept already,
+  // only its place is noted.
   note() {
     const { held, place, lesson, remarks } = this.page.session;
     if (lesson) return;

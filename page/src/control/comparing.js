@@ -51,7 +51,8 @@ export class Comparing {
       .filter(Boolean);
   }
 
-  // From one to the next, and then to none. Without one, it is said what a comparison needs.
+  // Goes from one comparison to the next, and then to none. Without any, the page says what a
+  // comparison needs.
   toggle() {
     const kinds = this.kinds();
     if (!kinds.length) return this.offer();

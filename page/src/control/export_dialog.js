@@ -15,7 +15,8 @@ import { tikzOf } from '../view/tikz.js';
 
 const T = texts.take;
 const SHARPER = 2;
-// For several moves: at most so many, each so long on the screen, and the last one longer.
+// The most moves of an animation, and the milliseconds for which each move and the last one are
+// shown.
 const MOST = 40;
 const SHOWN = { each: 1200, last: 3000 };
 const FRAME = { width: 960, height: 480 };

@@ -120,7 +120,8 @@ export class Page {
     this.modes.fitLesson();
   }
 
-  // From the move that is shown on with others, and beside what this is compared with then.
+  // Goes on from the shown move with other moves, beside the schedule that this one is then
+  // compared with.
   goOnWith(moves, isCompared) {
     if (moves) this.playing.branch(moves.split(','));
     if (moves || isCompared) this.comparing.begin();
@@ -173,7 +174,8 @@ export class Page {
     this.fit();
   }
 
-  // The parts may have other sizes: what counts is brought into view again.
+  // The parts may have other sizes, so the lane, the line and the picture of the move are brought
+  // into view again.
   fit() {
     if (this.quiz.on) this.quiz.meet(this.session);
     this.draw(true);

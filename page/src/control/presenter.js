@@ -1,4 +1,4 @@
-// A second window for who gives the lecture: what the hall does not see yet. It is drawn by this
+// A second window for the lecturer: it shows what the hall does not see yet. It is drawn by this
 // window, since a page from disk may not open itself twice and talk to itself.
 
 import { html, show } from '../lib/markup.js';
@@ -30,7 +30,7 @@ export class Presenter {
     there.head.append(...[document.querySelector('style').cloneNode(true)]);
     there.body.className = 'presenter';
     there.documentElement.lang = document.documentElement.lang;
-    // Its keys are those of the page; what is held with them makes others of them.
+    // It passes its keys to the page, with the modifier keys, which give them another meaning.
     this.window.onkeydown = ({ key, ctrlKey, metaKey, altKey }) => document.body.dispatchEvent(
       new KeyboardEvent('keydown', {
         key, ctrlKey, metaKey, altKey, bubbles: true, cancelable: true,

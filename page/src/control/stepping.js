@@ -1,6 +1,6 @@
 // Stepping: from move to move by hand, and by itself at a pace.
 
-import { byId, elementOf, focusIn, selectOf } from '../lib/elements.js';
+import { byId, focusIn, selectOf } from '../lib/elements.js';
 import { texts } from '../texts/texts.js';
 import { isAsked } from '../model/remarks.js';
 import { tell } from '../view/notice.js';
@@ -8,6 +8,12 @@ import { tell } from '../view/notice.js';
 // The speeds that can be chosen, the slowest first, and how many milliseconds a move takes at each.
 const SPEEDS = ['0.5', '1', '2', '4'];
 const PACES = { '0.5': 1800, 1: 900, 2: 450, 4: 225 };
+
+// As far as it needs. Firefox scrolls to no part of a picture by itself.
+function scrollToLane(top, height) {
+  const box = byId('lanes');
+  box.scrollTop = Math.min(top, Math.max(top + height - box.clientHeight, box.scrollTop));
+}
 
 export class Stepping {
   constructor(page) {
@@ -73,11 +79,12 @@ export class Stepping {
   // Another lane is chosen, by one up or down.
   chooseLane(by) {
     const { page } = this;
-    const { lanes } = page.layout;
+    const { lanes, laneHeight } = page.layout;
     const at = lanes.indexOf(page.lane);
-    page.lane = lanes[Math.min(lanes.length - 1, Math.max(0, at + by))];
+    const next = Math.min(lanes.length - 1, Math.max(0, at + by));
+    page.lane = lanes[next];
+    scrollToLane(next * laneHeight, laneHeight);
     page.draw();
-    elementOf(`lane-${page.lane}`, SVGElement)?.scrollIntoView({ block: 'nearest' });
   }
 
   // The next move of the lane that is chosen.

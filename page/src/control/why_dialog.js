@@ -9,7 +9,7 @@ import { looks } from '../model/looks.js';
 import { LOCKS } from '../locks/locks.js';
 import { changesView, codeOfLock, placeText } from '../view/why_view.js';
 
-// The line that one points at, that of the move that is shown, or the first.
+// The line under the pointer, the line of the shown move, or the first.
 function lineShown(pointed = document.querySelector('#code-lines .code-line:hover')) {
   const code = byId('code-lines');
   const line = pointed ?? code.querySelector('.here');
@@ -78,7 +78,7 @@ class Why {
     const change = changesAt(this.lock, this.lines[this.stop[0]])[number];
     this.dialog.close();
     this.played = { text: scheduleOf(this.lock, change), number };
-    // What is said of a move is beside memory then.
+    // The sentences on a move are then beside memory.
     if (looks.hall) looks.parts = ['memory', 'now'];
     this.page.open(this.played.text, null, 0);
     this.page.modes.set('lessons');

@@ -56,7 +56,7 @@ const joined = (parts) => {
   return bytes;
 };
 
-// Each frame is shown so many milliseconds, and the last one longer.
+// Each frame is shown for `milliseconds`, and the last one for `last`.
 export function animated(pngs, milliseconds, last) {
   const [head] = chunksOf(pngs[0]);
   const size = new DataView(head.data.buffer, head.data.byteOffset);

@@ -32,9 +32,10 @@ export function fromBase64(text) {
   return Uint8Array.from(atob(text), (letter) => letter.charCodeAt(0));
 }
 
-// What raw deflate packed. TypeScript's oldest types here lack the browser's class.
+// Unpacks bytes in zlib's format, which Node 18 reads too. The oldest TypeScript that checks this
+// lacks the browser's class.
 export function unpacked(bytes) {
-  const unpacking = new globalThis['DecompressionStream']('deflate-raw');
+  const unpacking = new globalThis['DecompressionStream']('deflate');
   return new Response(new Blob([bytes]).stream().pipeThrough(unpacking)).arrayBuffer();
 }
 

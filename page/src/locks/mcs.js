@@ -41,10 +41,10 @@ const RECORD = {
 };
 // Beside another run's memory in a hall.
 const LOW = { top: 64, last: 150 };
-// Up to so many records stay in one row, even if a picture of two rows would be larger.
+// Up to this number, records stay in one row, even if a picture of two rows would be larger.
 const BESIDE = 4;
 const MOST_NAMED = 8;
-// Records and the tail's box grow for names that threads were given, up to so much.
+// Records and the tail's box grow up to this width for names that threads were given.
 const WIDEST = 240;
 const HEAD = { left: 14, right: 13, between: 6 };
 const FIELD = { left: 71, right: 11 };

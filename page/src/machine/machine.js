@@ -14,7 +14,7 @@ const THREADS_AT = 192;
 const THREAD_BYTES = 16;
 const WORDS_AT = 1216;
 
-// A browser or Node from before the final standard takes the count of pages as a number.
+// Browsers and Node before the final standard take the count of pages as a number.
 function growBy(memory, pages) {
   try {
     memory.grow(BigInt(pages));
@@ -53,7 +53,7 @@ export class Machine {
     this.text = null;
   }
 
-  // The machine's memory from its heap on, at least so many bytes.
+  // The machine's memory, with at least `bytes` bytes from its heap on.
   lend(bytes) {
     const { memory } = this.exports;
     const missing = this.base + bytes - memory.buffer.byteLength;
@@ -91,8 +91,7 @@ export class Machine {
   }
 }
 
-// The bytes with another number for each line, of which one is at `first`, and after it one at
-// every `step`.
+// The bytes with other line numbers: the first is at `first`, and another one after every `step`.
 function inLines(bytes, first, step, lineNow) {
   const copy = bytes.slice();
   const view = new DataView(copy.buffer);

@@ -36,7 +36,7 @@ function lendSlices(machine, shapes) {
 
 const asked = (slices) => slices.flatMap(({ at, length }) => [BigInt(at), BigInt(length)]);
 
-// A move of a run by its code: 512 times that of the move, and its thread.
+// A move of a run, whose code is 512 times the code of the move plus its thread.
 const moveOf = (code) => `${code & 255} ${MOVES[code >> 9]}`;
 
 // The answer of a search from a state of this lock, its number, and the run that it found, as lines

@@ -8,8 +8,8 @@ import { NO_WORD, OUTCOME } from '../machine/codes.js';
 /** @typedef {import('../machine/machine.js').Records} Records */
 /** @typedef {import('./run.js').Run} Run */
 
-// The words whose last change ended a wait in this phase. A section's are in its line of code; a
-// step of one operation looks at the word that its record names.
+// The words whose last change may have ended a wait in this phase. A section's line of code names
+// them; a step of one operation looks at the word that its record names.
 function watchedWords(lines, wordNames, phase, touched) {
   const line = lines.get(phase);
   return line.words.length ? line.words.map((name) => wordNames.indexOf(name)) : [touched];

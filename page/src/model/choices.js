@@ -8,7 +8,7 @@ import { ownWords } from '../machine/locks_code.js';
 
 const LONGEST_LINE = 32;
 
-// Whether one line more stays within what a schedule may have.
+// Whether a schedule with one more line stays within its limits.
 export function hasRoom({ move, run }) {
   return move < MOST_MOVES && run.text.length + LONGEST_LINE <= MOST_BYTES;
 }

@@ -53,7 +53,7 @@ function numberFault(stopped, says, [least, most]) {
   return { say: [say(says, { found }), due], mended: zero ? stopped.instead(plain) : null };
 }
 
-// By what is expected in the place of the word.
+// The advice on a word of the header, by the part that is expected in its place.
 const IN_HEADER = {
   lock: (stopped) => (stopped.found.toLowerCase() === 'lock'
     ? headerFault(T.noLockWord, stopped.instead('lock')) : headerFault(T.headerShape)),

@@ -75,7 +75,7 @@ export const isChanged = ({ step }, move) => move.match(/\w+/g)[1] === step;
 export const canBeFollowed = (change) => change.turns.some((_, at) => (
   isChanged(change, change.run[at])));
 
-// What is said of the moves of the schedule: where the changed lock differs, and at the last one
+// The remarks on the moves of the schedule: where the changed lock differs, and at the last move
 // that it has gone wrong, or how it goes on.
 /** @param {Change} change */
 function sayings(change) {
@@ -91,7 +91,7 @@ function sayings(change) {
   return moves.flatMap((at, i) => saidAt(at).map((said) => `#! say ${i + 1} ${said}`));
 }
 
-// The schedule of the lock as it is in the turns of a change's run.
+// The schedule in which the unchanged lock takes the turns of a change's run.
 /** @param {Change} change */
 export function scheduleOf(lock, change) {
   const { step, how, turns, refused } = change;

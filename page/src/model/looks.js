@@ -1,5 +1,5 @@
-// What the reader wants to see: which parts, how large, and whether later moves. A link carries it
-// beside the schedule, so that it opens as it was shown.
+// The view that the reader wants: which parts, how large, and whether with later moves. A link
+// carries it beside the schedule, so that the page opens as it was shown.
 
 export const PARTS = ['time', 'memory', 'code', 'now'];
 const IN_A_HALL = ['memory', 'code'];

@@ -1,5 +1,5 @@
-// What can happen next: in how few moves from the state that is shown each kind of transition can
-// be reached, if each thread begins at most one more round. The module searches.
+// What can happen next: the fewest moves from the shown state to each kind of transition, if each
+// thread begins at most one more round. The module searches.
 
 import { LOCK_NAMES } from '../machine/codes.js';
 import { findNext, FOUND } from '../machine/search.js';
@@ -7,8 +7,8 @@ import { kindsOf } from './kinds.js';
 
 /** @typedef {import('./run.js').Run} Run */
 
-// Of each kind that can be reached its name and the moves to it, a nearest one first; and whether
-// no other kind can be.
+// The name of each kind that can be reached and the moves to it, the nearest first; and whether all
+// other kinds are unreachable.
 /** @param {Run} run */
 function searched(machine, run, move) {
   const kinds = kindsOf(LOCK_NAMES[run.kind])
@@ -23,7 +23,7 @@ function searched(machine, run, move) {
 export class NextKinds {
   constructor() { this.known = new WeakMap(); }
 
-  // {ways, whole} after the move that is shown, which are searched once.
+  // {ways, whole} after the shown move. Each is searched for once.
   after({ machine, run, move }) {
     if (machine.stored || !run.hasLock) return { ways: [], whole: true };
     if (!this.known.has(run)) this.known.set(run, new Map());

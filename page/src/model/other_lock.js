@@ -27,8 +27,7 @@ function guess(run, move, kind, there) {
   return !there || (same && here.phase === there.phase) ? here : there;
 }
 
-// The schedule there: as `known` has it up to the first move that is another one, and guessed from
-// there on.
+// The schedule there: `known` up to the first move that differs, and guesses from there on.
 class OtherSchedule {
   constructor(run, known) {
     this.run = run;
@@ -40,7 +39,7 @@ class OtherSchedule {
     this.follows = true;
   }
 
-  // The thread takes the turn that it has here with a move.
+  // The thread makes there the move of the turn that it has here.
   takeTurn(thread, calls, move) {
     const { known, lines, seen, threads } = this;
     const { due, phase, allows } = threads[thread];
@@ -58,8 +57,8 @@ const bytesOf = (lines) => new TextEncoder().encode([...lines, ''].join('\n'));
 /** @param {Run} run */
 const headerOf = (run) => `lock ${otherLock(run)} threads ${run.threads} bits ${run.bits}`;
 
-// {run, at}: the schedule of the same turns on the other lock, and for each move here how many
-// moves there have been made by then.
+// {run, at}: the run of the same turns on the other lock, and for each move here the number of
+// moves made there by then.
 /** @param {Run} run */
 function attempt(machine, run, known) {
   const there = new OtherSchedule(run, known);

@@ -2,7 +2,7 @@
 // which words its record has and which value names it; the tail is the word that is nobody's.
 
 export class OwnedWords {
-  // Of the threads of a state.
+  // The words and values of a state's threads.
   constructor(state) {
     this.ofWord = new Map();
     this.words = new Map();

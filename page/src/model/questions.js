@@ -1,6 +1,6 @@
-// The questions of the quiz: which moves are asked for, and what of them. Calls are not: their
-// outcome is always the same. No answer that is always the same, nor "as it is now", is right more
-// than half of the time; since a wrong answer takes a point away, such answers earn nothing.
+// The questions of the quiz: which moves are asked for, and what about them. Calls are not asked
+// for, since their outcome is always the same. Neither a fixed answer nor "as it is now" is right
+// more than half of the time. A wrong answer takes a point away, so such answers earn nothing.
 
 import { OUTCOMES } from '../machine/codes.js';
 import { holdersText, queueText } from './report.js';
@@ -25,7 +25,7 @@ function questionOf(run, move, kind) {
   return { kind, move, truth, same };
 }
 
-// One question for each step, first of what changes, and of each kind in turn.
+// One question for each step, if possible on something that changes; the kinds take turns.
 /** @param {Run} run */
 function candidates(run) {
   const found = [];
@@ -43,7 +43,7 @@ function counted(questions, classOf) {
   return counts;
 }
 
-// The answer, or "as before", that would be right for more than half, as a test of a question.
+// The test of a question for the answer, or "as before", that would be right for more than half.
 function tooFrequent(questions) {
   const half = questions.length / 2;
   for (const classOf of [({ truth }) => truth, ({ same }) => same || undefined]) {
@@ -54,7 +54,7 @@ function tooFrequent(questions) {
   return null;
 }
 
-// Takes questions away, the last first, until no such answer is left.
+// Removes questions, the last first, until no such answer is left.
 function balanced(questions) {
   const left = [...questions];
   for (let test = tooFrequent(left); test; test = tooFrequent(left)) {

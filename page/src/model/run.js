@@ -23,7 +23,7 @@ const RLOCK = CALLS.find((call) => MOVES[call] === 'rlock');
 // Faults that moves may come before.
 const LATE_FAULTS = ['BadLine', 'TooManyMoves'];
 
-// What the machine says of a text: read off one of the runs that begins with it, else played.
+// The machine's answer on a text, read off a known run that begins with it, or played.
 function answerOf(machine, text, runs) {
   const known = runs.reduce((found, run) => found ?? run.answerTo(text), null);
   return known ?? machine.play(text, MOST_MOVES, true);
@@ -32,15 +32,15 @@ function answerOf(machine, text, runs) {
 // Faults of a text that may be a trace.
 const VALUED = ['BadLine', 'TooLong'];
 
-// The run of a text. What one of the known runs says of it is not played again.
+// The run of a text. What a known run already says of it is not played again.
 export function runOf(machine, text, known) {
   const answerTo = (part) => answerOf(machine, part, known);
   return known.find((run) => sameBytes(run.text, text))
     ?? runOfTrace(new Run(machine, text, answerTo), answerTo);
 }
 
-// The run of a trace, up to the step at which it differs from its lock. That of another text as it
-// is.
+// The run of a trace up to the step at which it differs from its lock; of any other text the whole
+// run.
 /** @param {Run} run */
 function runOfTrace(run, answerTo) {
   const trace = VALUED.includes(run.fault?.name) ? traceOf(run.text) : null;
@@ -70,7 +70,7 @@ export class Run {
     }
     // Without a header there is no lock to show.
     this.hasLock = answer.state !== null && answer.state.answer !== ANSWER.fault;
-    // The state at the end; of a run that was read off another one's records, in the beginning.
+    // The state at the end, or at the beginning if the run was read off another run's records.
     this.end = this.hasLock ? answer.state : null;
     this.records = new Records(this.hasLock ? answer.records : new Uint8Array());
     this.count = this.records.count;
@@ -98,19 +98,20 @@ export class Run {
   // The last place to step to: the last move, or the refused one after it.
   get last() { return this.count + (this.refusal ? 1 : 0); }
 
-  // The state after so many moves.
+  // The state after a number of moves.
   state(moves) { return new StateAfter(this, moves); }
 
-  // The same as the machine has it: of fewer moves than all it plays them again, of the text up to
-  // the line of the last one, or of the first one, by which the header has been read.
+  // The same state from the machine. For fewer than all moves it plays them again, from the text up
+  // to the line of the last of them, or up to the first move's line, so that it has the header.
   replayed(moves) {
     if (moves === this.end.played) return this.end;
     const { length } = throughLine(this.played, this.records.line(Math.max(1, moves)));
     return this.machine.play(this.played, moves, false, length).state;
   }
 
-  // What the machine would say of a text with which this one begins, read off the records; its
-  // state is the one in the beginning. Null if they do not say it: of no move, or a refused one.
+  // The machine's answer on a text with which this one begins, read off the records; its state is
+  // the one at the beginning. Null if they do not have it: for a text without a move, or with a
+  // refused one.
   answerTo(text) {
     if (!this.hasLock || !beginsWith(this.played, text)) return null;
     const lines = linesIn(text);
@@ -142,10 +143,10 @@ export class Run {
   // The line of a move, or of the refused one after the last.
   lineAt(move) { return move > this.count ? this.refusal.line : this.records.line(move); }
 
-  // What a trace says of it beyond the move, and where in the source it was noted.
+  // The parts of a trace's line after the move, and the place in the source where it was noted.
   said(move) { return this.trace?.said[this.lineAt(move) - 1] ?? null; }
   sourceOf(move) { return this.trace?.places.get(this.lineAt(move)) ?? ''; }
-  // The line that a trace has of it, if it says one of these.
+  // The line of the trace, if it has one of these parts.
   recorded(move) {
     return this.said(move) || this.sourceOf(move) ? lineOf(this.text, this.lineAt(move)) : '';
   }
@@ -158,7 +159,7 @@ export class Run {
   // The last move of the thread up to `move`, or 0.
   lastMoveOf(thread, move) { return lastUpTo(this.movesOf.get(thread), move); }
 
-  // The phase in which the move found its thread.
+  // The phase of the thread before the move.
   phaseBefore(move) {
     const thread = this.records.thread(move);
     const before = this.lastMoveOf(thread, move - 1);

@@ -98,7 +98,7 @@ export class Session {
     this.load(run.text, this.lesson, this.place, run);
   }
 
-  // The run of a text, by the run that is shown and by the one from which that was made.
+  // The run of a text, read off the shown run or the run from which that was made, if possible.
   runOf(text) {
     return runOf(this.machine, text, [this.run, this.origin?.run].filter(Boolean));
   }
@@ -140,8 +140,8 @@ export class Session {
     const place = this.placeNear(wanted);
     const move = Math.min(run.count, place);
     const refused = place > run.count;
-    // The move whose words are marked: of a refused one that which decided it, by default its
-    // thread's last.
+    // The move whose words are marked. For a refused move it is the move that decided the refusal,
+    // by default the last move of its thread.
     const decided = () => run.refusal.lastWrite ?? run.lastMoveOf(run.refusal.thread, move);
     const marked = refused ? decided() : move;
     const view = { run, move, names, remarks, place, refused, marked, ...arrows, ...wishes };

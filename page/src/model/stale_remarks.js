@@ -1,6 +1,6 @@
-// Which remarks hold. A question and its answer belong to the moves before them, title and story
-// to all moves that there were when they were met. In a text that was made from another one, by a
-// branch or an edit, a remark whose moves are others says something that is not so here.
+// Which remarks hold. A question and its answer belong to the moves before them, title and story to
+// all moves of the text in which they were first met. A branch or an edit makes a text from another
+// one: a remark whose moves changed may be false there.
 
 import { lettersOf } from '../lib/bytes.js';
 import { remarkOf } from './remarks.js';
@@ -11,7 +11,7 @@ const FNV = 16777619;
 const HASH = '#'.charCodeAt(0);
 const SEEDS = [2166136261, 40389];
 
-// For each count of moves a mark of the header and the moves up to it, as numbers of 32 bits.
+// For each count of moves a hash of the header and the moves up to it, as 32-bit numbers.
 /** @param {Run} run */
 function prefixMarks(run) {
   const marks = SEEDS.map(() => new Uint32Array(run.count + 1));

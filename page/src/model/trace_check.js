@@ -81,7 +81,7 @@ export function firstDifference(run) {
   return null;
 }
 
-// A later step of the same call that is on the word on which the lock's step is: its line, or 0.
+// The line of a later step of the same call on the word of the lock's step, or 0.
 /** @param {Run} run */
 function swappedWith(run, move) {
   const { records } = run;
@@ -115,8 +115,8 @@ export function lastWrite(run, word, move = Infinity) {
   return before.length ? before[before.length - 1].move : 0;
 }
 
-// Where the word has the value that a step is said to have found: up to the line of the write that
-// ended it, or from the line of a later write on. The nearer one, or nothing.
+// Where the word has the value that a line says its step found: up to the line of the write that
+// replaced it, or from the line of a later write on. The nearer of the two, or nothing.
 /** @param {Run} run @param {Difference} difference */
 function elsewhere(run, { move, given }) {
   const { records, begun } = run;

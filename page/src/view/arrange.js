@@ -17,7 +17,7 @@ const TWO_IN_A_HALL = 700;
 const PHONE = 600;
 // A window that is too low for parts one below the other.
 const LOWEST = 480;
-// From which width on so many tools have room; the others are in a menu.
+// The widths from which on all, most or few tools have room; the others are in a menu.
 const TOOLS = { all: 1720, most: 1181, few: 600, none: 0 };
 // The share of the height that lanes may take, and in a low window.
 const LANES = {
@@ -87,7 +87,8 @@ export function arrange({ mode, session, comparing: { isOn } }) {
   const zoom = zoomNow();
   const { body } = document;
   const whole = innerWidth / zoom;
-  const width = whole - (mode !== 'lessons' && whole >= TWO ? SIDE : 0);
+  const hasSide = mode !== 'lessons' && (looks.hall || whole >= TWO);
+  const width = whole - (hasSide ? SIDE : 0);
   const parts = partsNow(isOn, width);
   const isPlain = mode === 'lessons' && !looks.hall && !isOn;
   const layout = arrangementOf(width, innerHeight / zoom, parts, isPlain, session.run);

@@ -9,7 +9,7 @@ import { layOutBeside } from './layout.js';
 
 const T = texts.compare;
 
-// As tall as the layout of what is shown.
+// As tall as the layout of the shown run.
 export function drawCompared({ comparing, session }, layout, room) {
   const { columns, first, title } = comparing.compared();
   const { view } = comparing.comparedView();

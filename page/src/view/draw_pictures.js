@@ -20,15 +20,17 @@ import { sliderPicture } from './slider.js';
 
 const ROUNDS = 4;
 
-// The sizes of the parts with pictures, of a page that shows this run.
+// The sizes of the parts with pictures, of a page that shows this run, and how far the lanes are
+// scrolled.
 /** @param {Run} run */
 export function measured(run) {
   const size = (id) => {
     const { clientWidth: width, clientHeight: height } = byId(id);
     return { width, height };
   };
+  const { clientWidth: width, scrollTop: top } = byId('lanes');
   return {
-    lanes: { width: size('lanes').width, height: lanesHeight(run) },
+    lanes: { width, height: lanesHeight(run), top },
     memory: size('memory-picture'), slider: size('slider-picture'), there: size('there-picture'),
   };
 }
@@ -82,8 +84,8 @@ export function drawPictures(shown, sizes) {
 // What is left free below the code, and how near its lines may be.
 const EDGE = 4;
 const NEAREST_LINES = 21;
-// The sentences on a move in smaller letters, if they do not fit otherwise; then less beside them,
-// and at last more room for them.
+// If the sentences on a move do not fit, their letters get smaller, then less is shown beside them,
+// and at last they get more room.
 const FITS = ['', '1', '1 2', '1 2 3', '1 2 3 4', '1 2 3 4 5'];
 // In a hall no letters are smaller.
 const FITS_IN_A_HALL = ['', 'hall', 'hall less'];
@@ -131,8 +133,11 @@ function drawTime(page, view, room, reveals) {
   layout.chosen = lanes.includes(page.lane) ? page.lane : null;
   box.setAttribute('aria-activedescendant', layout.chosen === null ? '' : `lane-${page.lane}`);
   const height = `${Math.min(layout.height, room.height)}px`;
-  if (box.style.height !== height) box.style.height = height;
-  const at = reveals ? laneInView(box.scrollTop, room.height, view, layout) : box.scrollTop;
+  const isResized = box.style.height !== height;
+  if (isResized) box.style.height = height;
+  // Reading scrollTop here would cost a layout, which most moves can do without.
+  const from = isResized ? box.scrollTop : room.top;
+  const at = reveals ? laneInView(from, room.height, view, layout) : from;
   const top = Math.max(0, Math.floor(at / layout.laneHeight) - 1);
   const bottom = Math.min(lanes.length - 1, Math.ceil((at + room.height) / layout.laneHeight));
   show(byId('numbers'), numbersPicture(view, layout));

@@ -7,13 +7,13 @@ import { texts } from '../texts/texts.js';
 import { commonMoves } from '../model/compare_runs.js';
 import { looks, partsShown } from '../model/looks.js';
 import { isCovered } from '../model/remarks.js';
-import { moveText } from '../model/report.js';
 import { lockOf } from '../locks/locks.js';
 import { refusalFacts } from '../locks/refusal_facts.js';
 import { codeView, linesMade } from './code_view.js';
 import { lectureView } from './lecture_view.js';
 import { moveView, questionView, spokenText, whoRows } from './move_view.js';
 import { endView, quizForm, resultView, scoreView } from './quiz_view.js';
+import { doneText, doneWord } from './recorded_view.js';
 import { refusedView } from './refused_view.js';
 
 /** @typedef {import('../model/run.js').Run} Run */
@@ -49,7 +49,9 @@ function drawCaption(page, view, state) {
 function drawBar(page, view, state, lines) {
   const isShown = looks.hall || looks.embed;
   const quiz = isShown && page.quiz.on && !partsShown().includes('now') && quizView(page, view);
-  const move = isShown && currentView({ ...view, asks: Boolean(quiz && quiz.form) }, state, lines);
+  const facts = view.refused && refusalFacts(page.session);
+  const asks = Boolean(quiz && quiz.form);
+  const move = isShown && currentView({ ...view, asks }, state, lines, facts);
   show(byId('current'), html`${move}${quiz && html`<div class="bar-quiz">${quiz.score}${
     quiz.form}${quiz.came}</div>`}${isShown && lectureView(page)}`);
 }
@@ -81,16 +83,19 @@ function drawNow(page, view, state) {
   write(byId('spoken'), checked + (refused || said));
 }
 
-// In a hall and in a frame: the move, its line of code, and its question.
+// In a hall and in a frame: the move, its line of code, why it is refused, and its question.
 /** @param {View} view @param {State} state */
-function currentView(view, state, lines) {
-  const { run, move, names, refused } = view;
-  const [thread, word] = refused ? [run.refusal.thread, run.refusal.word]
-    : move ? moveText(run, move).split(' ') : [];
+function currentView(view, state, lines, facts) {
+  const { run, move, place, names, refused } = view;
+  const thread = refused ? run.refusal.thread : run.records.thread(move);
+  const covers = isCovered(view, 'facts');
   const code = linesMade(view, state, lines).map((line) => line.code.trim()).join('; ');
-  return html`<p><b>${refused ? '✕' : move}</b> ${word ? html`${names.of(Number(thread))},
-    <span class="mono">${word}</span>` : texts.before} ${refused && texts.refused.refused}
-    <code translate="no">${code}</code></p>${!view.asks && questionView(view)}`;
+  return html`<p><b>${refused ? '✕' : move}</b> ${place ? html`${names.of(thread)},
+    <span class="mono">${covers ? doneWord(run, place) : doneText(run, place)}</span>`
+    : texts.before} ${refused && texts.refused.refused}
+    <code translate="no">${code}</code></p>
+    ${facts && !partsShown().includes('now') && html`<p>${facts.said[0]}</p>`}
+    ${!view.asks && questionView(view)}`;
 }
 
 /** @param {Run} run */

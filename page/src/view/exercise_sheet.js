@@ -41,7 +41,7 @@ function questions({ remarks: { ask } }, { from, to }) {
     <dt>${move}</dt><dd>${text}${line}${line}</dd>`)}</dl></div>`;
 }
 
-// The moves after which memory is asked for: of several two, apart from each other.
+// The moves after which memory is asked for: at most two, apart from each other.
 function picturedMoves({ remarks: { hide } }, { from, to }) {
   const all = [...hide].filter(([move, parts]) => parts.includes('memory') && move >= from
     && move <= to).map(([move]) => move).sort((one, other) => one - other);

@@ -281,8 +281,8 @@ function hereColumn(layout, y, height) {
     height="${height}" rx="7"/>`;
 }
 
-// A line before the column of the first move that differs from what is compared. The lanes of
-// two runs may be too low for its sign above their words.
+// A line before the column of the first move that differs from the compared run. The lanes of two
+// runs may be too low for its sign above their words.
 /** @param {View} view @param {Layout} layout */
 function differentColumn(view, layout) {
   const { different } = view;

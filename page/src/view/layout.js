@@ -50,7 +50,7 @@ function firstMove(moves, move, visible) {
   return Math.min(Math.max(1, wanted), moves - visible + 1);
 }
 
-// As wide as the longest name that a thread was given, if there is so much room.
+// As wide as the longest name that a thread was given, if there is room for it.
 export function gutterOf(names, width) {
   const longest = Math.max(0, ...[...names.given.values()].map((name) => widthOf(name, 'lane')));
   const wanted = Math.ceil(longest) + NAME_EDGES.left + NAME_EDGES.right;
@@ -111,8 +111,8 @@ export function layOutLanes(view, all, room, zoom) {
 }
 
 // The lanes of another run in the columns of this layout. `columns` has the column of each of its
-// moves, from its move 0 on; further moves are in the columns after the last of these. What goes on
-// at the move that is shown goes on up to the column that is shown.
+// moves, from move 0 on; further moves are in the columns after the last of these. A span that
+// lasts at the shown move is drawn up to the shown column.
 /** @param {Layout} layout @param {View} view */
 export function layOutBeside(layout, view, columns, room) {
   const { run, place, future } = view;

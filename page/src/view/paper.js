@@ -2,7 +2,7 @@
 // table of moves. With answers, or with blanks as an exercise.
 
 import { html } from '../lib/markup.js';
-import { MOVES, OUTCOMES } from '../machine/codes.js';
+import { OUTCOMES } from '../machine/codes.js';
 import { texts } from '../texts/texts.js';
 import { holdersText, queueText } from '../model/report.js';
 import { lockOf } from '../locks/locks.js';
@@ -11,6 +11,7 @@ import { codeView } from './code_view.js';
 import { exercise } from './exercise_sheet.js';
 import { lanesPicture, numbersPicture } from './lanes.js';
 import { legend } from './legend.js';
+import { doneText, sourceView } from './recorded_view.js';
 import { sheetPlan } from './sheet_plan.js';
 
 /** @typedef {import('../model/session.js').View} View */
@@ -72,10 +73,11 @@ function answers(view, move) {
 
 /** @param {View} view */
 function row(view, move) {
-  const { run: { records }, names } = view;
+  const { run, names } = view;
+  const source = sourceView(run.sourceOf(move));
   const cells = [
-    move, threadName(names, records.thread(move)),
-    html`<code>${MOVES[records.action(move)]}</code>`, ...answers(view, move),
+    move, threadName(names, run.records.thread(move)),
+    html`<code>${doneText(run, move)}</code>${source && html` ${source}`}`, ...answers(view, move),
   ];
   return html`<tr>${cells.map((cell) => html`<td>${cell}</td>`)}</tr>`;
 }

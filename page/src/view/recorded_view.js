@@ -23,6 +23,16 @@ function lockText(run, move) {
   return `${[...parts, result].join(' ').trim()}, ${outcome}`;
 }
 
+// The word of a move, or of the refused one after the last.
+/** @param {Run} run */
+export const doneWord = (run, move) => (move > run.count ? run.refusal.word
+  : MOVES[run.records.action(move)]);
+
+// The same, of a trace with all that was recorded.
+/** @param {Run} run */
+export const doneText = (run, move) => run.recorded(move).replace(/^\d+ /, '')
+  || doneWord(run, move);
+
 export const sourceView = (source) => source && html`<span class="soft source">${source}</span>`;
 
 // The line as it is written, with its place in the source; nothing if it says no more than its

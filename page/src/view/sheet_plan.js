@@ -48,7 +48,7 @@ function sheetsOf({ inStrip, perSheet }, moves) {
   return Math.ceil(Math.ceil(moves / inStrip) / perSheet) + Math.ceil(moves / ROWS) + OTHER_SHEETS;
 }
 
-// {from, to, strip, lanes}: of more moves than have room those around the current one.
+// {from, to, strip, lanes}. If not all moves have room, those around the current one are printed.
 /** @param {View} view */
 export function sheetPlan(view) {
   const { run, move } = view;
