@@ -1,8 +1,8 @@
-"""The tests in Rattle, of what only a call of a library shows.
+"""Runs the tests in Rattle, which call the libraries and check what no program shows.
 
-`rt try` runs them in a copy of the crates, as modules of `lk_tests` and with no proof, each in a
-process of its own, in which the kit looks for wrong accesses to memory. A file `.rt` has to be in a
-crate, where `rt ci` would prove it.
+`rt try` runs them in a copy of the crates, as modules of `lk_tests` and without proofs. Each test
+has a process of its own, in which the kit looks for wrong accesses to memory. The files are no
+`.rt`, since such a file has to be in a crate, where `rt ci` would prove it.
 """
 import re
 import shutil
@@ -19,7 +19,7 @@ pytestmark = [pytest.mark.slow, pytest.mark.xdist_group("library")]
 
 @pytest.fixture(scope="module")
 def lines(tmp_path_factory):
-    """The result of each, by one run of all."""
+    """The output of one run of all tests, which has the result of each."""
     assert shutil.which("rt"), "rt, of the Rattle kit, is not on the path"
     copy = tmp_path_factory.mktemp("library")
     shutil.copytree(TOP / "crates", copy / "crates", ignore=shutil.ignore_patterns("out"))

@@ -1,20 +1,25 @@
-/* lr::atomic<T>: each operation has one point before it, and does what std::atomic<T> does. C++14.
+/* lr::atomic<T>: each operation has one point before it, by which EXPLORE knows loads from other
+   operations, and does what std::atomic<T> does. C++14.
 
-   Prints each operation that does not, and ends with 1 if one did. */
+   Prints each operation that does not, and ends with 1 if there is one. */
 #include <cstdint>
 
+#ifndef LR_MODE
 #define LR_MODE SEED
+#endif
 #include "../../record/lockreplay_record.h"
 
 static lr_run *run;
 static int failed;
 
-/* Does an operation, and compares its answer and how many points it had. */
+/* Makes an operation, and compares its answer and its number of points. */
 template <class Work, class T> static void has_one(const char *name, Work work, T due)
 {
     run->logs[0].turn.has_passed = 0;
     size_t before = run->turns;
     bool is_well = work() == due;
+    bool writes = !strstr(name, "load") && !strstr(name, "unsigned(");
+    is_well = is_well && (!LR_REDUCES || run->footprint.writes == writes);
     if (is_well && run->turns == before + 1) return;
     failed = 1;
     printf("%s: %zu points, %s\n", name, run->turns - before, is_well ? "well" : "not well");

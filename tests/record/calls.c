@@ -1,5 +1,5 @@
-/* Threads that use the recording header wrongly, or wait for one another: BODY says which of them
-   are tried. test_modes.py has the bodies, and what is due. */
+/* Threads that use the recording header wrongly, or wait for one another. BODY calls what a test
+   tries; test_modes.py has the bodies and the messages that are due. */
 #include "../../record/lockreplay_record.h"
 
 static lr_run *run;
@@ -47,14 +47,50 @@ static void *wakes_one(void *of)
     lr_begin(log);
     if (log->thread == 0) {
         while (!run->parked) LR_SWITCH();
+        LR_SIGNAL(&woken, (void)0); /* another condition: it wakes nobody */
+        for (int turn = 0; turn < 20; turn++) LR_SWITCH();
         woken = 1;
-        LR_SIGNAL(&woken, (void)0);
-        LR_SWITCH();
         LR_SIGNAL(&condition, (void)0);
     } else {
         LR_WAIT(&condition, (void)0, (void)0, (void)0);
         if (!woken) _Exit(9);
     }
+    lr_end(log);
+    return NULL;
+}
+
+static void *polls_without_a_note(void *of)
+{
+    lr_log *log = (lr_log *)of;
+    lr_begin(log);
+    if (log->thread == 1) LR_CALL(acquire);
+    for (;;) (void)__atomic_load_n(&woken, __ATOMIC_SEQ_CST);
+    return NULL;
+}
+
+/* Thread 1 waits. Thread 0 only lets it go first. */
+static void *signals_nothing(void *of)
+{
+    lr_log *log = (lr_log *)of;
+    lr_begin(log);
+    for (int turn = 0; log->thread == 0 && turn < 1000; turn++) LR_SWITCH();
+    if (log->thread == 1) LR_WAIT(&condition, (void)0, (void)0, (void)0);
+    lr_end(log);
+    return NULL;
+}
+
+/* Two threads wait. Then thread 2 wakes one of them or, if `woken` is set, both. */
+static void *waits_or_wakes(void *of)
+{
+    lr_log *log = (lr_log *)of;
+    lr_begin(log);
+    while (log->thread == 2 && run->parked != 3) LR_SWITCH();
+    if (log->thread < 2)
+        LR_WAIT(&condition, (void)0, (void)0, (void)0);
+    else if (woken)
+        LR_BROADCAST(&condition, (void)0);
+    else
+        LR_SIGNAL(&condition, (void)0);
     lr_end(log);
     return NULL;
 }
@@ -65,11 +101,75 @@ static void start(void *(*work)(void *), unsigned threads)
     for (unsigned t = 0; t < threads; t++) pthread_create(&id, NULL, work, lr_log_of(run, t));
 }
 
+/* Takes two steps, before each of which another thread may have its turn. */
+static void take_two_steps(unsigned thread, unsigned round)
+{
+    (void)thread, (void)round;
+    LR_ADD(next_ticket, 0);
+    LR_ADD(next_ticket, 0);
+}
+
+/* Prints the order in which two threads take their four steps, a line for each seed. */
+static void orders(unsigned seeds)
+{
+    const lr_driver driver = {"ticket", 64, NULL, take_two_steps, NULL};
+    for (unsigned seed = 1; seed <= seeds; seed++) {
+        run = lr_open("ticket", 2, 64, 2, seed, NULL);
+        if (lr_go(run, &driver, 1, 20) || run->ordered != 4) _Exit(9);
+        printf("%d%d%d%d\n", run->order[0], run->order[1], run->order[2], run->order[3]);
+        lr_close(run);
+    }
+}
+
+/* Prints which of two threads that wait are woken, a line for each seed. */
+static void wakes(unsigned seeds)
+{
+    for (unsigned seed = 1; seed <= seeds; seed++) {
+        run = lr_open("rw-fifo", 3, 64, 9, seed, NULL);
+        start(waits_or_wakes, 3);
+        lr_wait_for(run, 20);
+        for (unsigned t = 0; t < 2; t++)
+            if (lr_count_of(run->logs[t].ended)) printf("%u", t);
+        printf("\n");
+    }
+}
+
+/* The number of the note or the point that is made. */
+static unsigned number;
+
+#ifdef LR_NOISE
+/* These replace the system's. Each prints the thread, and the number of what it delays. */
+int sched_yield(void) { return printf("%u %u yields\n", lr_thread(), number); }
+
+int select(int count, fd_set *in, fd_set *out, fd_set *odd, struct timeval *time)
+{
+    (void)count, (void)in, (void)out, (void)odd;
+    if (time->tv_sec || time->tv_usec < 0 || time->tv_usec > 100) _Exit(9);
+    return printf("%u %u sleeps\n", lr_thread(), number);
+}
+#endif
+
+static void make_notes(unsigned thread, unsigned count)
+{
+    lr_self = lr_log_of(run, thread);
+    for (number = 0; number < count; number++) LR_CALL(acquire);
+    lr_self = &lr_outside;
+}
+
+static void make_points(unsigned thread, unsigned count)
+{
+    lr_self = lr_log_of(run, thread);
+    for (number = 0; number < count; number++) __atomic_store_n(&woken, 1, __ATOMIC_SEQ_CST);
+    lr_self = &lr_outside;
+}
+
 int main(void)
 {
-    (void)twice, (void)start, (void)keeps_its_turn, (void)waits_for_ever, (void)polls_for_ever;
-    (void)wakes_one;
-    run = lr_open("mcs", 2, 64, 100, 1, NULL);
+    (void)orders, (void)make_notes, (void)twice, (void)start, (void)keeps_its_turn,
+        (void)waits_for_ever, (void)polls_for_ever;
+    (void)wakes_one, (void)polls_without_a_note, (void)signals_nothing, (void)wakes;
+    (void)make_points;
+    run = lr_open("mcs", 2, 64, 8000, 1, NULL);
     BODY;
     return 0;
 }

@@ -1,4 +1,4 @@
-"""The recorders, and the judge of what they record."""
+"""Fixtures: the recorders, the judge of their records, and tours."""
 import pytest
 
 from recorders import RECORDERS, Judge, folder_of, once
@@ -7,7 +7,7 @@ from tree import ran
 
 @pytest.fixture(scope="session")
 def shared(tmp_path_factory):
-    """A folder for what is built once, by whichever worker of pytest comes first."""
+    """A folder for files that the first worker of pytest builds for all workers."""
     return folder_of(tmp_path_factory.getbasetemp()) / "recorders"
 
 
@@ -23,7 +23,7 @@ def judge(locktrace, lockreplay):
 
 @pytest.fixture
 def tour(shared, locktrace):
-    """The folder with a tour of three threads with a round each."""
+    """Writes a tour of a lock for three threads with one round each, and returns its folder."""
     def made(lock):
         folder = shared / f"tour-{lock}"
         once(folder.with_suffix(".made"), lambda: ran(
@@ -33,7 +33,7 @@ def tour(shared, locktrace):
 
 
 def pytest_sessionfinish(session):
-    """Writes what was found of planted mistakes, if asked to."""
+    """With --write-planted, writes the results of test_planted.py into the tables."""
     reporter = session.config.pluginmanager.get_plugin("terminalreporter")
     if reporter is None or not session.config.getoption("write_planted"):
         return

@@ -1,4 +1,4 @@
-/* A ticket lock of atomics that note themselves; thread 1 does BODY in its fourth round, inside. */
+/* A ticket lock of atomics that note themselves. In its fourth round, thread 1 runs BODY inside. */
 #include <assert.h>
 #include <pthread.h>
 #include <sched.h>

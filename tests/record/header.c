@@ -1,4 +1,4 @@
-/* What the recording header writes, note by note, by one thread: every line is known. C11, C++14.
+/* One thread makes notes, and compares every line that the recording header writes. C11, C++14.
 
        recording_header DIRECTORY
 
@@ -16,7 +16,7 @@ static void check(const char *name, int holds)
     printf("failed: %s\n", name);
 }
 
-/* Saves thread 0's log and compares it. */
+/* Saves the log of thread 0, and compares it with the lines due. */
 static void check_log(const char *name, lr_run *run, const char *due)
 {
     char path[4096], text[4096];
@@ -35,7 +35,7 @@ static void check_log(const char *name, lr_run *run, const char *due)
     lr_close(run);
 }
 
-/* A run of one thread, in which that thread has begun. */
+/* Opens a run of one thread, and begins the thread. */
 static lr_run *one_thread(const char *lock, unsigned bits, size_t moves)
 {
     lr_run *run = lr_open(lock, 1, bits, moves, 0, directory);
@@ -54,13 +54,14 @@ static void every_note(void)
     LR_SWAP(tail, LR_RECORD(records, none));
     LR_CALL(release);
     LR_READ(next, LR_RECORD(records, &records[2]));
-    LR_CAS(tail, 1);
+    LR_CAS(tail, 2);
     LR_CAS(tail, 0);
     LR_JOIN();
     LR_ADD(next_ticket, 65535);
     LR_READ(now_serving, UINT64_MAX);
     LR_READ_OF(locked, 2, 1);
     LR_WRITE_OF(next, 63, 1);
+    LR_WRITE_OF(next, 64, 1);
     LR_WRITE_OF(next, -1, 1);
     LR_SWITCH();
     lr_end(log);
@@ -69,7 +70,8 @@ static void every_note(void)
               "acquire\nwrite next left 0\nswap tail found 0\nrelease\nread next found 3\n"
               "cas tail done\ncas tail failed\nadd next_ticket found 65535\n"
               "read now_serving found 18446744073709551615\nread locked of 2 found 1\n"
-              "write next of 63 left 1\nwrite next of 255 left 1\ndropped 0\n");
+              "write next of 63 left 1\nwrite next of 255 left 1\nwrite next of 255 left 1\n"
+              "dropped 0\n");
 }
 
 static void a_counter_has_its_width(void)
@@ -175,7 +177,7 @@ static void a_full_log_counts_what_it_drops(void)
               "acquire\nadd next_ticket found 0\ndropped 3\n");
 }
 
-/* Puts a text into a file of the directory, or sees whether the file is there. */
+/* Writes a text into a file of the directory, or tells whether the file is there. */
 static int file_of(const char *name, const char *text)
 {
     char path[4096];
@@ -208,13 +210,13 @@ static void two_runs_have_two_numbers(void)
     lr_close(other);
 }
 
-/* Notes that thread 0 waits for thread 1's grant, in a line of a file. */
+/* Notes that thread 0 polls `locked` of record 1, at a line of a file. */
 static void poll_at(const char *file, unsigned line)
 {
     lr_note(lr_self, LR_STEP_read, LR_PLACE_locked, 1, LR_PART_found, 1, file, line);
 }
 
-/* Where the last move that was written was noted. A poll is the same in another file. */
+/* Each move in a log has the place of its note. A poll from another file is the same poll. */
 static void a_move_has_its_place(void)
 {
     enum { FILES = 300 };
@@ -256,6 +258,10 @@ static void what_cannot_be_opened_or_saved(void)
     check("1 bit", !lr_open("mcs", 1, 1, 1, 0, NULL));
     check("65 bits", !lr_open("mcs", 1, 65, 1, 0, NULL));
     check("as many threads as values", !lr_open("mcs", 4, 2, 1, 0, NULL));
+    check("64 threads of 6 bits", !lr_open("mcs", 64, 6, 1, 0, NULL));
+    lr_run *most = lr_open("mcs", 63, 6, 1, 0, NULL);
+    check("63 threads of 6 bits", most != NULL);
+    lr_close(most);
     check("no such lock", !lr_open("clh", 1, 64, 1, 0, NULL));
     check("more moves than bytes", !lr_open("mcs", 1, 64, SIZE_MAX, 0, NULL));
     lr_run *run = one_thread("mcs", 64, 0);

@@ -1,7 +1,7 @@
-"""The mistakes of the recorders' suite: where each shows, and how often.
+"""The mutants of the recorders' suite: where each mistake shows, and how often.
 
-A mistake is a patch, mistakes/RECORDER/EXAMPLE/NAME.patch, which `git apply` takes. It shows in a
-seeded run's trace, in a line that a function of signs.py finds, or the run hangs.
+`git apply` takes the patch of a mistake, mistakes/RECORDER/EXAMPLE/NAME.patch. The mistake shows in
+the trace of a seeded run, at a line that a function of signs.py finds, or the run hangs.
 """
 from pathlib import Path
 from typing import Callable, NamedTuple
@@ -18,10 +18,10 @@ class Mistake(NamedTuple):
     name: str
     sign: Callable  # None if the run hangs
     shown: range  # in how many of the 50 seeded runs it shows
-    explored: int  # how many preemptions show it: of 3 threads with a round each. None: counters
-    #                have to wrap, or it is not tried
-    followed: bool  # whether a tour notices it: not if counters have to wrap, if it is in signals,
-    #                 or inside an operation
+    explored: int  # how many preemptions show it in 3 threads with a round each. None: only a
+    #                wrap of counters shows it, or nobody tried it
+    followed: bool  # whether a tour notices it. A tour does not if only a wrap of counters shows
+    #                 it, or if the mistake is in signals or inside an operation
 
     def __str__(self):
         return f"{self.recorder}-{self.example}-{self.name}"
@@ -40,8 +40,8 @@ IN_C = [Mistake("c", *of) for of in (
     ("rw_simple", "ignores-readers", signs.writes_beside_another, MOST, None, True),
     ("rw_fifo", "passes-announced-writer", signs.passes_a_writer, MOST, None, True),
 )]
-# A reader that wakes nobody shows only if neither the unlock of another writer, which wakes all,
-# nor a spurious wakeup hides it.
+# A reader that wakes nobody rarely shows: a spurious wakeup hides it, and so does the unlock of
+# another writer, which wakes all.
 IN_RUST = [Mistake("rust", *of) for of in (
     ("ticket", "waits-while-less", signs.enters_at_another_ticket, EACH, None, False),
     ("ticket", "serves-the-next-ticket", signs.serves_another_ticket(8), EACH, 1, True),

@@ -1,5 +1,7 @@
-/* An MCS lock of atomics that note themselves, its records on the stacks of their threads. With
-   SWAP_OF_TWO the swap of the tail is a load and a store. C11; noted.cc is the same in C++. */
+/* An MCS lock of atomics that note themselves. Each thread has its record on its stack; with
+   SIDE_BY_SIDE it has one in an array, and another one in each second round. With SWAP_OF_TWO the
+   swap of the tail is a load and a store; with NOBODYS no thread tells the recorder which record is
+   its own. C11; noted.cc is the same in C++. */
 #include <sched.h>
 #include <stdatomic.h>
 #include <stddef.h>
@@ -27,7 +29,9 @@ static record *swap_tail(record *own)
 static void acquire(record *own)
 {
     LR_CALL(acquire);
+#ifndef NOBODYS
     lr_own_record(own);
+#endif
     lr_store_explicit(&own->next, NULL, memory_order_relaxed, LR_NEXT);
     record *before = swap_tail(own);
     if (!before) return;
@@ -49,11 +53,16 @@ static void reset(void) { tail = NULL; }
 
 static void one_round(unsigned thread, unsigned round)
 {
-    record own = {NULL, 0};
+#ifdef SIDE_BY_SIDE
+    static record records[2][4];
+    record *own = &records[round % 2][thread];
+#else
+    record on_the_stack = {NULL, 0}, *own = &on_the_stack;
+#endif
     (void)thread, (void)round;
-    acquire(&own);
+    acquire(own);
     LR_SWITCH();
-    release(&own);
+    release(own);
 }
 
 int main(int count, char **words)

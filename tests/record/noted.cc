@@ -1,5 +1,6 @@
-/* An MCS lock of atomics that note themselves, its records on the stacks of their threads. With
-   SWAP_OF_TWO the swap of the tail is a load and a store. C++14; noted.c is the same in C. */
+/* An MCS lock of atomics that note themselves. Each thread has its record on its stack; with
+   SIDE_BY_SIDE it has one in an array, and another one in each second round. With SWAP_OF_TWO the
+   swap of the tail is a load and a store. C++14; noted.c is the same in C. */
 #include <atomic>
 
 #include "../../record/lockreplay_record.h"
@@ -47,12 +48,18 @@ void release(record *own)
 
 void reset() { tail.store(nullptr); }
 
-void one_round(unsigned, unsigned)
+void one_round(unsigned thread, unsigned round)
 {
-    record own;
-    acquire(&own);
+#ifdef SIDE_BY_SIDE
+    static record records[2][4];
+    record *own = &records[round % 2][thread];
+#else
+    record on_the_stack, *own = &on_the_stack;
+    (void)thread, (void)round;
+#endif
+    acquire(own);
     LR_SWITCH();
-    release(&own);
+    release(own);
 }
 
 } // namespace

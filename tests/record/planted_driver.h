@@ -2,8 +2,8 @@
 
        LOCK THREADS ROUNDS SEEDS             SEED: prints how many of the runs by the seeds from 1
                                              on are refused or hang
-       LOCK THREADS ROUNDS SEED DIRECTORY    VALUES: status 1 if threads are left, and each of
-                                             them is stuck (stuck.h)
+       LOCK THREADS ROUNDS SEED DIRECTORY    VALUES: status 1 if threads are left and all of
+                                             them are stuck (stuck.h)
 
    The other modes are those of the header's own main function.
 
@@ -56,7 +56,7 @@ static size_t noted(lr_run *run)
     return count;
 }
 
-/* Whether all threads end. */
+/* Waits until all threads end or all threads left are stuck: whether all ended. */
 static int all_end(lr_run *run)
 {
     static struct tasks tasks;
@@ -69,7 +69,7 @@ static int all_end(lr_run *run)
     return !lr_missing(run);
 }
 
-/* A log that is full is no fault here: some mistakes never come to an end. */
+/* A full log is no fault here, since a lock with some mistakes runs without end. */
 static int try_runs(const lr_driver *driver, int count, char **words)
 {
     unsigned rounds = (unsigned)atoi(words[2]);

@@ -1,4 +1,4 @@
-"""The tables of mistakes/README.md: in how many runs each planted mistake is noticed, by mode."""
+"""The tables of mistakes/README.md: how many runs of each mode notice each planted mistake."""
 import re
 
 from mistakes import PATCHES
@@ -9,7 +9,7 @@ RUNS = 60
 
 
 def read():
-    """The rows by lock and mistake: {column: what it says}."""
+    """A map from (lock, mistake) to its row, {column: cell}."""
     rows, columns, lock = {}, [], ""
     for line in TABLES.read_text().split(END)[0].splitlines():
         lock = re.sub(r"^## .*`(\w+)\.c`.*", r"\1", line) if line.startswith("## ") else lock
@@ -22,7 +22,7 @@ def read():
 
 
 def is_in_all(row, modes):
-    """Whether a mistake is noticed in all runs of a mode. A search is one run."""
+    """Whether all runs of one of the modes notice a mistake. A search counts as one run."""
     return any(row.get(mode) == str(RUNS) or re.match(r"\d+, \d+$|[1-9]\d*/\d+$", row.get(mode, ""))
                for mode in modes)
 
@@ -38,8 +38,8 @@ def table(lock, mistakes, rows, modes):
 
 
 def write(mistakes, found, modes):
-    """Writes the tables with what was found: {(lock, mistake, mode): what it says}. What was not
-    tried stays. `mistakes` has by lock each name with what the lock does then."""
+    """Writes the cells `found`, {(lock, mistake, mode): cell}, into the tables, and keeps all other
+    cells. `mistakes` maps each lock to its mistakes: the name, and what the lock then does."""
     rows = read()
     for (lock, name, mode), said in found.items():
         rows.setdefault((lock, name), {})[mode] = said

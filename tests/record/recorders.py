@@ -1,6 +1,6 @@
-"""The two recorders, in C and in Rust: their examples, right or with a mistake, built and run.
+"""Builds and runs the examples of the recorders in C and in Rust, right or with a mistake.
 
-Whatever is built is built once, in a folder that all workers of pytest share.
+Each program is built once, in a folder that all workers of pytest share.
 """
 import fcntl
 import re
@@ -20,7 +20,7 @@ CHECKED = ["FOLLOW", "EXPLORE"]  # modes in which a program checks its runs
 
 
 def once(path, make):
-    """Has a file made once, whichever worker comes first."""
+    """Makes a file once: the first worker calls `make`, and the others wait for it."""
     path.parent.mkdir(parents=True, exist_ok=True)
     with open(f"{path}.lock", "w") as lock:
         fcntl.flock(lock, fcntl.LOCK_EX)
@@ -31,7 +31,7 @@ def once(path, make):
 
 
 def plant(patch, folder):
-    """Copies the files that a patch changes, and puts the mistake in; answers their paths."""
+    """Copies the files that a patch changes, applies the patch, and returns their paths."""
     names = re.findall(r"^--- a/(\S+)", patch.read_text(), re.MULTILINE)
     for name in names:
         (folder / name).parent.mkdir(parents=True, exist_ok=True)
@@ -46,27 +46,28 @@ def language(compiler, standard="17"):
 
 
 def compile_c(compiler, source, target, *flags, library=None, standard="17"):
-    """The compiler's output: empty if it has no error and no warning."""
+    """The compiler's output, which is empty if there is no error and no warning."""
     done = ran(compiler, *language(compiler, standard), *WARNINGS, "-O2", "-pthread", *flags, "-o",
                target, source, *(["-x", "none", library] if library else []))
     return done.stderr + (f"status {done.returncode}" if done.returncode else "")
 
 
 class Recorder:
-    """`runs` are threads and rounds by mode, with the numbers of the runs; in the modes of `traced`
-    the order of the steps is known, and in those of `free` threads run as they like."""
+    """`runs` maps each mode to its threads, rounds and numbers of runs. Runs in a mode of `traced`
+    have a trace, since the order of their steps is known. In a mode of `free` the system schedules
+    the threads."""
 
     def __init__(self, folder, library, locktrace):
         self.folder, self.library, self.locktrace = folder, library, locktrace
 
     def run(self, target, example, mode, number, mistake=None, seconds=60):
-        """One run, whose logs go to a folder: what the command did."""
+        """Makes one run, which writes its logs to the folder `target`."""
         threads, rounds, _ = self.runs[mode]
         target.mkdir(parents=True, exist_ok=True)
         return ran(*self.command(example, mode, mistake), threads, rounds, number, target, seconds)
 
     def search(self, words, target, example, mode, mistake=None):
-        """Explores runs, or follows the schedules of a folder: its traces go to another."""
+        """Explores runs, or follows schedules, and writes the traces to the folder `target`."""
         target.mkdir(parents=True, exist_ok=True)
         return ran(*self.command(example, mode, mistake), *words, target)
 
@@ -90,7 +91,7 @@ class InC(Recorder):
         return folder / SOURCES.relative_to(TOP) / f"{example}.c"
 
     def command(self, example, mode, mistake=None):
-        """A program for each mode. Traces of searches are checked with all their values."""
+        """Builds one program for each mode. A search checks its traces with all values."""
         flags = {"FOLLOW": ["-DLR_CHECK"]}.get(mode, [])
         program = self.folder / f"{mistake or example}-{mode}"
 
@@ -111,13 +112,13 @@ class InRust(Recorder):
 
     @property
     def crate(self):
-        """A copy of the crate, and one with an example for each mistake."""
+        """Makes a copy of the crate, and another copy with an example for each mistake."""
         def copy():
             for name in ("crate", "planted"):
                 assert output(TOP / "packaging" / "crate.sh", self.folder / name) == ""
             for mistake in IN_RUST:
                 [planted] = plant(mistake.patch, self.folder / "copies" / mistake.name)
-                # a mistake may leave something that is not used
+                # a mistake may leave something unused
                 text = planted.read_text().replace("mod driver;", "#![allow(unused)]\nmod driver;")
                 example = f"{example_of(mistake)}.rs"
                 (self.folder / "planted" / "examples" / example).write_text(text)
@@ -125,8 +126,8 @@ class InRust(Recorder):
         return self.folder / "crate"
 
     def cargo(self, *words, tool="cargo", crate=None, level="3"):
-        """The output of Debian's cargo: empty if all is well. It is as old as any that the crate is
-        for, it is offline, and a warning is an error."""
+        """The output of Debian's cargo, the oldest that the crate supports; empty if all is well.
+        Cargo runs offline, and a warning is an error."""
         flags = "-D warnings"
         crate = crate or self.crate
         done = ran(f"/usr/bin/{tool}", *words, "--offline", "--locked", cwd=crate, timeout=600,
@@ -138,8 +139,8 @@ class InRust(Recorder):
         return "" if done.returncode == 0 else (done.stdout + done.stderr)[-2000:]
 
     def built(self, *more):
-        """The folder of the built examples. Those with a feature make few runs, which take less
-        time than optimizations would."""
+        """Builds the examples, and returns their folder. Examples with a feature make few runs, so
+        optimizations would take longer than they save."""
         target = self.folder / "-".join(["built", *more])
 
         def build():
@@ -153,7 +154,7 @@ class InRust(Recorder):
         return [self.built() / (example_of(mistake) if mistake else example), mode.lower()]
 
     def checked(self, example, mistake=None):
-        """The program that checks its explored runs by itself."""
+        """The program that explores runs and checks them itself."""
         return self.built("--features", "check") / (example_of(mistake) if mistake else example)
 
 
@@ -177,25 +178,25 @@ class Judge:
         return int(at.group(1)) if at and done.returncode == 1 else None
 
     def accepts(self, traces):
-        """Asserts that `check` accepts all of these, and is silent."""
+        """Asserts that `check` accepts all these traces, and prints nothing."""
         done = ran(self.locktrace, "check", *traces)
         assert (done.stdout[:300], done.stderr[:300], done.returncode) == ("", "", 0)
         return True
 
     def order(self, target):
-        """The folder with the order of a run's logs, and the status of `order`."""
+        """Orders the logs of a run: the folder of the order, and the status of `order`."""
         ordered = target / "ordered"
         done = ran(self.locktrace, "order", *sorted(target.glob("thread-*.log")), "-o", ordered)
         return ordered, done.returncode
 
     def waits(self, schedule):
-        """How many moves of a schedule wait; asserts that it is accepted."""
+        """Asserts that a schedule is accepted, and counts its moves that wait."""
         report = ran(self.lockreplay, "replay", input=schedule).stdout
         assert report.splitlines()[-1].startswith("end ")
         return report.count(" waits ")
 
     def waits_in_order(self, target):
-        """The same for the order that is found for a right lock's logs."""
+        """The same for all schedules of the order of a right lock's logs."""
         ordered, status = self.order(target)
         assert status == 0
         schedules = sorted(ordered.glob("*.schedule"))
@@ -215,5 +216,5 @@ def words_of(text):
 
 
 def folder_of(base):
-    """The folder that all workers share, of the folder of one."""
+    """The folder that all workers share, from the folder of one worker."""
     return base.parent if re.match(r"popen-gw\d+$", base.name) else Path(base)

@@ -1,8 +1,8 @@
-"""Where a mistake of a recorded lock first shows in a trace, found without any lock's machine.
+"""Finds where a mistake of a recorded lock first shows in a trace, without a machine of the lock.
 
-Each function takes a trace's moves, as pairs of a line's number and its words, and gives the number
-of the first line in which the mistake is seen, or None if the run went without it. Each knows the
-mistake by its own sign; nothing here replays a lock.
+Each function takes the moves of a trace, as pairs (line number, words), and returns the number of
+the first line in which the mistake shows, or None if it does not show in the run. Each function
+knows only the sign of one mistake; nothing here replays a lock.
 """
 
 
@@ -27,7 +27,7 @@ def enters_at_another_ticket(moves):
 
 
 def serves_another_ticket(bits):
-    """A release writes other than one more than it read, in words of this many bits."""
+    """A release writes a value that is not one more than it read, in words of `bits` bits."""
     def first(moves):
         served = {}
         for number, (thread, *move) in moves:
@@ -55,7 +55,7 @@ def polls_again(moves):
 
 
 def makes(*words):
-    """The first move of a kind that the lock does not have, or not there."""
+    """The first move that begins with these words, which the right lock never makes."""
     def first(moves):
         return next((number for number, (_, *move) in moves if move[:len(words)] == list(words)),
                     None)
@@ -63,7 +63,7 @@ def makes(*words):
 
 
 def loses_a_write(word):
-    """A swap or an addition finds another value than the one left in its word."""
+    """A swap or an addition does not find the value that the last one left in the word."""
     def first(moves):
         left = "0"
         for number, (_, *move) in moves:
@@ -77,7 +77,7 @@ def loses_a_write(word):
 
 
 def clears_nothing(moves):
-    """An acquire swaps without a write before."""
+    """A thread swaps right after `acquire`, without the write that clears its `next`."""
     last = {}
     for number, (thread, *move) in moves:
         if move[0] == "swap" and last[thread] == "acquire":
@@ -87,7 +87,7 @@ def clears_nothing(moves):
 
 
 def links_unlocked(moves):
-    """A thread links itself though its last write was not that of `locked`."""
+    """A thread links itself though its last move did not set its `locked`."""
     last = {}
     for number, (thread, *move) in moves:
         if move[:3] == ["write", "next", "of"] and last[thread] != ["write", "locked", "left", "1"]:
@@ -108,10 +108,10 @@ def grants_to_another(moves):
 
 
 def enters(is_wrong):
-    """The first section that enters where `is_wrong(call, inside, announced)` says that it may not.
+    """The first section that enters although `is_wrong(call, inside, announced)`.
 
-    `inside` are the calls of the other threads that have the lock, `announced` the other threads
-    that set the flag of a FIFO lock and wait for readers."""
+    `inside` has the calls of the other holders, and `announced` the other threads that have set the
+    flag of a FIFO lock and wait for readers."""
     def first(moves):
         call, inside, announced = {}, {}, set()
         for number, (thread, *move) in moves:

@@ -1,10 +1,10 @@
 /* Whether the threads of a run of real threads make progress.
 
-   Time alone does not say so: on a loaded machine a thread that could go on may not run for
-   seconds. A thread is stuck if nobody has noted anything while it was asleep at every one of
-   LOOKS_ASLEEP looks without having run in between, or while it ran for TICKS of the processor's
-   time. A thread that is ready to run is never taken for one that sleeps. Linux keeps both in
-   /proc/self/task, for each thread a file whose line has its state, and 11 fields later the ticks.
+   Time alone does not tell: on a loaded machine a thread that could go on may not run for seconds.
+   A thread is stuck if nobody notes anything while it is asleep at LOOKS_ASLEEP looks in a row and
+   does not run in between, or while it runs for TICKS of processor time. A thread that is ready to
+   run never counts as asleep. In /proc/self/task Linux has a file for each thread, whose line has
+   the state, and 11 fields later the ticks.
 
    SPDX-License-Identifier: Apache-2.0 OR MIT */
 #include <dirent.h>
@@ -20,7 +20,7 @@ enum { MOST_TASKS = 256, LOOKS_ASLEEP = 10, TICKS = 5, TICK = 10000 };
 struct task {
     long id;
     unsigned long noted_at, last; /* its ticks when something was noted, and at the last look */
-    int asleep;                   /* at this many looks, one after another */
+    int asleep;                   /* how many looks in a row found it asleep */
     int is_seen;
 };
 
@@ -29,7 +29,7 @@ struct tasks {
     int count;
 };
 
-/* Reads a thread's state and its ticks: 0 if it has gone meanwhile. */
+/* Reads the state and the ticks of a thread: 0 if the thread has ended. */
 static int read_task(const char *id, char *state, unsigned long *ticks)
 {
     char path[64], line[512];
@@ -56,7 +56,7 @@ static struct task *task_of(struct tasks *tasks, long id)
     return &tasks->all[tasks->count++];
 }
 
-/* Looks at a thread: whether it is stuck. Its first look is as one at which something was noted. */
+/* Looks at a thread: whether it is stuck. The first look counts as if somebody had just noted. */
 static int look_at(struct task *task, char state, unsigned long ticks, int is_noted)
 {
     int runs = state != 'S' || ticks != task->last;
@@ -67,7 +67,7 @@ static int look_at(struct task *task, char state, unsigned long ticks, int is_no
     return task->asleep >= LOOKS_ASLEEP || ticks - task->noted_at >= TICKS;
 }
 
-/* Looks at all threads but the first, which looks: whether each of them is stuck. */
+/* Looks at all threads but the first, which does the looking: whether all of them are stuck. */
 static int are_stuck(struct tasks *tasks, int is_noted)
 {
     struct dirent *entry;

@@ -1,8 +1,8 @@
-"""The recorders as compilers see them: no warning, nothing left without a mode, no fault for a
-sanitizer.
+"""Compilers find no warning in the recorders, and sanitizers no fault; without a mode the header
+leaves nothing in a program.
 
-Also what the header writes, by a program that knows every line; the lock of docs/GUIDE.md; and the
-Rust crate's own tests, its documentation and clippy.
+A program that knows every line checks the header's output. The tests also build and run the lock of
+docs/GUIDE.md, and run the Rust crate's own tests, its documentation and clippy.
 """
 import re
 from pathlib import Path
@@ -18,12 +18,12 @@ pytestmark = pytest.mark.slow
 HERE = Path(__file__).parent
 GUIDE = (TOP / "docs" / "GUIDE.md").read_text()
 SANITIZERS = ["address,undefined", "thread"]
-# The argument of each macro that is evaluated without the header.
+# The argument of each macro that a program evaluates when the header has no mode.
 MONITOR = {"LR_LOCK": 0, "LR_UNLOCK": 0, "LR_WAIT": 2, "LR_SIGNAL": 1, "LR_BROADCAST": 1}
 OPTIONS = {"OFF": [], "VALUES": ["-DLR_NOISE"], "SEED": ["-DLR_PCT=3", "-DLR_SPURIOUS=9"],
            "FOLLOW": ["-DLR_CHECK"], "EXPLORE": ["-DLR_MOVES=9", "-DLR_SPURIOUS=0"]}
 IN_C = RECORDERS["c"].examples
-# Every compiler with the examples that it builds
+# Every compiler with the examples that it builds.
 BUILDS = [(compiler, example) for compiler in COMPILERS
           for example in (IN_C_PLUS_PLUS if "++" in compiler else IN_C)]
 
@@ -48,8 +48,8 @@ def test_compiles(compiler, example, standard, mode):
 @pytest.mark.parametrize("mode", ["VALUES", "SEED"])
 @pytest.mark.parametrize("compiler, example", [it for it in BUILDS if it[0] in ("gcc", "g++")])
 def test_sanitizer(tmp_path, compiler, example, mode, sanitizer):
-    """Without optimizations, which leave out what a sanitizer could see, and take ten times as
-    long to compile."""
+    """No sanitizer finds a fault. Optimizations are off: they would remove code that a sanitizer
+    could check, and take ten times as long to compile."""
     program = tmp_path / "program"
     assert compile_c(compiler, SOURCES / f"{example}.c", program, f"-DLR_MODE={mode}", "-g", "-O0",
                      f"-fsanitize={sanitizer}") == ""
@@ -57,7 +57,7 @@ def test_sanitizer(tmp_path, compiler, example, mode, sanitizer):
 
 
 def end_of_call(text, start):
-    """The index after the bracket that closes the one at `start`."""
+    """The index after the bracket that closes the bracket at `start`."""
     depth = 0
     for index in range(start, len(text)):
         depth += {"(": 1, ")": -1}.get(text[index], 0)
@@ -67,7 +67,7 @@ def end_of_call(text, start):
 
 
 def without_notes(text):
-    """A source with no trace of the header: no note, no inclusion, of a monitor what it does."""
+    """A source without the header and its notes. The macros of a monitor leave their argument."""
     text = re.sub(r'#include ".*lockreplay_record\.h"', NUMBERS, text)
     while found := re.search(r"LR_[A-Z_]+(?=\()", text):
         end = end_of_call(text, found.end())
@@ -86,7 +86,7 @@ def object_code(compiler, source, target, *flags):
             + output("size", "-A", target))
 
 
-# Calls the lock of an example, in place of driver.h.
+# Takes the place of driver.h, and calls the lock of an example.
 CALLER = """#include <pthread.h>
 #include <sched.h>
 #include <stdint.h>
@@ -111,7 +111,7 @@ int main(int count, char **words)
     return 0;
 }
 """
-# Numbers of calls, and where counters begin, which the header has in each mode.
+# The numbers of calls and the start of counters, which the header defines in each mode.
 NUMBERS = ("enum { LR_START, LR_CALL_acquire = 0, LR_CALL_rlock = 2, LR_CALL_runlock, "
            "LR_CALL_wlock, LR_CALL_wunlock };")
 
@@ -119,8 +119,8 @@ NUMBERS = ("enum { LR_START, LR_CALL_acquire = 0, LR_CALL_rlock = 2, LR_CALL_run
 @pytest.mark.parametrize("level", ["-O0", "-O2"])
 @pytest.mark.parametrize("compiler, example", [it for it in BUILDS if "++" not in it[0]])
 def test_nothing_is_left_of_the_header(tmp_path, compiler, example, level):
-    """Without a mode a lock gives the object code of the same source without notes and header, and
-    with VALUES another one."""
+    """Without a mode, a lock has the same object code as its source without notes and header. With
+    VALUES it has another."""
     for name, change in (("noted", str), ("bare", without_notes)):
         folder = tmp_path / name / "examples" / "recording"
         folder.mkdir(parents=True)
@@ -142,8 +142,8 @@ def test_nothing_is_left_of_the_header(tmp_path, compiler, example, level):
     "LR_CALL(acquire)", "LR_READ(now_serving, it)", "LR_WRITE_OF(locked, 1, it)",
     "LR_SECTION(it, waits)"])
 def test_note_is_short(tmp_path, compiler, note):
-    """A note of free threads costs a few instructions, without a call or a barrier: rare cases are
-    elsewhere. At 3 GHz, and 5 instructions a cycle, 36 take 2.4 ns."""
+    """A note in VALUES has at most 36 instructions, and no call or barrier in the common case. At
+    3 GHz, and 5 instructions a cycle, 36 take 2.4 ns."""
     (tmp_path / "note.c").write_text(f'#include "{TOP}/record/lockreplay_record.h"\n'
                                      f"void noted(long it);\n"
                                      f"void noted(long it) {{ (void)it; {note}; }}\n")
@@ -158,8 +158,8 @@ def test_note_is_short(tmp_path, compiler, note):
 
 @pytest.mark.parametrize("compiler", COMPILERS)
 def test_header(tmp_path, compiler):
-    """The header refuses what header.c asks for, in its order."""
-    # The libraries of clang's sanitizers are in a package of another name in each Debian.
+    """The checks of header.c pass, and the header prints these messages, in its order."""
+    # Each Debian has the libraries of clang's sanitizers in a package of another name.
     sanitizers = [] if compiler.startswith("clang") else ["-fsanitize=address,undefined"]
     assert output(compiler, *language(compiler), *WARNINGS, "-g", "-pthread", *sanitizers, "-o",
                   tmp_path / "header", HERE / "header.c") == ""
@@ -175,14 +175,47 @@ def test_header(tmp_path, compiler):
         "1 bits: a counter has 2 to 64",
         "65 bits: a counter has 2 to 64",
         "4 threads and counters of 2 bits: there have to be fewer threads than values",
+        "64 threads and counters of 6 bits: there have to be fewer threads than values",
         "there is no lock 'clh': ticket, mcs, rw-simple or rw-fifo",
         "18446744073709551615 moves for each thread are more than memory can have",
         "/no/such/directory: No such file or directory", "/dev/null: Not a directory")]
 
 
+MANUAL = (TOP / "record" / "lockreplay_record.h").read_text().split("#ifndef")[0]
+IN_SHORT = re.search(r"IN SHORT:.*\n((?: {7}.*\n)+)", MANUAL)[1]
+CALL = """static void one_call(unsigned thread, int call)
+{
+    if (call == LR_CALL_acquire) acquire();
+    if (call == LR_CALL_release) release();
+}
+int main("""
+
+
+@pytest.mark.parametrize("compiler", ["gcc", "clang"])
+@pytest.mark.parametrize("mode, words, said", [
+    ("EXPLORE", [2, 1, 2], "10 runs with up to 2 preemptions, all of them accepted\n"),
+    ("FOLLOW", ["tour"], "1 schedules of 6 moves, 0 not followed\n")])
+def test_manual(library, tmp_path, compiler, mode, words, said):
+    """The lock in the header's first comment works as it is there, and with the function for FOLLOW
+    that the comment describes. Its last line builds and runs it."""
+    *lines, command = IN_SHORT.splitlines(True)
+    assert command.split("&&")[1].split() == ["./ticket", "2", "1", "2", "logs"]
+    text = "".join(lines).replace("int main(", CALL).replace("NULL}", "one_call}")
+    (tmp_path / "ticket.c").write_text(
+        "#include <stdatomic.h>\n#include <lockreplay_record.h>\n"
+        f"static _Atomic unsigned char next_ticket, now_serving;\n{text}")
+    assert output(compiler, "-pthread", f"-DLR_MODE={mode}", "-I", TOP / "record", "-o", "ticket",
+                  "ticket.c", library, cwd=tmp_path) == ""
+    for name in ("tour", "logs"):
+        (tmp_path / name).mkdir()
+    (tmp_path / "tour" / "one.schedule").write_text(
+        "lock ticket threads 1 bits 8\n0 acquire\n0 add\n0 read\n0 release\n0 read\n0 write\n")
+    assert output("./ticket", *words, "logs", cwd=tmp_path) == said
+
+
 @pytest.fixture
 def guide(tmp_path):
-    """Builds the guide's lock in a mode: right, or with the mistake that the guide plants."""
+    """Builds the guide's lock in a mode, as it is or with one text replaced by another."""
 
     def build(mode, old="", new=""):
         text = re.search(r"```c\n(.*?)```", GUIDE, re.DOTALL).group(1).replace(old, new)
@@ -200,20 +233,21 @@ def test_guide_by_seed(guide, judge):
 
 
 def test_guide_by_threads(guide, judge):
-    """Free threads may run one after another: then the run is tried again."""
+    """The logs of free threads have an order in which a thread waits. Threads may run one after
+    another, so there are several tries."""
     folder = guide("VALUES")
     assert any(ran("./try", 3, 1000, 1, "logs", cwd=folder).stderr == ""
                and judge.waits_in_order(folder / "logs") for _ in range(20))
 
 
 def test_guide_with_its_mistake(guide, judge):
-    """The run hangs, and the guide says at which line its trace is refused."""
+    """The run hangs, and `check` refuses its trace at the line that the guide names."""
     folder = guide("SEED", "served != ticket", "served < ticket")
     assert "the run hangs" in ran("./try", 3, 1000, 17, "logs", cwd=folder).stderr
     assert f"logs/run.trace:{judge.refused_line(folder / 'logs' / 'run.trace')}: " in GUIDE
 
 
-@pytest.mark.xdist_group("cargo")  # which lets one of them work in a folder
+@pytest.mark.xdist_group("cargo")  # cargo locks its folder, so these tests share a worker
 @pytest.mark.parametrize("recorder", ["rust"], indirect=True)
 @pytest.mark.parametrize("words", [
     f"{tool} {features}".strip() for tool in ("test", "clippy --all-targets")

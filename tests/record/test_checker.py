@@ -1,7 +1,7 @@
-"""record/locktrace.c, which any C compiler takes, beside the proved library: they answer the same.
+"""record/locktrace.c, which any C compiler takes, gives the same answers as the proved library.
 
-Texts are those of all rows that somebody worked out, and traces of random runs with one value, word
-or line changed, and lines that are no moves. Both files of record/ are what their parts make.
+The texts are all worked rows, and traces of random runs with a changed value, word or line, or with
+a line that is no move. The joined files of record/ are those that join.py makes.
 """
 import ctypes
 import random
@@ -23,19 +23,19 @@ pytestmark = pytest.mark.slow
 
 TEXTS = 10_000
 ROOM = 8  # fewer than most runs have moves
-MOST, TOO_LONG = 65536, 21  # what the source alone says, of a trace with more moves
+MOST, TOO_LONG = 65536, 21  # the source alone has the fault TOO_LONG, for a trace with more moves
 WORDS = """0 1 2 3 00 255 256 lock ticket mcs rw-simple rw-fifo threads bits acquire release rlock
     runlock wlock wunlock downgrade read write swap cas add section next_ticket now_serving tail
     next locked of found left done failed called moved waits entered
     18446744073709551615 18446744073709551616
-    -1 # x""".split() + ["1" * 90]  # which makes a line too long
+    -1 # x""".split() + ["1" * 90]  # a word that makes a line too long
 OTHERS = {"next": "locked", "locked": "next", "done": "failed", "failed": "done",
           "waits": "entered", "entered": "waits", "moved": "left", "left": "found"}
 
 
 @pytest.fixture(scope="session")
 def both(shared, library):
-    """The two checks as shared libraries."""
+    """The proved check and the check in C, as shared libraries."""
     def build(name, *words):
         path = shared / f"{name}.so"
         once(path, lambda: output("gcc", "-shared", "-fPIC", "-O2", "-o", path, *words))
@@ -47,7 +47,7 @@ def both(shared, library):
 
 
 def answer_of(check, text, room=ROOM):
-    """The whole answer of a check to a text."""
+    """The whole answer of a check to a text, with its records of steps."""
     steps, answer = (Step * room)(), Answer()
     fault = check.lt_check(text, ctypes.c_size_t(len(text)), steps, ctypes.c_size_t(room),
                            ctypes.byref(answer))
@@ -56,7 +56,7 @@ def answer_of(check, text, room=ROOM):
 
 
 def worked_texts():
-    """The files of the rows of `locktrace`, and the texts of `lockreplay`, by their names."""
+    """(name, text) of each file in the rows of `locktrace`, and of each worked row."""
     for name, row in transcripts().items():
         for file, lines in row.files.items():
             yield f"{name}: {file}", text_of(lines).replace("; ", "\n").encode()
@@ -65,7 +65,7 @@ def worked_texts():
 
 
 def test_worked_texts(both):
-    """The source reports too many moves; the library makes them."""
+    """Both answer the same, but the source refuses a trace with too many moves."""
     texts = dict(worked_texts())
     answers = {name: [answer_of(check, text, len(text)) for check in both]
                for name, text in texts.items()}
@@ -76,7 +76,7 @@ def test_worked_texts(both):
 
 
 def changed_line(dice, line):
-    """A line with a word that is another one, is missing, or comes twice."""
+    """The line with one word replaced, dropped, doubled, or followed by another word."""
     words = line.split(" ")
     at = dice.randrange(len(words))
     words[at:at + 1] = dice.choice([[dice.choice(WORDS)], [], [words[at]] * 2,
@@ -85,7 +85,7 @@ def changed_line(dice, line):
 
 
 def other_line(dice, line):
-    """A move with another value, word or outcome: most are still moves."""
+    """The move with another value, word or outcome. Most results are still moves."""
     words = line.split(" ")
     places = [at for at, word in enumerate(words) if at > 1 and (word.isdigit() or word in OTHERS)]
     if places:
@@ -95,7 +95,7 @@ def other_line(dice, line):
 
 
 def changed_text(dice):
-    """The trace of a run, in most texts with a line that is changed, left out or put in."""
+    """The trace of a run, in most cases with one line changed, dropped or inserted."""
     run = random_run(dice)
     lines = [run.header, *(f"{thread} {line}" for thread, line in run.moves)]
     at = dice.randrange(len(lines))

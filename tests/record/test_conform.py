@@ -1,8 +1,8 @@
 """Recorded locks follow every schedule of a tour, and a tour notices their mistakes.
 
-A tour takes every transition of the lock, by --threads with --rounds each. The script is the one
-of examples/recording: each trace is checked with all its values, of a lock in C by the library, and
-of one in Rust by `locktrace`.
+A tour takes every transition of the lock, by --threads threads with --rounds rounds each. The
+script conform.sh of examples/recording checks each trace with all its values: the library does it
+for a lock in C, and `locktrace` for a lock in Rust.
 """
 import re
 
@@ -14,8 +14,8 @@ from tree import environment, output, ran
 
 pytestmark = pytest.mark.slow
 
-# Concurrency Kit's ticket lock takes its ticket and reads the one served by one operation, so it
-# cannot follow a schedule that has another thread between them.
+# Concurrency Kit's ticket lock takes its ticket and reads the served ticket in one operation, so it
+# cannot follow a schedule in which another thread moves between the two steps.
 JOINS = {"ck_ticket"}
 LOCKS = [pytest.param(name, example, id=f"{name}-{example}")
          for name, recorder in RECORDERS.items() for example in recorder.examples
@@ -29,7 +29,7 @@ def mistakes(of):
 
 @pytest.fixture
 def tour(shared, locktrace, pytestconfig):
-    """The folder of a lock's tour."""
+    """Writes the tour of an example's lock once, and returns its folder."""
     threads, rounds = pytestconfig.getoption("threads"), pytestconfig.getoption("rounds")
 
     def made(example):
@@ -43,13 +43,13 @@ def tour(shared, locktrace, pytestconfig):
 
 
 def counts_of(said):
-    """How many schedules there were, and how many were not followed."""
+    """How many schedules the script tried, and how many the lock did not follow."""
     found = re.search(r"^(\d+) schedules of \d+ moves, (\d+) not followed$", said, re.MULTILINE)
     return tuple(map(int, found.groups()))
 
 
 def conform(recorder, example, folder, mistake=None):
-    """The status of the script, and the counts that it prints."""
+    """Runs the script, and returns its status and the counts that it prints."""
     lock, checks, script = f"{example}.rs", recorder.locktrace, SOURCES / "conform.sh"
     if recorder.name == "c":
         lock, checks = example, recorder.library
@@ -87,7 +87,7 @@ def test_mistake_in_rust(recorder, tour, locktrace, tmp_path, mistake):
 @pytest.mark.parametrize("recorder, example", [of for of in LOCKS if of.values[0] == "rust"],
                          indirect=["recorder"])
 def test_trace_of_a_followed_schedule(recorder, judge, tour, tmp_path, example):
-    """Its moves are those of the schedule."""
+    """The trace of a followed schedule has the moves of the schedule."""
     done = recorder.search([tour(example)], tmp_path, example, "follow")
     schedules = [words_of(path.read_text()) for path in sorted(tour(example).glob("*.schedule"))]
     said = f"{len(schedules)} schedules of {sum(map(len, schedules))} moves, 0 not followed\n"

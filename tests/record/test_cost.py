@@ -1,8 +1,8 @@
-"""The cost of a note of the header in C to a thread that runs freely, in memory and in a file.
+"""A note of the header in C costs a free thread little, in memory and in a file.
 
-`bench/recording.py` measures it in nanoseconds, which a quiet machine is needed for. Here it is
-compared with the round of a ticket lock, whose four operations take about 12 ns where a note may
-take the 3 ns of docs/GUIDE.md. The shortest of many rounds is one that nothing held up.
+`bench/recording.py` measures the cost in nanoseconds, for which it needs a quiet machine. This test
+compares it with the round of a ticket lock: the four operations of a round take about 12 ns, and a
+note may take the 3 ns of docs/GUIDE.md. Nothing delayed the shortest of many rounds.
 """
 import pytest
 
@@ -11,7 +11,7 @@ from tree import TOP, output
 
 pytestmark = pytest.mark.slow
 
-FIGURES = {"ticket": 6, "mcs": 7, "bare": 1}  # how many notes a round has
+FIGURES = {"ticket": 6, "mcs": 7, "bare": 1}  # the number of notes in a round
 LOOPS, ROUNDS, MOST = 20000, 200, 0.25
 
 
@@ -26,7 +26,7 @@ def build(tmp_path):
 
 
 def shorter(best, *words):
-    """The shortest rounds until now, after another one."""
+    """The shortest rounds so far, after one more measurement."""
     return [min(pair) for pair in zip(best, map(float, output(*words).split()))]
 
 

@@ -1,28 +1,29 @@
-"""How a run and its program may end: slowly, by a crash, without room, on a full disk, in a call.
+"""Runs that end slowly, by a crash, without room, on a full disk, or inside a call.
 
-The lock of endings.c is right, and is built with what its thread 1 does in its fourth round.
+The lock of endings.c is right. A test gives it a BODY, which thread 1 runs in its fourth round.
 """
 import re
 import signal
 
 import pytest
 
-from recorders import CHECKED, WARNINGS
+from recorders import CHECKED, SOURCES, WARNINGS, compile_c
 from tree import ran
 
 from test_modes import HERE
 
 pytestmark = pytest.mark.slow
 
-LEFT = "lockreplay_record: the program ended before its run was saved: its moves until then are in "
-# The action of thread 1, and the signal or the status with which its program ends.
+LEFT = ("lockreplay_record: the program ended before its run was saved: "
+        "its moves until then are in the folder ")
+# The BODY of thread 1, and the signal or the status with which the program ends.
 ENDS = {"abort()": -signal.SIGABRT, "raise(SIGKILL)": -signal.SIGKILL, "exit(0)": 0, "exit(7)": 7,
         "_Exit(0)": 0, "raise(SIGSEGV)": -signal.SIGSEGV, "assert(0)": -signal.SIGABRT}
 
 
 @pytest.fixture
 def built(tmp_path, library):
-    """Builds the lock with a body in a mode."""
+    """Builds the lock with a BODY in a mode."""
     def build(mode, body, *flags):
         program, logs = tmp_path / "endings", tmp_path / "logs"
         linked = [library] if mode in CHECKED or "-DLR_CHECK" in flags else []
@@ -35,11 +36,15 @@ def built(tmp_path, library):
 @pytest.mark.parametrize("mode", ["VALUES", "SEED", "EXPLORE"])
 @pytest.mark.parametrize("body", ENDS)
 def test_crash(built, judge, mode, body):
-    """The notes up to then are saved, whole and right."""
+    """The logs have every note before the crash. If one thread runs at a time, the message names
+    the thread that ran."""
     program, logs = built(mode, body)
     done = ran(program, 2, 9, 1, logs)
     said = re.sub(r"^endings: .* Assertion `0' failed\.\n", "", done.stderr)
-    assert (said, done.returncode) == (f"{LEFT}{logs}\n", ENDS[body])
+    ran_last = "" if mode == "VALUES" else (
+        r"; thread 1 ran \('(add next_ticket|read now_serving) found \d+' at endings\.c:\d+\)")
+    assert re.fullmatch(f"{LEFT}{logs}{ran_last}\n", said), said
+    assert done.returncode == ENDS[body]
     texts = {path.name: path.read_text() for path in logs.iterdir()}
     assert sorted(texts) == ["run.trace"][mode == "VALUES":] + ["thread-0.log", "thread-1.log"]
     assert texts["thread-1.log"].count("acquire") == 4
@@ -52,11 +57,36 @@ def test_crash(built, judge, mode, body):
 
 
 def test_slow_run(built):
-    """It takes longer than the time in which a move has to come."""
+    """A run may take longer than the time limit, which holds for each move."""
     program, logs = built("SEED", "struct timespec ms = {0, 200000000}; nanosleep(&ms, NULL)",
                           "-D_GNU_SOURCE")
     done = ran(program, 3, 40000, 1, logs, 1)
     assert (done.stderr, done.returncode) == ("", 0)
+
+
+def test_all_threads_end_without_a_record(built):
+    """In the mode OFF too the program waits for its last thread."""
+    program, logs = built("OFF", "struct timespec ms = {0, 300000000}; nanosleep(&ms, NULL); "
+                          'printf("done\\n")', "-D_GNU_SOURCE", "-include", "stdio.h",
+                          "-include", "time.h")
+    done = ran(program, 2, 4, 1, logs)
+    assert (done.stdout, done.stderr, done.returncode) == ("done\n", "", 0)
+
+
+def test_pause(built):
+    """By itself a program waits for a minute, so a pause of two seconds ends no run."""
+    program, logs = built("SEED", "struct timespec s = {2, 0}; nanosleep(&s, NULL)",
+                          "-D_GNU_SOURCE")
+    done = ran(program, 2, 9, 1, logs)
+    assert (done.stderr, done.returncode) == ("", 0)
+
+
+def test_run_that_hangs(built):
+    """A run that hangs is refused, though the check accepts all of its moves."""
+    program, logs = built("SEED", "LR_WAIT(&next_ticket, (void)0, (void)0, (void)0)", "-DLR_CHECK")
+    done = ran(program, 2, 9, 1, logs)
+    assert done.stderr.startswith("lockreplay_record: the run hangs: thread 0 ")
+    assert "refused" not in done.stderr and done.returncode == 1
 
 
 def test_threads_that_stand_still(built):
@@ -70,7 +100,7 @@ def test_threads_that_stand_still(built):
 
 
 def test_thread_that_ends_in_a_call(built):
-    """It has its ticket, and does not wait for its turn."""
+    """Thread 1 ends inside `release`, and the message names the call."""
     program, logs = built("SEED", "LR_CALL(release); lr_end(&lr_self->run->logs[1]); "
                           "pthread_exit(NULL)", "-DLR_CHECK")
     done = ran(program, 2, 9, 1, logs)
@@ -79,9 +109,26 @@ def test_thread_that_ends_in_a_call(built):
     assert done.returncode == 1
 
 
+def test_thread_that_goes_on(library, tmp_path):
+    """A thread polls once more than the published lock, which the schedule does not have."""
+    text, returns = (SOURCES / "ticket.c").read_text(), "if (!must_wait(served, ticket)) return;"
+    assert text.count(returns) == 1
+    (tmp_path / "ticket.c").write_text(
+        text.replace(returns, "if (must_wait(served, ticket) > 1) return;"))
+    assert compile_c("gcc", tmp_path / "ticket.c", tmp_path / "it", "-DLR_MODE=FOLLOW",
+                     "-DLR_CHECK", "-I", SOURCES, library=library) == ""
+    (tmp_path / "it.schedule").write_text(
+        "lock ticket threads 1 bits 4\n0 acquire\n0 add\n0 read\n")
+    done = ran("./it", ".", ".", cwd=tmp_path)
+    assert re.sub(r"ticket\.c:\d+", "ticket.c:LINE", done.stderr) == (
+        "lockreplay_record: ./it.schedule: thread 0 goes on with a call that is over "
+        "('read now_serving found 0' at ticket.c:LINE)\n")
+    assert done.returncode == 1
+
+
 @pytest.mark.parametrize("mode", ["VALUES", "SEED"])
 def test_full_log(built, judge, mode):
-    """The contents of the logs are right, and the status is 3."""
+    """A full log keeps its first moves and counts the dropped ones, and the status is 3."""
     body = "for (int i = 0; i < 2000; i++) { release(); acquire(); }"
     program, logs = built(mode, body)
     done = ran(program, 2, 5, 1, logs)
@@ -94,22 +141,69 @@ def test_full_log(built, judge, mode):
         assert re.search(r"\ndropped [1-9]\d+\n$", (logs / "thread-1.log").read_text())
 
 
+def test_full_log_of_a_thread_that_goes_on(built):
+    """Nobody knows what the thread would have noted, so its log does not claim that it hangs. The
+    message names the threads that have not ended, and no other."""
+    program, logs = built("VALUES", "release(); while (lr_missing(lr_self->run) > 1) {} acquire(); "
+                          "do release(), acquire(); while (!lr_self->dropped); for (;;) {}")
+    done = ran(program, 2, 5, 1, logs, 5)
+    said = done.stderr.splitlines()
+    assert re.fullmatch(r"lockreplay_record: 1 of 2 threads have not ended, and made no move for 5 "
+                        r"s: thread 1 \('.*' at endings\.c:\d+\)", said[0]), said
+    assert done.returncode == 3
+    assert (logs / "thread-0.log").read_text().endswith("\ndropped 0\n")
+    assert (logs / "thread-1.log").read_text().endswith("\n# thread 1 was stopped\n")
+
+
 def test_no_room_on_the_disk(built):
-    """Nothing is left of a file that is not whole."""
+    """The program removes a file that it cannot write to the end."""
     program, logs = built("SEED", "(void)0")
     done = ran("sh", "-c", f"trap '' XFSZ; ulimit -f 4; exec {program} 3 400 1 {logs}")
     assert done.stderr == f"lockreplay_record: {logs}/thread-0.log: File too large\n"
     assert done.returncode == 3 and list(logs.iterdir()) == []
 
 
+def test_log_that_cannot_be_made(built):
+    """The message names the file, and why the system refuses it."""
+    program, logs = built("SEED", "(void)0")
+    (logs / "thread-1.log.part").mkdir(parents=True)
+    done = ran(program, 3, 9, 1, logs)
+    assert done.stderr == f"lockreplay_record: {logs}/thread-1.log: Is a directory\n"
+    assert done.returncode == 3
+
+
+@pytest.mark.parametrize("mode", ["VALUES", "SEED", "EXPLORE"])
 @pytest.mark.parametrize("folder, said", [
     ("/dev/null", "/dev/null: Not a directory"),
     ("/dev/null/logs", "/dev/null/logs: Not a directory"),
     ("/no/such/folder", "/no/such/folder: No such file or directory")])
-def test_wrong_folder(built, folder, said):
-    """It is said before the run."""
-    done = ran(built("SEED", "(void)0")[0], 2, 1, 1, folder)
-    assert (done.stderr, done.returncode) == (f"lockreplay_record: {said}\n", 3)
+def test_wrong_folder(built, mode, folder, said):
+    """The program reports a folder that it cannot use before the first run begins."""
+    done = ran(built(mode, "(void)0")[0], 2, 1, 1, folder)
+    assert (done.stdout, done.stderr) == ("", f"lockreplay_record: {said}\n")
+    assert done.returncode == 3
+
+
+# Refuses to start a second thread in a run, whose number of threads has this name.
+REFUSES = """#include <pthread.h>
+#define pthread_create(...) (started == 1 ? 11 : pthread_create(__VA_ARGS__))
+"""
+
+
+@pytest.mark.parametrize("mode, words", [
+    ("VALUES", (2, 1, 1, "logs")), ("SEED", (2, 1, 1, "logs")), ("EXPLORE", (2, 1, 1, "logs")),
+    ("EXPLORE", (2, 1, "again", "way")), ("FOLLOW", (".", "logs"))], ids=str)
+def test_no_thread(library, tmp_path, mode, words):
+    """Neither a lock nor a schedule is wrong if the system refuses a thread."""
+    (tmp_path / "refuses.h").write_text(REFUSES)
+    (tmp_path / "way").write_text("# way 1\n")
+    (tmp_path / "it.schedule").write_text("lock mcs threads 2\n0 acquire\n")
+    (tmp_path / "logs").mkdir()
+    assert compile_c("gcc", SOURCES / "mcs.c", tmp_path / "it", f"-DLR_MODE={mode}", "-include",
+                     tmp_path / "refuses.h", library=library if mode in CHECKED else None) == ""
+    done = ran("./it", *words, cwd=tmp_path)
+    assert "no memory for thread 1\n" in done.stdout + done.stderr
+    assert "way: " not in done.stderr and done.returncode == 3
 
 
 def test_no_memory(built):

@@ -1,9 +1,9 @@
 """Explored runs: all runs of a few threads with few preemptions.
 
-For a right lock in Rust they have to be those that explored_runs.py finds, each as often, if the
-order of independent steps counts; test_reduced.py compares the others with them. For a lock with a
-mistake some run has to be refused or to hang with the expected number of preemptions, and none with
-fewer. Examples can check their runs by themselves, and then refuse the same.
+For a right lock in Rust, `explore-all` has to make the runs that explored_runs.py finds, each as
+often; test_reduced.py compares them with the fewer runs of `explore`. For a lock with a mistake,
+some run has to be refused or to hang with the expected number of preemptions, and none with fewer.
+Examples can also check their own runs, and then refuse the same runs.
 """
 import re
 import shutil
@@ -16,10 +16,12 @@ from mistakes import IN_C, IN_RUST, PATCHES
 from recorders import RECORDERS, SOURCES, compile_c, plant, words_of
 from tree import TOP, ran
 
+from test_modes import HERE
+
 pytestmark = pytest.mark.slow
 
 IN_THREES = (3, 1)  # threads and rounds of a lock with a mistake
-MOST = 1  # preemptions of one
+MOST = 1  # preemptions, for a mistake that no explored run shows
 RUST = [pytest.param("rust", example, id=example) for example in RECORDERS["rust"].examples]
 MISTAKES = [pytest.param("rust", mistake, id=str(mistake)) for mistake in IN_RUST]
 
@@ -52,7 +54,7 @@ def test_mistake(recorder, locktrace, tmp_path, mistake):
 
 @pytest.mark.parametrize("recorder, example", RUST, indirect=["recorder"])
 def test_right_lock_that_checks_itself(recorder, tmp_path, example):
-    """It makes all runs, and saves none."""
+    """The example accepts all runs, and saves none."""
     done = ran(recorder.checked(example), "explore", 2, 1, 2, tmp_path)
     assert (done.stderr, done.returncode, list(tmp_path.glob("*.trace"))) == ("", 0, [])
     assert ", all of them accepted\n" in done.stdout
@@ -62,7 +64,7 @@ def test_right_lock_that_checks_itself(recorder, tmp_path, example):
                                                if of.values[1].explored is not None],
                          indirect=["recorder"])
 def test_mistake_that_checks_itself(recorder, judge, tmp_path, mistake):
-    """It saves the run that hangs or is refused, and says the line that `locktrace` says."""
+    """The example saves the run that hangs or is refused, and names the line as `check` does."""
     done = ran(recorder.checked(mistake.example, mistake), "explore", *IN_THREES, mistake.explored,
                tmp_path)
     [trace] = tmp_path.glob("*.trace")
@@ -74,7 +76,7 @@ def test_mistake_that_checks_itself(recorder, judge, tmp_path, mistake):
         assert " hang\n" in done.stderr
 
 
-# An example in C, its mistake, threads, rounds and preemptions: what a search says.
+# An example in C, its mistake, (threads, rounds, preemptions), and the message of a search.
 EXPLORED = [
     ("mcs", None, (2, 1, 0), "2 runs with up to 0 preemptions, all of them accepted"),
     ("mcs", None, (2, 1, 2), "22 runs with up to 2 preemptions, all of them accepted"),
@@ -89,7 +91,7 @@ EXPLORED = [
 @pytest.mark.parametrize("recorder", ["c"], indirect=True)
 @pytest.mark.parametrize("example, name, counts, said", EXPLORED)
 def test_search_in_c(recorder, tmp_path, example, name, counts, said):
-    """The run that is refused is saved."""
+    """A search in C saves the refused run, and no other."""
     mistake = next((it for it in IN_C if (it.example, it.name) == (example, name)), None)
     done = recorder.search(counts, tmp_path, example, "EXPLORE", mistake)
     assert said in done.stdout
@@ -97,9 +99,57 @@ def test_search_in_c(recorder, tmp_path, example, name, counts, said):
     assert (tmp_path / "run.trace").exists() == bool(mistake)
 
 
+@pytest.mark.parametrize("most, said", [
+    (1, "1 run with up to 0 preemptions, all of them accepted, and there are more\n"),
+    (2, "2 runs with up to 0 preemptions, all of them accepted, and there are more\n"),
+    (9, "9 runs with up to 2 preemptions, all of them accepted, and there are more\n"),
+    (10, "10 runs with up to 2 preemptions, all of them accepted\n")])
+@pytest.mark.parametrize("recorder", ["c"], indirect=True)
+def test_most_runs(recorder, tmp_path, most, said):
+    """A search makes at most as many runs as it is told."""
+    done = ran(*recorder.command("ticket", "EXPLORE"), 2, 1, 2, tmp_path, most)
+    assert (done.stdout, done.returncode) == (said, 0)
+
+
+@pytest.mark.parametrize("compiler", ["gcc", "clang"])
+@pytest.mark.parametrize("write", [
+    "atomic_store(&flag, n)", "atomic_exchange(&flag, n)", "atomic_fetch_add(&flag, 2 * n - 1)",
+    "__atomic_store_n(&plain, n, 5)", "__atomic_exchange_n(&plain, n, 5)",
+    "__sync_fetch_and_add(&plain, 2 * n - 1)", "__sync_lock_test_and_set(&plain, n)",
+    "__sync_fetch_and_add(&plain, -1 - __sync_fetch_and_add(&plain, 1))",
+    "__atomic_store_n((char *)&plain + 1, n, 5)"])
+def test_write_without_a_note(library, tmp_path, compiler, write):
+    """The one preemption between two writes is tried, though neither is noted, also if the first
+    gives the second its value, or if they are on a part of the word that is loaded."""
+    assert compile_c(compiler, HERE / "unnoted.c", tmp_path / "it", "-DLR_MODE=EXPLORE",
+                     f"-DSET(n)=(void){write}", library=library) == ""
+    done = ran(tmp_path / "it", 2, 1, 1, tmp_path / "logs")
+    assert "'1 release': NotHolder" in done.stdout and done.returncode == 1, done.stdout
+
+
+# Operators in place of a lock's atomic operations.
+OPERATORS = {"atomic_fetch_add(&lock->next_ticket, 1)": "lock->next_ticket++",
+             "atomic_load(&lock->now_serving)": "lock->now_serving",
+             "atomic_store(&lock->now_serving, next)": "lock->now_serving = next"}
+
+
+@pytest.mark.parametrize("old, line", [(old, line) for old, line in zip(OPERATORS, (23, 26, 39))])
+def test_operation_that_is_not_seen(library, tmp_path, old, line):
+    """After accepted runs a message names the line of a note without an atomic operation."""
+    text = (SOURCES / "ticket.c").read_text()
+    assert text.count(old) >= 1
+    source = tmp_path / "ticket.c"
+    source.write_text(text.replace(old, OPERATORS[old]))
+    assert compile_c("gcc", source, tmp_path / "it", "-DLR_MODE=EXPLORE", "-I", SOURCES,
+                     library=library) == ""
+    done = ran(tmp_path / "it", 2, 1, 2, tmp_path / "logs")
+    assert done.stdout.endswith(", all of them accepted\n") and done.returncode == 0
+    assert done.stderr.startswith(f"lockreplay_record: ticket.c:{line}: no atomic operation was ")
+
+
 @pytest.fixture
 def planted(library, tmp_path):
-    """Builds an example in C with a mistake, or with none, that explores its runs."""
+    """Builds an example in C, with or without a mistake, in the mode EXPLORE."""
     def build(example, name, *flags):
         shutil.copytree(SOURCES, tmp_path / SOURCES.relative_to(TOP))
         (tmp_path / "record").symlink_to(TOP / "record")
@@ -113,8 +163,8 @@ def planted(library, tmp_path):
 
 @pytest.mark.parametrize("flags, is_refused", [([], True), (["-DLR_SPURIOUS=0"], False)], ids=str)
 def test_wake_for_nothing(planted, tmp_path, flags, is_refused):
-    """A writer that waits for its one reader, and does not look again, is wrong if it wakes up
-    though nobody has signalled; and in no other run."""
+    """A writer that waits once for its only reader, and then does not check the condition again,
+    is wrong only in a run with a spurious wakeup."""
     program = planted("rw_fifo", "writer-waits-once-for-readers", *flags)
     done = ran(program, 2, 2, 2, tmp_path)
     assert done.returncode == int(is_refused)
@@ -122,6 +172,86 @@ def test_wake_for_nothing(planted, tmp_path, flags, is_refused):
     if is_refused:
         again = ran(program, 2, 2, "again", tmp_path / "run.trace")
         assert (again.stdout, again.returncode) == (done.stdout.splitlines(True)[1], 1)
+
+
+REFUSES = """#include <stdlib.h>
+#define realloc(old, size) ((size) == 256 * sizeof(lr_{}) ? NULL : realloc(old, size))
+"""
+
+
+@pytest.mark.parametrize("compiler", ["gcc", "clang"])
+@pytest.mark.parametrize("kept", ["choice", "step"])
+def test_no_memory(library, tmp_path, compiler, kept):
+    """A search that cannot keep what it did does not say that all runs are accepted."""
+    (tmp_path / "refuses.h").write_text(REFUSES.format(kept))
+    assert compile_c(compiler, HERE / "unnoted.c", tmp_path / "it", "-DLR_MODE=EXPLORE", "-include",
+                     tmp_path / "refuses.h", "-DSET(n)=(void)n", library=library) == ""
+    done = ran(tmp_path / "it", 2, 1, 1, tmp_path / "logs")
+    first, refusal, *_ = done.stdout.splitlines()
+    assert first == "1 run with up to 0 preemptions, the last one is refused"
+    assert (refusal, done.returncode) == (f"no memory for the run's {kept}s", 1)
+
+
+def test_room_of_a_search(planted, tmp_path):
+    """A run whose moves have no room is refused, and its trace says that it was cut."""
+    done = ran(planted("ticket", None, "-DLR_MOVES=5"), 2, 1, 2, tmp_path / "logs")
+    first, refusal, *_ = done.stdout.splitlines()
+    assert first == "1 run with up to 0 preemptions, the last one is refused"
+    assert refusal == "the log of thread 0 is full: it has room for 5 moves"
+    assert "\n# cut where a log was full\n" in (tmp_path / "logs" / "run.trace").read_text()
+    assert done.returncode == 3
+
+
+# In the first run each thread makes three stores, and then thread 0 none and the others six.
+CHANGES = f"""#include "{TOP}/record/lockreplay_record.h"
+static _Atomic int word;
+static int runs;
+static void reset(void) {{ runs++; }}
+static void one_round(unsigned thread, unsigned round)
+{{
+    int stores = runs == 1 ? 3 : thread ? 6 : 0;
+    while (stores--) atomic_store(&word, (int)round);
+}}
+int main(int count, char **words)
+{{
+    const lr_driver driver = {{"ticket", 8, reset, one_round, NULL}};
+    return lr_main(&driver, count, words);
+}}
+"""
+
+
+@pytest.mark.parametrize("threads", [2, 3])
+def test_driver_that_changes(library, tmp_path, threads):
+    """Of two threads a choice that is due does not come up, of three it is not possible."""
+    (tmp_path / "it.c").write_text(CHANGES)
+    assert compile_c("gcc", tmp_path / "it.c", tmp_path / "it", "-DLR_MODE=EXPLORE",
+                     library=library) == ""
+    done = ran(tmp_path / "it", threads, 1, 1, tmp_path / "logs")
+    assert "\nthe driver does not do the same after the same turns\n" in done.stdout, done.stdout
+    assert done.returncode == 1
+
+
+@pytest.mark.parametrize("recorder", ["c"], indirect=True)
+def test_again_without_a_trace(recorder, tmp_path):
+    done = ran(*recorder.command("ticket", "EXPLORE"), 2, 1, "again", tmp_path / "no.trace")
+    assert done.stderr == f"lockreplay_record: {tmp_path}/no.trace: No such file or directory\n"
+    assert (done.stdout, done.returncode) == ("", 3)
+
+
+@pytest.mark.parametrize("example, name, rounds, choices", [
+    ("mcs", "swap-of-two-operations", 1, 1), ("ticket", "add-of-two-operations", 1, 1),
+    ("ticket", "less-than", 16, 49)])
+def test_again(planted, tmp_path, example, name, rounds, choices):
+    """A saved run is made again, though a thread loses its turn where it notes nothing, or after
+    many choices, which take several lines of the trace."""
+    program = planted(example, name)
+    first = ran(program, 2, rounds, 2, tmp_path / "logs")
+    _, refusal, how = first.stdout.splitlines()
+    assert how == f"again: {program} 2 {rounds} again {tmp_path}/logs/run.trace"
+    text = (tmp_path / "logs" / "run.trace").read_text()
+    assert len(re.findall(r"^# way", text, re.MULTILINE)) > choices // 24
+    again = ran(*how.split()[1:])
+    assert (again.stdout, again.returncode, first.returncode) == (f"{refusal}\n", 1, 1)
 
 
 @pytest.mark.parametrize("start", [0, 15])
@@ -132,8 +262,8 @@ def test_wake_for_nothing(planted, tmp_path, flags, is_refused):
     ("serves-wider", 13, "'1 read now_serving found 1': NoCall"),  # 16 is not 0
 ])
 def test_counters_that_begin_before_their_wrap(planted, tmp_path, name, line, said, start):
-    """A round of two threads takes counters of 4 bits past 15 if they begin there. The trace counts
-    from 0, and has as many runs of the right lock."""
+    """Counters of 4 bits that begin at 15 wrap in the first round. The trace counts from 0, and the
+    right lock has as many runs as with counters that begin at 0."""
     done = ran(planted("ticket", name, f"-DLR_START={start}"), 2, 1, 2, tmp_path)
     if name is None or start == 0:
         assert done.stdout == "10 runs with up to 2 preemptions, all of them accepted\n"
@@ -145,14 +275,14 @@ def test_counters_that_begin_before_their_wrap(planted, tmp_path, name, line, sa
 
 
 @pytest.mark.parametrize("name, said", [
-    # Two readers have come and gone, and the writer finds as many counts that differ.
+    # Two readers have left, and the writer finds counts that differ, so it does not enter.
     ("leaves-twice", "2 section 5 moved"), ("reader-not-counted", "2 section 5 moved"),
     ("read-unlock-does-nothing", "2 section 5 moved"),
-    # A reader and a writer have, and the next reader finds the flag.
+    # A reader and a writer have left, and the next reader finds the flag set.
     ("flag-not-cleared", "1 section 5 waits"),
 ])
 def test_wrong_count(planted, tmp_path, name, said):
-    """Counts and flag are not compared: what comes of the next section shows them."""
+    """A trace has no counts and no flag. The outcome of the next section shows a wrong one."""
     done = ran(planted("rw_fifo", name), 3, 1, 0, tmp_path)
     assert re.search(rf"\nrefused at line 12 of the trace, rw_fifo.c:\d+: '{said}': OtherOutcome",
                      done.stdout)

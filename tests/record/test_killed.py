@@ -1,7 +1,7 @@
-"""The logs of threads that run as they like, and whose processes are killed.
+"""Free threads whose process is killed leave logs.
 
-In C they are made of the run's notes. The lock of endings.c is right, and is built with what its
-thread 1 does in its fourth round. In Rust they are written while the run goes on.
+In C, a process makes the logs from the notes of the run. The lock of endings.c is right; a test
+gives it a BODY, which thread 1 runs in its fourth round. In Rust, a run writes its logs as it goes.
 """
 import os
 import re
@@ -18,7 +18,8 @@ from test_modes import HERE
 
 pytestmark = pytest.mark.slow
 
-KEPT = "lockreplay_record: the program ended before its run was saved: its moves until then are in "
+KEPT = ("lockreplay_record: the program ended before its run was saved: "
+        "its moves until then are in the folder ")
 # Thread 1 says that it is in the middle of its run, and goes on until it is killed.
 GOES_ON = 'puts("going"); fflush(stdout); for (;;) { release(); acquire(); }'
 THREADS, ROUNDS, ROOM = 2, 12, 12 * 128
@@ -27,7 +28,7 @@ MOVE = 16  # bytes
 
 @pytest.fixture
 def build(tmp_path):
-    """Builds the lock with a body."""
+    """Builds the lock with a BODY, for free threads."""
     def built(body, *flags):
         program = tmp_path / "killed"
         assert ran("gcc", "-std=c11", "-O2", *WARNINGS, "-pthread", "-DLR_MODE=VALUES", *flags,
@@ -38,7 +39,7 @@ def build(tmp_path):
 
 @pytest.fixture
 def ordered(locktrace):
-    """Orders the logs of a folder, which has nothing else: the moves of each."""
+    """Asserts that a folder has the two logs alone, orders them, and returns the moves of each."""
     def order(logs):
         assert sorted(path.name for path in logs.iterdir()) == ["thread-0.log", "thread-1.log"]
         done = ran(locktrace, "order", *sorted(logs.iterdir()), "-o", logs.parent / "ordered")
@@ -50,7 +51,7 @@ def ordered(locktrace):
 
 
 def started(program, logs):
-    """A run in the middle of which its thread 1 is."""
+    """Starts a run, and waits until thread 1 is in the middle of it."""
     process = subprocess.Popen([program, str(THREADS), str(ROUNDS), "1", logs], stdout=PIPE,
                                stderr=PIPE, text=True)
     assert process.stdout.readline() == "going\n"
@@ -64,11 +65,11 @@ def holders(path):
             if path in [Path(os.readlink(link)) for link in folder.iterdir()]:
                 yield int(folder.parent.name)
         except OSError:
-            pass  # it has ended, or is another user's
+            pass  # the process has ended, or belongs to another user
 
 
 def kill_all(process, logs):
-    """As the end of a container does, which leaves no process to save the run."""
+    """Kills each process of the run, like the end of a container, so none can save the run."""
     others = set(holders(logs / "run.notes")) - {process.pid}
     assert others
     for pid in [*others, process.pid]:
@@ -83,8 +84,8 @@ def recover(program, logs):
 
 
 def test_killed(build, ordered, tmp_path):
-    """The process that keeps watch makes the logs, which may be after the end of the program: to
-    recover them waits for it."""
+    """The process that watches the program makes the logs after a kill. `recover` waits until it
+    has done so."""
     program, logs = build(GOES_ON), tmp_path / "logs"
     with started(program, logs) as process:
         process.kill()
@@ -96,7 +97,7 @@ def test_killed(build, ordered, tmp_path):
 
 
 def test_all_killed(build, ordered, tmp_path):
-    """Nobody made logs, and those of an earlier run do not pass for this one's."""
+    """If all processes are killed, `recover` makes the logs, and none of an earlier run is left."""
     program, logs = build(GOES_ON), tmp_path / "logs"
     logs.mkdir()
     for name in ("thread-0.log", "thread-1.log", "thread-5.log", "run.trace", "run.notes"):
@@ -111,7 +112,7 @@ def test_all_killed(build, ordered, tmp_path):
 
 @pytest.mark.parametrize("byte", [0, 255])
 def test_lost_page(build, ordered, tmp_path, byte):
-    """A log ends before bytes that are no note, as of a page that did not come to the disk."""
+    """A log ends before bytes that are no note, as if a page had not reached the disk."""
     program, logs = build(GOES_ON), tmp_path / "logs"
     with started(program, logs) as process:
         kill_all(process, logs)
@@ -124,8 +125,69 @@ def test_lost_page(build, ordered, tmp_path, byte):
     assert len(ordered(logs)[1]) == 15
 
 
+def test_lost_page_of_a_thread_that_has_ended(build, ordered, tmp_path):
+    """The log of a thread that has ended is not said to be whole if it lost moves."""
+    body = f"release(); while (!lr_count_of(lr_self->run->logs[0].ended)) {{}} acquire(); {GOES_ON}"
+    program, logs = build(body), tmp_path / "logs"
+    with started(program, logs) as process:
+        kill_all(process, logs)
+    notes = logs / "run.notes"
+    first = notes.stat().st_size - THREADS * (ROOM + 2) * (MOVE + 1) + 2 * MOVE
+    with open(notes, "r+b") as file:
+        file.seek(first + 15 * MOVE)
+        file.write(bytes(MOVE))
+    assert recover(program, logs) == (f"{KEPT}{logs}\n", 0)
+    assert len(ordered(logs)[0]) == 15
+    assert (logs / "thread-0.log").read_text().endswith("\n# thread 0 was stopped\n")
+
+
+def test_interrupt(build, ordered, tmp_path):
+    """The interrupt of a terminal goes to all processes of its group, and does not end the one that
+    saves the run. A shell may have started the tests with the signal ignored."""
+    program, logs = build(GOES_ON, "-DLR_MAPPED=0"), tmp_path / "logs"
+    words = ["env", "--default-signal=INT", program, str(THREADS), str(ROUNDS), "1", logs]
+    with subprocess.Popen(words, stdout=PIPE, stderr=PIPE, text=True, process_group=0) as process:
+        assert process.stdout.readline() == "going\n"
+        os.killpg(process.pid, signal.SIGINT)
+        assert process.communicate()[1] == f"{KEPT}{logs}\n"
+    assert process.returncode == -signal.SIGINT
+    assert len(ordered(logs)[1]) > 20
+
+
+def test_watcher_is_killed(build, ordered, tmp_path):
+    """The program saves its run though the process that watches it was killed."""
+    program, logs = build('puts("going"); fflush(stdout); getchar()'), tmp_path / "logs"
+    words = [program, str(THREADS), str(ROUNDS), "1", logs]
+    with subprocess.Popen(words, stdin=PIPE, stdout=PIPE, stderr=PIPE, text=True) as process:
+        assert process.stdout.readline() == "going\n"
+        [other] = set(holders(logs / "run.notes")) - {process.pid}
+        os.kill(other, signal.SIGKILL)
+        while other in holders(logs / "run.notes"):
+            pass
+        assert process.communicate("\n")[1] == ""
+    assert process.returncode == 0
+    ordered(logs)
+
+
+def test_child_goes_on(build, ordered, tmp_path):
+    """The run is saved though a program that this one started goes on. That has no notes."""
+    sleeps = f"sleep 300 <&- >&- 2>&- & echo $! >{tmp_path}/child"
+    program, logs = build(f'(void)!system("{sleeps}"); {GOES_ON}'), tmp_path / "logs"
+    with started(program, logs) as process:
+        try:
+            assert len(set(holders(logs / "run.notes"))) == 2
+            process.kill()
+            process.wait()
+            done = ran("timeout", "60", program, "recover", logs)
+            assert (done.stderr, done.returncode) == ("", 0)
+        finally:
+            os.kill(int((tmp_path / "child").read_text()), signal.SIGKILL)
+        assert process.communicate()[1] == f"{KEPT}{logs}\n"
+    ordered(logs)
+
+
 def test_recover_waits(build, ordered, tmp_path):
-    """A run that goes on saves its own logs."""
+    """`recover` waits for a run that is still going, which saves its own logs."""
     body = 'struct timespec ms = {0, 300000000}; puts("going"); fflush(stdout); nanosleep(&ms, 0)'
     program, logs = build(body, "-D_GNU_SOURCE"), tmp_path / "logs"
     with started(program, logs) as process:
@@ -138,7 +200,7 @@ def test_recover_waits(build, ordered, tmp_path):
 @pytest.mark.parametrize("lines, fault", [
     (None, "No such file or directory"), (0, "Invalid argument"), (30000, "Invalid argument")])
 def test_nothing_to_recover(build, tmp_path, lines, fault):
-    """There is no file of notes, or it is not of such a program."""
+    """`recover` refuses a folder without a file of notes, and a file of another program."""
     program, notes = build("(void)0"), tmp_path / "run.notes"
     if lines is not None:
         notes.write_text("of another program\n" * lines)
@@ -146,8 +208,19 @@ def test_nothing_to_recover(build, tmp_path, lines, fault):
     assert notes.exists() == (lines is not None)
 
 
+def test_notes_of_another_build(build, tmp_path):
+    """A program whose counters begin elsewhere would write other values, so it refuses the notes.
+    The one that made them still takes them."""
+    logs = tmp_path / "logs"
+    with started(build(GOES_ON), logs) as process:
+        kill_all(process, logs)
+    due = (f"lockreplay_record: {logs}/run.notes: Invalid argument\n", 3)
+    assert recover(build(GOES_ON, "-DLR_START=9"), logs) == due
+    assert recover(build(GOES_ON), logs) == (f"{KEPT}{logs}\n", 0)
+
+
 def test_no_room(build, tmp_path):
-    """It is said before the run, and nothing is left."""
+    """The program reports before the run that the notes have no room, and leaves no file."""
     program, logs = build("(void)0"), tmp_path / "logs"
     done = ran("sh", "-c", f"trap '' XFSZ; ulimit -f 4; exec {program} 3 400 1 {logs}")
     assert re.fullmatch(rf"lockreplay_record: {logs}/run\.notes: File too large: the notes of this "
@@ -156,7 +229,7 @@ def test_no_room(build, tmp_path):
 
 
 def test_full_disk(build, tmp_path):
-    """The same on a disk of so many bytes, which is seen in a namespace of its own."""
+    """The same on a file system of 200 KB, mounted in a namespace of its own."""
     program, logs = build("(void)0"), tmp_path / "logs"
     logs.mkdir()
     script = f"mount -t tmpfs -o size=200k none {logs} && {program} 3 400 1 {logs}; echo $?"
@@ -168,7 +241,7 @@ def test_full_disk(build, tmp_path):
 
 
 def test_in_memory(build, tmp_path):
-    """Without a file a run is as it was."""
+    """With LR_MAPPED=0 a run keeps its notes in memory, and saves its logs at the end."""
     program, logs = build("(void)0", "-DLR_MAPPED=0"), tmp_path / "logs"
     done = ran(program, 3, 400, 1, logs)
     assert (done.stderr, done.returncode) == ("", 0)
@@ -218,7 +291,7 @@ fn main() -> Result<(), Error> {
 
 @pytest.fixture(scope="module")
 def keeper(tmp_path_factory):
-    """A ticket lock in Rust whose logs are kept in a folder: FOLDER ROUNDS HOW."""
+    """A program with a ticket lock in Rust that writes its logs as it goes: FOLDER ROUNDS HOW."""
     folder = tmp_path_factory.mktemp("keeper")
     (folder / "src").mkdir()
     (folder / "src" / "main.rs").write_text(RUST)
@@ -251,7 +324,7 @@ def test_killed_in_rust(keeper, ordered, tmp_path, how, sign):
 
 @pytest.mark.xdist_group("cargo")
 def test_kept_to_the_end_in_rust(keeper, ordered, tmp_path):
-    """Nothing else is saved, and the logs are whole."""
+    """A run that ends well leaves whole logs, and nothing else."""
     done = ran(keeper, tmp_path / "logs", "20", "end")
     assert (done.stderr, done.returncode) == ("", 0)
     assert [len(moves) >= 20 * 6 for moves in ordered(tmp_path / "logs")] == [True, True]
@@ -261,7 +334,7 @@ def test_kept_to_the_end_in_rust(keeper, ordered, tmp_path):
 
 @pytest.mark.xdist_group("cargo")
 def test_no_room_in_rust(keeper, tmp_path):
-    """A log that cannot be written any more is said once, and the run goes on."""
+    """A thread that can no longer write its log reports it once, and the run goes on."""
     logs = tmp_path / "logs"
     done = ran("sh", "-c", f"trap '' XFSZ; ulimit -f 1; exec {keeper} {logs} 200 end")
     fault = r"lockreplay_record: .*/thread-%d\.log: File too large \(os error 27\)\n"

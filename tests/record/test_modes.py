@@ -1,7 +1,7 @@
-"""Messages of the header in C on wrong words and calls, and where a lock leaves a schedule.
+"""The header in C reports wrong modes, notes and calls, and where a lock leaves a schedule.
 
-Rows of this file have the expected messages. Points are tried at each atomic operation, in C and in
-C++.
+The tables of this file have the expected messages. atomics.c and atomics.cc check the point before
+each atomic operation, in C and in C++.
 """
 import re
 import shutil
@@ -10,15 +10,15 @@ from pathlib import Path
 import pytest
 
 from mistakes import PATCHES
-from recorders import (COMPILERS, SOURCES, STANDARDS, WARNINGS, compile_c, language, plant,
-                       words_of)
+from recorders import (CHECKED, COMPILERS, SOURCES, STANDARDS, WARNINGS, compile_c, language,
+                       plant, words_of)
 from tree import EXAMPLES, TOP, ran
 
 pytestmark = pytest.mark.slow
 
 HERE = Path(__file__).parent
 
-# Definitions on the command line, and the message of the compiler.
+# Options of the compiler, and its message.
 OLD = "a mode is a value of LR_MODE, as in -DLR_MODE=SEED"
 NONE = "LR_MODE is not one of OFF, VALUES, SEED, FOLLOW and EXPLORE"
 WORDS = [
@@ -40,23 +40,32 @@ WORDS = [
     ) for mode in ("", *(f"-DLR_MODE={mode} " for mode in modes.split()))
       if mode or "OFF" in modes),
 ]
-# A note, and the word of the compiler's error; nothing if it is a step of some lock.
+# A note, and the compiler's error: empty if some lock has the step.
 EACH = ("next_ticket", "now_serving", "tail", "next", "locked")
+NO_WORD = "a word is next_ticket, now_serving, tail, next or locked"
 NOTES = [
     *((f"LR_{step}({word}, 1)", "") for step in ("READ", "WRITE") for word in EACH),
-    *((f"LR_SWAP({word}, 1)", "" if word == "tail" else f"LR_WORD_TO_SWAP_{word}")
-      for word in EACH),
-    *((f"LR_CAS({word}, 1)", "" if word == "tail" else f"LR_WORD_TO_COMPARE_AND_SWAP_{word}")
-      for word in EACH),
-    *((f"LR_ADD({word}, 1)", "" if word == "next_ticket" else f"LR_WORD_TO_ADD_TO_{word}")
-      for word in EACH),
+    *((f"LR_{step}({word}, 1)", NO_WORD) for step in ("READ", "WRITE")
+      for word in ("owner", "none", "Tail")),
+    *((f"LR_SWAP({word}, 1)", "" if word == "tail" else "LR_SWAP is of tail")
+      for word in (*EACH, "owner")),
+    *((f"LR_CAS({word}, 1)", "" if word == "tail" else "LR_CAS is of tail")
+      for word in (*EACH, "owner")),
+    *((f"LR_ADD({word}, 1)", "" if word == "next_ticket" else "LR_ADD is of next_ticket")
+      for word in (*EACH, "owner")),
     *((f"LR_{step}_OF({word}, 1, 1)",
-       "" if word in ("next", "locked") else f"LR_WORD_OF_A_RECORD_{word}")
-      for step in ("READ", "WRITE") for word in EACH),
-    ("LR_CALL(aquire)", "LR_CALL_aquire"), ("LR_SECTION(1, enters)", "LR_OUTCOME_enters"),
+       "" if word in ("next", "locked") else "a record has next and locked")
+      for step in ("READ", "WRITE") for word in (*EACH, "owner")),
+    *((f"LR_CALL({call})", "") for call in (
+        "acquire", "release", "rlock", "runlock", "wlock", "wunlock", "downgrade")),
+    *((f"LR_CALL({call})",
+       "a call is acquire, release, rlock, runlock, wlock, wunlock or downgrade")
+      for call in ("aquire", "lock")),
+    *((f"LR_SECTION(1, {outcome})", "") for outcome in ("moved", "waits", "entered", "left")),
+    ("LR_SECTION(1, enters)", "an outcome is moved, waits, entered or left"),
 ]
 
-# The body of a program with a run of two threads, the modes, its status and what it says.
+# The BODY of a program with a run of two threads, the modes, and the status and message due.
 CALLS = [
     ("lr_log_of(run, 2);", "VALUES SEED", 2,
      "there is no thread 2: the run has the threads 0 to 1"),
@@ -70,8 +79,8 @@ CALLS = [
     ("lr_end(lr_log_of(run, 1));", "VALUES SEED", 2,
      "thread 1 ends, and has not begun or has ended before"),
     ("return (int)lr_await(run, 0);", "VALUES SEED", 2, "0 of 2 threads have called lr_begin"),
-    ("start(keeps_its_turn, 2); return (int)lr_await(run, 1);", "SEED", 2,
-     "thread T has its turn and does not give it back: it blocks, or it has ended without "
+    ("alarm(9); start(keeps_its_turn, 2); return (int)lr_await(run, 1);", "SEED", 2,
+     "thread 1 has its turn and does not give it back: it blocks, or it has ended without "
      "lr_end, or it polls without a note"),
     ("start(waits_for_ever, 2); return (int)lr_await(run, 20);", "SEED", 2,
      "the run hangs: thread 0 waits for a signal, thread 1 waits for a signal"),
@@ -82,8 +91,31 @@ CALLS = [
     ("start(waits_for_ever, 2); return (int)lr_await(run, 20);", "SEED -DLR_SPURIOUS=1", 0, ""),
     ("return lr_open(\"MCS\", 1, 64, 1, 1, NULL) ? 0 : 1;", "VALUES SEED", 1,
      "there is no lock 'MCS': ticket, mcs, rw-simple or rw-fifo"),
+    ("run->mode++; lr_begin(lr_log_of(run, 0));", "VALUES SEED", 2,
+     "LR_MODE is not the same in all files of the program"),
+    ("start(polls_without_a_note, 2); return (int)lr_await(run, 20);", "SEED", 2,
+     "the run hangs: thread 0 has noted nothing, thread 1 has noted nothing since ('acquire' at "
+     "calls.c:LINE)"),
+    # Only an even seed, or an option, wakes a thread that nobody signals.
+    *((f"run = lr_open(\"mcs\", 2, 64, 9, {seed}, NULL); start(signals_nothing, 2); "
+       "return (int)lr_await(run, 20);", f"SEED{option}", int(hangs),
+       "the run hangs: thread 1 waits for a signal" if hangs else "") for seed, option, hangs in (
+        (1, "", True), (2, "", False), (1, " -DLR_SPURIOUS=9", False),
+        (2, " -DLR_SPURIOUS=0", True))),
+    ("run = lr_open(\"rw-fifo\", 2, 64, 9, 1, NULL); alarm(9); start(keeps_its_turn, 2); "
+     "return (int)lr_await(run, 1);", "SEED", 2,
+     "thread 1 has its turn and does not give it back: it blocks (a monitor's operations go into "
+     "LR_LOCK and LR_WAIT), or it has ended without lr_end, or it polls without a note"),
+    # A thread's first turn, the one after its first read, and those after 50 reads of the same
+    # value and one more.
+    ("run = lr_open(\"mcs\", 1, 64, 9, 1, NULL); start(polls_for_ever, 1); lr_wait_for(run, 20); "
+     "return (int)run->turns;", "SEED -DLR_PATIENCE=50", 52, ""),
+    # Whether an atomic operation passes the turn.
+    *(("run = lr_open(\"mcs\", 1, 64, 9, 1, NULL); lr_begin(lr_log_of(run, 0)); "
+       "(void)__atomic_load_n(&woken, 5); return (int)run->turns - 1;", f"SEED{option}", points, "")
+      for option, points in (("", 1), (" -DLR_ATOMICS=1", 1), (" -DLR_ATOMICS=0", 0))),
 ]
-# An example, a schedule of it, and what is said; nothing if it is followed.
+# An example, a schedule, and the message: empty if the example follows the schedule.
 HEAD = "lock mcs threads 2\n"
 IN, OUT = "0 acquire\n0 write\n0 swap\n", "0 release\n0 read\n0 cas\n"
 FOLLOWED = [
@@ -109,6 +141,15 @@ FOLLOWED = [
     ("rw_fifo", "lock rw-fifo threads 2 bits 64\n0 rlock\n", "not of rw-fifo with 8"),
     ("ck_ticket", "lock ticket threads 2 bits 16\n0 acquire\n0 add\n1 acquire\n",
      "line 4 is '1 acquire', and thread 0 made 'read'"),
+    ("ck_ticket", "lock ticket threads 2 bits 16\n0 acquire\n0 add\n",
+     "thread 0 made 'read' after the last line, at ck_ticket.c:"),
+    ("mcs", f"# {'a long comment ' * 30}\n" + HEAD + IN, ""),
+    ("mcs", f"# a comment\n\n{HEAD}0 aquire\n", ":4: this is no line of a schedule of 2 threads"),
+    ("mcs", HEAD + "0 acquire\n0 aquire", ":3: this is no line of a schedule of 2 threads"),
+    ("mcs", HEAD + "0 acquire\n" + HEAD, ":3: this is no line of a schedule of 2 threads"),
+    ("mcs", "lock mcs threads 2 bits 64 of 64\n", ":1: this is no line of a schedule of 2 threads"),
+    ("mcs", "lock mcs threads 2 or 3\n", ":1: this is no line of a schedule of 2 threads"),
+    ("mcs", "lock mcs threads 65\n", ":1: this is no line of a schedule of 65 threads"),
 ]
 
 
@@ -119,49 +160,158 @@ def test_wrong_mode(words, said):
     assert done.returncode != 0 and f'#error "{said}' in done.stderr
 
 
+NO_MODE = ("lockreplay_record: built without LR_MODE, so nothing is recorded. Begin with "
+           "-DLR_MODE=EXPLORE; -DLR_MODE=OFF is silent\n")
+
+
+@pytest.mark.parametrize("flags, said", [([], NO_MODE), (["-DLR_MODE=OFF"], "")], ids=str)
+def test_nothing_is_recorded(tmp_path, flags, said):
+    """A program without a mode runs its lock, and warns that it records nothing."""
+    assert compile_c("gcc", SOURCES / "ticket.c", tmp_path / "it", *flags) == ""
+    done = ran(tmp_path / "it", 2, 3, 1, tmp_path / "logs")
+    assert (done.stdout, done.stderr, done.returncode) == ("", said, 0)
+    assert not (tmp_path / "logs").exists()
+
+
 @pytest.mark.parametrize("compiler", ["gcc", "clang++"])
 def test_wrong_note(tmp_path, compiler):
-    """A step on a word that no lock has it on is not compiled, with the line at which it stands."""
-    for note, word in NOTES:
+    """A note of a step that no lock has does not compile. The error names its line, and the words
+    that there are."""
+    for note, due in NOTES:
         (tmp_path / "notes.c").write_text(f'#include "{TOP}/record/lockreplay_record.h"\n'
                                           f"void it(void);\nvoid it(void) {{ {note}; }}\n")
         done = ran(compiler, *language(compiler), *WARNINGS, "-DLR_MODE=VALUES", "-fsyntax-only",
                    tmp_path / "notes.c")
-        found = re.findall(r"error: [^'‘]*['‘](LR_\w+)", done.stderr)
-        assert found == ([word] if word else [])
-        assert ("notes.c:3:" in done.stderr) == bool(word), done.stderr
+        said = re.findall(r"notes\.c:(\d+):\d+: error: (.*)", done.stderr)
+        assert said == ([("3", due)] if due else []), (note, done.stderr)
 
 
-# Each body in each of its modes
+@pytest.mark.parametrize("compiler", COMPILERS)
+def test_words_that_are_macros(compiler, tmp_path):
+    """A lock may have macros with the names of the words and the calls."""
+    (tmp_path / "notes.c").write_text(
+        f'#include "{TOP}/record/lockreplay_record.h"\n'
+        "#define tail lock->tail\n#define next lock->next\n#define acquire take\n"
+        "#define entered 1\nvoid it(void);\nvoid it(void)\n{\n    LR_CALL(acquire);\n"
+        "    LR_SWAP(tail, 0);\n    LR_READ(next, 0);\n    LR_WRITE_OF(next, 1, 0);\n"
+        "    LR_SECTION(1, entered);\n}\n")
+    done = ran(compiler, *language(compiler), *WARNINGS, "-DLR_MODE=VALUES", "-fsyntax-only",
+               tmp_path / "notes.c")
+    assert (done.stderr, done.returncode) == ("", 0)
+
+
+@pytest.fixture
+def called(tmp_path):
+    """Builds calls.c with a BODY in a mode, and runs it."""
+    def call(body, mode):
+        built = ran("gcc", "-std=c11", "-O1", *WARNINGS, "-Wno-unused", "-pthread",
+                    *f"-DLR_MODE={mode}".split(), f"-DBODY={body}", "-o", tmp_path / "call",
+                    HERE / "calls.c")
+        assert built.stderr == ""
+        return ran("timeout", "30", tmp_path / "call")
+    return call
+
+
+@pytest.mark.parametrize("words", [
+    (0, 1, 1, "logs"), (65, 1, 1, "logs"), ("one", 1, 1, "logs"), (0, 1, "again", "run.trace"),
+    (65, 1, "again", "run.trace"), (2, 1, 1), (2, 1, 1, "logs", 9, 9)], ids=str)
+@pytest.mark.parametrize("recorder", ["c"], indirect=True)
+def test_words_of_a_search(recorder, tmp_path, words):
+    """A search of no thread, or of more than 64, is refused as other wrong words are."""
+    [program] = recorder.command("rw_fifo", "EXPLORE")
+    done = ran(program, *words, cwd=tmp_path)
+    assert (done.stdout, done.returncode) == ("", 2)
+    assert done.stderr == (f"usage: {program} THREADS ROUNDS PREEMPTIONS FOLDER [RUNS]\n"
+                           f"       {program} THREADS ROUNDS again TRACE\n")
+
+
+@pytest.mark.parametrize("mode", ["OFF", "VALUES", "SEED"])
+@pytest.mark.parametrize("words, status", [
+    ((1, 1, 1), 0), ((64, 1, 1), 0), ((64, 1, 1, 60), 0), ((0, 1, 1), 2), ((65, 1, 1), 2),
+    ((-1, 1, 1), 2), ((2, 1), 2), ((2, 1, 1, 9, 9), 2)])
+@pytest.mark.parametrize("recorder", ["c"], indirect=True)
+def test_words_of_a_program(recorder, tmp_path, mode, words, status):
+    """A run has 1 to 64 threads. Other words are refused before it begins."""
+    [program] = recorder.command("rw_fifo", mode)
+    done = ran(program, *words[:3], tmp_path / "logs", *words[3:])
+    assert done.stderr == ("" if status == 0 else
+                           f"usage: {program} THREADS ROUNDS SEED FOLDER [SECONDS]\n")
+    assert done.returncode == status
+    count = words[0] if status == 0 and mode != "OFF" else 0
+    assert len(list(tmp_path.glob("logs/*.log"))) == count
+
+
+# Each BODY in each of its modes.
 @pytest.mark.parametrize("body, mode, status, said", [
     (body, mode, status, said) for body, modes, status, said in CALLS
     for mode in ([modes] if " -D" in modes else modes.split())])
-def test_wrong_call(tmp_path, body, mode, status, said):
-    """Which of two threads has its turn depends on the system."""
-    built = ran("gcc", "-std=c11", "-O1", *WARNINGS, "-Wno-unused", "-pthread",
-                *f"-DLR_MODE={mode}".split(), f"-DBODY={body}", "-o", tmp_path / "call",
-                HERE / "calls.c")
-    assert built.stderr == ""
-    done = ran("timeout", "30", tmp_path / "call")
-    heard = re.sub(r"thread \d has its", "thread T has its", done.stderr)
-    heard = re.sub(r"calls\.c:\d+", "calls.c:LINE", heard)
+def test_wrong_call(called, body, mode, status, said):
+    """The run has the seed 1, whose first number is odd: so thread 1 begins. The alarm ends a
+    program that waits for much longer than it was told to."""
+    done = called(body, mode)
+    heard = re.sub(r"calls\.c:\d+", "calls.c:LINE", done.stderr)
     assert (heard, done.returncode) == (f"lockreplay_record: {said}\n" if said else "", status)
+
+
+@pytest.mark.parametrize("depth, due", [
+    (1, "0011 1100"), (2, "0011 0110 1001 1100"), (3, "0011 0101 0110 1001 1010 1100")])
+def test_changes_of_priority(called, depth, due):
+    """Of two threads with two steps each, LR_PCT=d interrupts a thread d - 1 times by some seed,
+    and never more often."""
+    done = called("orders(3000);", f"SEED -DLR_PCT={depth} -DLR_STEPS=9")
+    assert sorted(set(done.stdout.split())) == due.split() and done.returncode == 0
+
+
+@pytest.mark.parametrize("woken, due", [(0, {"0", "1"}), (1, {"01"})])
+def test_who_is_woken(called, woken, due):
+    """A signal wakes either of two threads, by some seed, and a broadcast wakes both."""
+    done = called(f"woken = {woken}; wakes(30);", "SEED -DLR_SPURIOUS=0")
+    assert (set(done.stdout.splitlines()), done.returncode) == (due, 0)
+
+
+@pytest.mark.parametrize("make", ["make_notes", "make_points"])
+@pytest.mark.parametrize("option, one_in", [("LR_NOISE", 8), ("LR_NOISE=40", 40)])
+def test_noise(called, option, one_in, make):
+    """One note or point in `one_in` is drawn, and a half of these are held up by a yield or a
+    sleep. Each thread has others. The bounds are six standard deviations from the mean of 8,000."""
+    done = called(f"{make}(0, 8000); {make}(1, 8000);", f"VALUES -D{option}")
+    held = [[line.split()[1:] for line in done.stdout.splitlines() if line[0] == thread]
+            for thread in "01"]
+    mean = 8000 / (2 * one_in)
+    for of in held:
+        assert abs(len(of) - mean) < 6 * mean ** 0.5, len(of)
+        assert {how for _, how in of} == {"yields", "sleeps"}
+    assert len([it for it in held[0] if it in held[1]]) < len(held[0]) / 2
 
 
 @pytest.mark.parametrize("recorder", ["c"], indirect=True)
 @pytest.mark.parametrize("example, text, said", FOLLOWED)
 def test_schedule(recorder, tmp_path, example, text, said):
     (tmp_path / "one.schedule").write_text(text)
+    """The status tells a lock that leaves a schedule from a file that is no schedule of it."""
     done = recorder.search([tmp_path], tmp_path, example, "FOLLOW")
     if said:
         assert said in done.stderr
+        assert done.returncode == (3 if "this is no line" in said or "not of " in said else 1)
     else:
         assert (done.stderr, done.returncode) == ("", 0)
 
 
+@pytest.mark.parametrize("recorder", ["c"], indirect=True)
+def test_folder_of_schedules(recorder, tmp_path):
+    """Schedules are followed in the order of their names. Runs of the same moves have one number,
+    and others have others."""
+    for name, line in {"c": "0 read", "a": "0 read", "b": "1 read"}.items():
+        (tmp_path / f"{name}.schedule").write_text(f"{HEAD}{line}\n")
+    done = recorder.search([tmp_path], tmp_path, "mcs", "FOLLOW")
+    assert re.findall(r"/(\w)\.schedule: line 2 is ", done.stderr) == ["a", "b", "c"]
+    a, b, c = ((tmp_path / f"{name}.trace").read_text().splitlines()[0] for name in "abc")
+    assert re.fullmatch("# run [0-9a-f]{16}", a) and a == c != b
+
+
 @pytest.mark.parametrize("lesson", ["mcs-late-link", "mcs-third-linked-before-second"])
 def test_trace_of_a_schedule(tmp_path, lesson):
-    """Without LR_CHECK each trace is saved: its moves are those of the lesson."""
+    """Without LR_CHECK the program saves each trace, which has the moves of the lesson."""
     program, text = tmp_path / "saves", (EXAMPLES / f"{lesson}.schedule").read_text()
     assert compile_c("gcc", SOURCES / "mcs.c", program, "-DLR_MODE=FOLLOW") == ""
     (tmp_path / "it.schedule").write_text(text)
@@ -170,9 +320,35 @@ def test_trace_of_a_schedule(tmp_path, lesson):
     assert words_of((tmp_path / "it.trace").read_text()) == words_of(text)
 
 
+def test_no_memory_for_names(tmp_path):
+    """A folder of schedules whose names have no room is not followed at all."""
+    (tmp_path / "refuses.h").write_text("#include <stdlib.h>\n"
+                                        "#define malloc(size) ((void)(size), NULL)\n")
+    assert compile_c("gcc", SOURCES / "ticket.c", tmp_path / "it", "-DLR_MODE=FOLLOW", "-include",
+                     tmp_path / "refuses.h") == ""
+    for number in range(3):
+        (tmp_path / f"{number}.schedule").write_text("lock ticket threads 1 bits 4\n0 acquire\n")
+    done = ran(tmp_path / "it", tmp_path, tmp_path)
+    assert done.stdout == "0 schedules of 0 moves, 0 not followed\n"
+    assert done.stderr == f"lockreplay_record: {tmp_path}: Cannot allocate memory\n"
+    assert done.returncode == 3
+
+
+@pytest.mark.parametrize("recorder", ["c"], indirect=True)
+def test_longest_seed(recorder, tmp_path):
+    """A seed has 64 bits. One whose lower half is that of another seed gives another run."""
+    texts = []
+    for seed in (2**64 - 1, 2**32 - 1):
+        done = recorder.run(tmp_path / str(seed), "ticket", "SEED", seed)
+        assert (done.stderr, done.returncode) == ("", 0)
+        texts.append((tmp_path / str(seed) / "run.trace").read_text())
+        assert texts[-1].splitlines()[1] == f"# seed {seed}"
+    assert words_of(texts[0]) != words_of(texts[1])
+
+
 @pytest.mark.parametrize("flags", [[], ["-DLR_START=15"]], ids=str)
 def test_places_of_moves(tmp_path, flags):
-    """A short trace says of each line of a move at which line of the source it was noted."""
+    """A short trace names for each move the line of the source that noted it."""
     assert compile_c("gcc", SOURCES / "ticket.c", tmp_path / "it", "-DLR_MODE=SEED", *flags) == ""
     assert ran(tmp_path / "it", 2, 3, 1, tmp_path).stderr == ""
     source, lines = ((tmp_path.joinpath(path)).read_text().splitlines()
@@ -186,9 +362,17 @@ def test_places_of_moves(tmp_path, flags):
         assert note in source[int(place) - 1]
 
 
+@pytest.mark.parametrize("rounds, places", [(166, 996), (167, 0)])
+@pytest.mark.parametrize("recorder", ["c"], indirect=True)
+def test_places_of_a_long_run(recorder, tmp_path, rounds, places):
+    """A trace of more than 1,000 moves names no places. A thread alone makes 6 moves a round."""
+    assert ran(*recorder.command("ticket", "SEED"), 1, rounds, 1, tmp_path).stderr == ""
+    assert (tmp_path / "run.trace").read_text().count(" is ticket.c:") == places
+
+
 @pytest.mark.parametrize("mode, has_race", [("VALUES", True), ("SEED", False)])
 def test_data_race(tmp_path, mode, has_race):
-    """ThreadSanitizer sees a data race of free threads, and none of one thread at a time."""
+    """ThreadSanitizer sees a data race if threads run freely, and none if one runs at a time."""
     folder = tmp_path / SOURCES.relative_to(TOP)
     shutil.copytree(SOURCES, folder)
     (tmp_path / "record").symlink_to(TOP / "record")
@@ -199,12 +383,13 @@ def test_data_race(tmp_path, mode, has_race):
     assert ("ThreadSanitizer: data race" in said) == has_race
 
 
+@pytest.mark.parametrize("mode", ["SEED", "EXPLORE"])
 @pytest.mark.parametrize("compiler, standard", [
     (compiler, standard) for compiler in COMPILERS
     for standard in (STANDARDS if "++" in compiler else ["11"])])
-def test_atomics(tmp_path, compiler, standard):
+def test_atomics(library, tmp_path, compiler, standard, mode):
     source = HERE / f"atomics.{'cc' if '++' in compiler else 'c'}"
-    built = ran(compiler, *language(compiler, standard), *WARNINGS, "-O2", "-pthread", "-o",
-                tmp_path / "atomics", source)
+    assert compile_c(compiler, source, tmp_path / "atomics", f"-DLR_MODE={mode}", standard=standard,
+                     library=library if mode in CHECKED else None) == ""
     done = ran(tmp_path / "atomics")
-    assert (built.stderr, done.stdout, done.returncode) == ("", "", 0)
+    assert (done.stdout, done.returncode) == ("", 0)

@@ -1,13 +1,13 @@
 """Atomics that note themselves, in C and in C++: an MCS lock whose records are on the stack.
 
-A swap that is a load and a store is noted as these, and so named in the first run.
+A swap that is a load and a store appears as two steps, and a refusal names the load.
 """
 import re
 
 import pytest
 
-from recorders import CHECKED, COMPILERS, STANDARDS, WARNINGS, language
-from tree import ran
+from recorders import CHECKED, COMPILERS, STANDARDS, WARNINGS, compile_c, language
+from tree import TOP, output, ran
 
 from test_modes import HERE
 
@@ -43,9 +43,96 @@ def test_right_lock(built, judge, tmp_path, compiler, standard, mode):
         assert ", all of them accepted\n" in done.stdout
 
 
+@pytest.mark.parametrize("mode", ["OFF", "VALUES"])
+@pytest.mark.parametrize("compiler", ["gcc", "clang"])
+@pytest.mark.parametrize("name, values, orders", [
+    ("load", "", 1), ("store", "0, ", 1), ("exchange", "0, ", 1), ("fetch_add", "1, ", 1),
+    ("compare_exchange", "&due, 0, ", 2)])
+def test_order(tmp_path, compiler, mode, name, values, orders):
+    """Without an order the operation has the strongest one, and else the order that is given."""
+    strongest, given = ["memory_order_seq_cst"] * orders, ["memory_order_relaxed"] * orders
+    (tmp_path / "it.c").write_text(
+        f'#include "{TOP}/record/lockreplay_record.h"\n'
+        f"THE ORDER OF lr_{name}(&word, {values}LR_TAIL)\n"
+        f"THE ORDER OF lr_{name}_explicit(&word, {values}{', '.join(given)}, LR_TAIL)\n")
+    text = output(compiler, "-std=c11", f"-DLR_MODE={mode}", "-E", tmp_path / "it.c")
+    _, first, second = text.split("THE ORDER OF")
+    assert re.findall(r"memory_order_\w+", first) == strongest
+    assert re.findall(r"memory_order_\w+", second) == given
+
+
+@pytest.mark.parametrize("mode", ["OFF", "VALUES", "SEED"])
+@pytest.mark.parametrize("compiler", ["g++", "clang++"])
+def test_order_in_c_plus_plus(tmp_path, compiler, mode):
+    assert compile_c(compiler, HERE / "orders.cc", tmp_path / "it", f"-DLR_MODE={mode}") == ""
+    done = ran(tmp_path / "it")
+    assert (done.stdout, done.returncode) == ("", 0)
+
+
+def named(form, names):
+    return [form.format(name) for name in names.split()]
+
+
+# Operations, what they take after a pointer, and what is left of that after the point.
+CHANGES = "add sub and xor or nand"
+OPERATIONS = [
+    (["__atomic_load_n", "__atomic_test_and_set", "__atomic_clear"], ", FIRST", ", FIRST"),
+    ([*named("__atomic_{}_n", "store exchange"), *named("__atomic_fetch_{}", CHANGES),
+      *named("__atomic_{}_fetch", CHANGES)], ", 7, FIRST", ", lr_v, FIRST"),
+    (["__atomic_load", "__atomic_store"], ", &due, FIRST", ", &due, FIRST"),
+    (["__atomic_exchange"], ", &due, &old, FIRST", ", &due, &old, FIRST"),
+    (["__atomic_compare_exchange_n"], ", &due, 7, WEAK, FIRST, SECOND",
+     ", lr_e, lr_d, WEAK, FIRST, SECOND"),
+    (["__atomic_compare_exchange"], ", &due, &old, WEAK, FIRST, SECOND",
+     ", &due, &old, WEAK, FIRST, SECOND"),
+    ([*named("__sync_fetch_and_{}", CHANGES), *named("__sync_{}_and_fetch", CHANGES),
+      "__sync_lock_test_and_set"], ", 7", ", lr_v"),
+    (named("__sync_{}_compare_and_swap", "bool val"), ", 7, 8", ", lr_e, lr_d"),
+    (["__sync_lock_release"], "", ""),
+]
+OF_CLANG = [
+    (["__c11_atomic_load"], ", FIRST", ", FIRST"),
+    (named("__c11_atomic_{}", "store exchange fetch_add fetch_sub fetch_or fetch_xor fetch_and"),
+     ", 7, FIRST", ", lr_v, FIRST"),
+    (named("__c11_atomic_compare_exchange_{}", "strong weak"), ", &due, 7, FIRST, SECOND",
+     ", lr_e, lr_d, FIRST, SECOND"),
+]
+
+
+@pytest.mark.parametrize("mode", ["VALUES -DLR_NOISE", "SEED"])
+@pytest.mark.parametrize("compiler", ["gcc", "clang"])
+def test_operation_after_its_point(tmp_path, compiler, mode):
+    """After its point an operation is the same one, with the values and orders that are given."""
+    rows = OPERATIONS + (OF_CLANG if compiler == "clang" else [])
+    calls = [(name, given, left) for names, given, left in rows for name in names]
+    (tmp_path / "it.c").write_text(f'#include "{TOP}/record/lockreplay_record.h"\n' + "".join(
+        f"THE POINT OF {name}(&word{given})\n" for name, given, _ in calls))
+    text = output(compiler, "-std=c11", *f"-DLR_MODE={mode}".split(), "-E", tmp_path / "it.c")
+    made = [re.findall(r"(__\w+)\(lr_p((?:, [^()]*)?)\);", it)
+            for it in text.split("THE POINT OF")[1:]]
+    assert made == [[(name, left)] for name, _, left in calls]
+
+
+@pytest.mark.parametrize("compiler", ["gcc", "g++"])
+def test_records_side_by_side(built, judge, tmp_path, compiler):
+    """In an array a record begins where the one before it ends, and is another thread's. A thread
+    may have another record in each round."""
+    standard = "14" if "++" in compiler else "11"
+    done = ran(built(compiler, standard, "SEED", "-DSIDE_BY_SIDE"), *RUNS["SEED"], tmp_path)
+    assert (done.stderr, done.returncode) == ("", 0)
+    assert judge.accepts([tmp_path / "run.trace"])
+
+
+def test_record_that_no_thread_has(built, tmp_path):
+    """The message tells a lock to name the owner of each record, if it did not."""
+    done = ran(built("gcc", "11", "EXPLORE", "-DNOBODYS"), 2, 1, 2, tmp_path)
+    said = ": no thread has this record (lr_own_record says whose it is)\n"
+    assert done.returncode == 1 and said in done.stdout, done.stdout
+
+
 @pytest.mark.parametrize("compiler", ["gcc", "g++"])
 def test_swap_of_two_operations(built, tmp_path, compiler):
-    """The line of the source is that of the load."""
+    """The refusal names the source line of the load."""
     source = "noted.cc" if "++" in compiler else "noted.c"
     line = next(number for number, line in enumerate((HERE / source).read_text().splitlines(), 1)
                 if re.search(r"found = (lr_load\(&tail|tail\.load)", line))

@@ -1,8 +1,7 @@
-"""Planted mistakes in the recorded locks in C: in how many runs each is noticed, in each mode.
+"""Planted mistakes in the recorded locks in C: how many runs of each mode notice each mistake.
 
-Modes that give the same each time are compared with the tables of mistakes/README.md: of a right
-lock nothing may be refused. --write-planted tries the modes of real threads too, and writes the
-tables.
+The results of deterministic modes have to equal the tables of mistakes/README.md, and no mode may
+refuse a right lock. --write-planted also tries the modes of real threads, and writes the tables.
 """
 import os
 import re
@@ -22,10 +21,10 @@ LOCKS = ("mcs", "ticket", "rw_fifo")
 RUNS = planted_table.RUNS
 REAL = ("4", "100")  # threads and rounds
 SEEDED = ("3", "30")
-SHORT = ("3", "4")  # what PCT is for
+SHORT = ("3", "4")  # for PCT, which is meant for short runs
 EXPLORED = ("3", "1", "2")  # threads, rounds and preemptions
-MOST = "3000"  # runs that are explored
-ENOUGH = 70  # mistakes that have to be noticed in all runs of one mode
+MOST = "3000"  # the most runs that a search explores
+ENOUGH = 70  # so many mistakes have a mode in which all runs notice them
 CHECKED = ["-DLR_MODE=SEED", "-DLR_CHECK"]
 MODES = {
     "VALUES": ["-DLR_MODE=VALUES"],
@@ -41,7 +40,7 @@ REAL_MODES = ("VALUES", "NOISE")
 
 
 def mistakes_of(lock):
-    """The name of each mistake and what the lock does then; those of the tables in their order."""
+    """(name, what the lock then does) of each mistake, in the tables' order, new ones last."""
     what = {path.stem: path.read_text().splitlines()[0]
             for path in sorted((PATCHES / "c" / lock).glob("*.patch"))}
     known = [name for of, name in planted_table.read() if of == lock and name in what]
@@ -72,7 +71,7 @@ def test_document_counts_what_the_tables_have():
 
 
 def build(lock, name, mode, library, folder, *flags):
-    """A copy of the lock with the mistake, built over the driver of planted mistakes."""
+    """Builds a copy of the lock with the mistake, on the driver of planted mistakes."""
     copy = folder / SOURCES.relative_to(TOP)
     shutil.copytree(SOURCES, copy)
     (folder / "record").symlink_to(TOP / "record")
@@ -99,8 +98,8 @@ def is_noticed(locktrace, program, seed, logs):
 
 
 def explored(said):
-    """Which run of a search is refused, and how many preemptions it has; or how many runs are
-    made."""
+    """The cell of a search: the number of the refused run and its preemptions, or `none` with the
+    limit of runs if the search reached it."""
     runs, preemptions = re.match(r"(\d+) runs? with up to (\d+)", said).groups()
     if "refused" in said:
         return f"{runs}, {preemptions}"
@@ -108,7 +107,7 @@ def explored(said):
 
 
 def followed(said):
-    """How many schedules of a tour are refused."""
+    """The cell of a tour: how many schedules the lock did not follow, of how many."""
     schedules, refused = re.match(r"(\d+) schedules of \d+ moves, (\d+) not", said).groups()
     return f"{refused}/{schedules}"
 
@@ -124,7 +123,7 @@ def test_planted(library, locktrace, tour, tmp_path, pytestconfig, record_proper
         pytest.skip("what real threads do differs from run to run")
     logs, program = tmp_path / "logs", build(lock, name, mode, library, tmp_path)
     logs.mkdir()
-    # one thread at a time is fastest on one core
+    # If one thread runs at a time, one core is fastest.
     cores = sorted(os.sched_getaffinity(0))
     on_one = ["taskset", "-c", cores[len(name) % len(cores)], program]
     if mode in REAL_MODES:

@@ -1,7 +1,7 @@
-"""A refusal names the step of the published lock in place of the one that differs.
+"""A refusal names the step that the published lock makes instead of the refused step.
 
-Each message is shown by an example in C with a mistake, and by one in Rust as far as mistakes of
-these are planted; record/rust/tests/published.rs has all of them.
+An example in C with a mistake shows each message. Examples in Rust show the messages for which the
+suite has a mistake; record/rust/tests/published.rs has all messages.
 """
 import ctypes
 import re
@@ -13,6 +13,8 @@ from mistakes import IN_RUST, PATCHES
 from recorders import InRust, SOURCES, compile_c, once, plant
 from tree import EXAMPLES, TOP, output, ran
 
+from test_modes import HERE
+
 sys.path.append(str(EXAMPLES / "bindings"))
 from locktrace import NO_WORD, Answer, Step  # noqa: E402
 
@@ -21,7 +23,7 @@ pytestmark = pytest.mark.slow
 CHECK = TOP / "record" / "locktrace.c"
 READ, WRITE, SWAP, CAS, ADD, SECTION = range(16, 22)
 MOVED, WAITS, ENTERED, LEFT = range(1, 5)
-# An example in C, its mistake, threads, rounds and preemptions: the fault, and what comes after it.
+# An example in C, its mistake, (threads, rounds, preemptions), the fault and the message after it.
 IN_C = [
     ("mcs", "link-before-locked", (2, 1, 1), "OtherWord",
      "the published lock's step is on 'locked of 0'"),
@@ -42,12 +44,48 @@ IN_C = [
     ("ticket", "serves-twice", (2, 1, 0), "NoCall",
      r"the published lock's call ended with its write at ticket\.c:\d+"),
 ]
-# The same of a text that is another one in an example.
+# The same with a text of an example that is replaced by another.
 BY_TEXT = [
+    ("mcs", "LR_SWAP(tail, LR_RECORD(lock->records, before))", "LR_SWAP(tail, before)", (2, 1, 1),
+     "FoundOther", "the published lock has 2: a pointer is noted as LR_RECORD gives it"),
     ("rw_simple", "++lock->monitor.sections", "1", (1, 1, 0), "CountNotAbove",
      "a section before it has 1"),
     ("ticket", '#define LOCK "ticket"', '#define LOCK "mcs"', (1, 1, 0), "WrongLock",
      "the published lock's next step is 'write next left 0'"),
+    # Nothing comes before the thread's first move, or before the run's first section.
+    ("ticket", "LR_CALL(acquire)", "if (lr_thread() == 0) LR_CALL(acquire)", (2, 1, 0), "NoCall",
+     ""),
+    ("rw_simple", "++lock->monitor.sections", "0", (1, 1, 0), "CountNotAbove", ""),
+]
+# A lock, what its two threads note, the fault and the message.
+TAKE = "LR_CALL(acquire); LR_WRITE(next, 0); LR_SWAP(tail, thread); "
+QUEUE = f"{TAKE} if (thread) {{ LR_WRITE(locked, 1); LR_WRITE_OF(next, WHOSE, 2); }}"
+NOBODYS = r"no thread has this record \(lr_own_record says whose it is\)"
+BY_NOTES = [
+    *(("rw-simple", "if (!thread) { LR_CALL(wlock); LR_SECTION(1, entered); return; } "
+       f"LR_CALL({call}); LR_SECTION(2, waits); LR_CALL({then})", "Busy",
+       f"the thread {went} while the published lock still waits: see its section at notes.c:\\d+")
+      for call, then, went in (("rlock", "rlock", "went on"), ("wlock", "wlock", "went on"),
+                               ("rlock", "runlock", "entered"), ("wlock", "wunlock", "entered"))),
+    ("ticket", "LR_CALL(acquire); LR_ADD(next_ticket, thread); "
+     "if (thread) { LR_READ(now_serving, 0); LR_CALL(acquire); }", "Busy",
+     r"the thread went on while the published lock still waits: see its read at notes.c:\d+"),
+    ("mcs", f"{TAKE} LR_CALL(release); LR_READ(next, 0); LR_READ(next, 0)", "WrongStep",
+     "the published lock's next step is 'cas tail done'"),
+    ("rw-simple", "LR_CALL(rlock); LR_READ(tail, 0)", "WrongLock",
+     "the published lock's next step is 'section entered'"),
+    ("ticket", "LR_CALL(acquire); LR_ADD(next_ticket, 0); LR_READ(next_ticket, 0)", "OtherWord",
+     "the published lock's step is on 'now_serving'"),
+    ("mcs", QUEUE.replace("WHOSE", "1"), "OtherWord",
+     "the published lock's step is on 'next of 0'"),
+    ("mcs", QUEUE.replace("WHOSE", "-1"), "OtherWord",
+     f"the published lock's step is on 'next of 0': {NOBODYS}"),
+    ("mcs", TAKE.replace("thread", "256"), "FoundOther",
+     f"the published lock has 0: {NOBODYS}"),
+    ("mcs", TAKE.replace("thread", "65"), "FoundOther",
+     "the published lock has 0: a pointer is noted as LR_RECORD gives it"),
+    ("mcs", f"{TAKE} LR_CALL(release); LR_READ(next, 256)", "FoundOther",
+     f"the published lock has 0: {NOBODYS}"),
 ]
 OF_RUST = {
     "links-before-locked": ("OtherWord", "the published lock's step is on 'locked of 2'"),
@@ -60,7 +98,7 @@ OF_RUST = {
 
 @pytest.fixture(scope="session")
 def compiled(shared):
-    """The check, which takes longer to compile than any lock."""
+    """Compiles the check once, since it takes longer to compile than any lock."""
     def compile_it(words, name):
         return once(shared / name, lambda: output("gcc", "-O1", *words, CHECK, "-o",
                                                   shared / name))
@@ -69,7 +107,7 @@ def compiled(shared):
 
 @pytest.fixture
 def searched(compiled, tmp_path):
-    """The message after an example in C with a change is explored."""
+    """Changes an example in C, explores its runs, and returns the message."""
     def search(example, counts, change):
         copy = tmp_path / SOURCES.relative_to(TOP)
         output("cp", "-R", "--parents", SOURCES.relative_to(TOP), tmp_path, cwd=TOP)
@@ -84,7 +122,9 @@ def searched(compiled, tmp_path):
 
 
 def is_said(said, fault, more):
-    return re.search(rf"refused at line \d+ of the trace, .*: {fault}: [^:]+: {more}(;|$)", said,
+    """Whether a fault is said, with this after it; nothing may come after it if `more` is empty."""
+    more = more and f": {more}"
+    return re.search(rf"refused at line \d+ of the trace, .*: {fault}: [^:\n]+{more}(;|$)", said,
                      re.MULTILINE)
 
 
@@ -104,6 +144,15 @@ def test_in_c_by_text(searched, example, old, new, counts, fault, more):
     assert is_said(said, fault, more), said
 
 
+@pytest.mark.parametrize("lock, notes, fault, more", BY_NOTES)
+def test_in_c_by_notes(compiled, tmp_path, lock, notes, fault, more):
+    assert compile_c("gcc", HERE / "notes.c", tmp_path / "it", "-DLR_MODE=EXPLORE",
+                     f'-DLOCK="{lock}"', f"-DNOTES={notes}",
+                     library=compiled(["-c"], "check.o")) == ""
+    done = ran(tmp_path / "it", 2, 1, 0, tmp_path / "logs")
+    assert done.returncode == 1 and is_said(done.stdout, fault, more), done.stdout
+
+
 @pytest.mark.parametrize("name", OF_RUST)
 def test_in_rust(shared, tmp_path, name):
     [mistake] = [it for it in IN_RUST if it.name == name and it.explored is not None
@@ -118,8 +167,8 @@ def test_linker_says_what_is_missing(tmp_path):
     assert "lr_compile_record_locktrace_c_too" in said and "lt_check" in said
 
 
-# A trace and the record of the step that the lock has instead of the last one: its line and thread,
-# what it found and left, which step on which word, and its outcome.
+# A trace, and the record of the step that the lock has instead of the last one: its line, the
+# values found and left, the thread, the kind of step, the outcome, and the word.
 MCS, OUT = "lock mcs threads 2\n", "0 acquire\n0 write\n0 swap\n0 release\n"
 QUEUED = "0 acquire\n0 write\n0 swap\n1 acquire\n1 write\n1 swap\n1 write\n1 write\n"
 TICKET, RW = "lock ticket threads 2\n", "lock rw-simple threads 2\n"
@@ -132,14 +181,14 @@ RECORDS = [
      (5, 0, 0, 1, SECTION, WAITS, NO_WORD)),
     (RW + "0 rlock\n0 section 1\n1 rlock\n1 section 1\n",
      (5, 0, 0, 1, SECTION, ENTERED, NO_WORD)),
-    # of moves that are refused: the step that is due
+    # The last move is refused, and the record has the step that is due.
     (MCS + "# a comment\n0 acquire\n\n0 cas tail done", (5, 0, 0, 0, WRITE, MOVED, 1)),
     (MCS + QUEUED + "1 cas\n0 release\n", (10, 1, 1, 1, READ, WAITS, 4)),
     (MCS + QUEUED + "1 release\n1 read\n0 nothing\n", (10, 1, 1, 1, READ, WAITS, 4)),
     (TICKET + "1 acquire\n1 acquire\n", (3, 0, 1, 1, ADD, MOVED, 0)),
     (RW + "0 rlock\n0 section\n1 wlock\n1 wunlock\n", (5, 0, 0, 1, SECTION, WAITS, NO_WORD)),
     (TICKET + "0 acquire\n0 cas\n", (3, 0, 1, 0, ADD, MOVED, 0)),
-    # no step is due
+    # No step is due.
     (TICKET + "0 release\n", None), (TICKET + "0 add\n", None), (TICKET + "2 acquire\n", None),
     (TICKET + "0 cas\n", None), (TICKET + "0 acquire\n", None), (TICKET + "0 acquire\nx\n", None),
 ]
@@ -154,7 +203,7 @@ def check(compiled):
 
 @pytest.mark.parametrize("text, record", RECORDS)
 def test_record(check, text, record):
-    """It is written if there is room for it, and nothing after it."""
+    """The check writes the record if there is room for it, and nothing after it."""
     count = None
     for room in range(text.count("\n") + 2):
         steps, answer = (Step * (room + 1))(), Answer()

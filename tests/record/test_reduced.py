@@ -1,8 +1,8 @@
-"""EXPLORE with and without each order of independent steps: the same comes about, by fewer runs.
+"""EXPLORE with partial order reduction finds the same as without it, in fewer runs.
 
-Steps of two threads are independent if they are on different words, or both load one; sections are
-not. Traces that differ only in the order of such steps have one normal form, after Foata: each move
-comes as early as the moves on which it depends let it.
+Steps of two threads are independent if they are on different words, or both load the same word; two
+sections are never independent. Traces that differ only in the order of independent steps have one
+Foata normal form, in which each move comes as early as the moves on which it depends allow.
 """
 import re
 
@@ -11,20 +11,22 @@ import pytest
 from mistakes import IN_RUST
 from recorders import SOURCES, compile_c
 from test_planted import EXPLORED, MISTAKES, build
-from tree import TOP, ran
+from tree import PATIENCE, TOP, ran
 
-MOST = 10000  # runs of a search
-# The runs of 3 threads with a round and 2 preemptions of a right lock, with each order and without.
+MOST = 10000  # the most runs of a search
+# At each turn of a run a thread waits for a processor, which is long on a busy machine.
+LONG = 5 * PATIENCE
+# A right lock's runs of 3 threads with a round and 2 preemptions: without reduction, and with it.
 RUNS_IN_C = {"mcs": (7188, 525), "ticket": (5616, 264), "rw_simple": (2954, 2696),
              "rw_fifo": (2898, 2640)}
 RUNS_IN_RUST = {"mcs": (5316, 525), "ticket": (4164, 264), "rw_simple": (976, 246),
                 "rw_fifo": (972, 248)}
-NAMED = ("mcs", "ticket", "rw_fifo")  # the locks whose runs the document has
+NAMED = ("mcs", "ticket", "rw_fifo")  # the locks whose runs docs/PLANTED.md counts
 SEARCHES = ("explore-all", "explore")
 
 
 def move_of(line):
-    """A move with its thread and its word, and whether it does more than load that."""
+    """(the move, its thread, its word, whether it does more than load the word)."""
     thread, kind, *parts = line.split()
     if kind == "section":
         return line, thread, "sections", True
@@ -42,13 +44,13 @@ def are_dependent(one, other):
 
 
 def level_of(move, levels):
-    """The first level after the last one that has a move on which this one is dependent."""
+    """The level after the last level that has a move on which this move depends."""
     return max((at + 1 for at, level in enumerate(levels)
                 if any(are_dependent(move, other) for other in level)), default=0)
 
 
 def normal_form(trace):
-    """The moves of a trace, in sets of which each one's moves are independent."""
+    """The Foata normal form of a trace: a sequence of sets of independent moves."""
     levels = []
     for move in (move_of(line) for line in trace.splitlines() if line[:1].isdigit()):
         at = level_of(move, levels)
@@ -58,7 +60,7 @@ def normal_form(trace):
 
 
 def said_by(done):
-    """How many runs a search made, with how many preemptions, and whether there are more."""
+    """(how many runs a search made, with how many preemptions, whether there are more)."""
     runs, preemptions = re.match(r"(\d+) runs? with up to (\d+) preemptions?", done.stdout).groups()
     return int(runs), int(preemptions), "and there are more" in done.stdout
 
@@ -86,7 +88,7 @@ def test_right_lock_in_c(library, tmp_path, example):
         program = tmp_path / str(reduces)
         assert compile_c("gcc", SOURCES / f"{example}.c", program, "-DLR_MODE=EXPLORE",
                          f"-DLR_REDUCE={reduces}", library=library) == ""
-        done = ran(program, *EXPLORED, tmp_path / "logs", MOST)
+        done = ran(program, *EXPLORED, tmp_path / "logs", MOST, timeout=LONG)
         assert done.stdout == f"{runs} runs with up to 2 preemptions, all of them accepted\n"
 
 
@@ -95,7 +97,7 @@ def test_right_lock_in_c(library, tmp_path, example):
 @pytest.mark.parametrize("recorder", ["rust"], indirect=True)
 @pytest.mark.parametrize("example", RUNS_IN_RUST)
 def test_right_lock_in_rust(recorder, tmp_path, example, counts):
-    """Each run has an equivalent one among those that are made."""
+    """Each run has an equivalent one among the runs of the reduced search, which are fewer."""
     made, found = [], []
     for search in SEARCHES:
         folder = tmp_path / search
@@ -110,8 +112,8 @@ def test_right_lock_in_rust(recorder, tmp_path, example, counts):
 @pytest.mark.parametrize("lock, name", [
     (lock, name) for lock, named in MISTAKES.items() for name, _ in named])
 def test_planted_in_c(library, tmp_path, lock, name):
-    """A search is refused with as many preemptions. One that is cut may find less than the other,
-    which makes fewer runs."""
+    """Both searches refuse a run with as many preemptions, unless the full search reaches its limit
+    first. The reduced search never does."""
     done = []
     for reduces in range(2):
         folder = tmp_path / str(reduces)
@@ -125,7 +127,7 @@ def test_planted_in_c(library, tmp_path, lock, name):
 
 
 def refused(locktrace, folder):
-    """The normal forms of the traces in a folder that are refused."""
+    """The normal forms of the refused traces in a folder."""
     said = ran(locktrace, "check", *sorted(folder.glob("*.trace"))).stdout
     names = re.findall(r"([^/\s]+\.trace):\d+: refused", said)
     return {normal_form((folder / name).read_text()) for name in names}
@@ -135,7 +137,7 @@ def refused(locktrace, folder):
 @pytest.mark.parametrize("recorder", ["rust"], indirect=True)
 @pytest.mark.parametrize("mistake", IN_RUST, ids=str)
 def test_planted_in_rust(recorder, locktrace, tmp_path, mistake):
-    """The same is refused. A run that hangs ends a search."""
+    """Both searches refuse the same normal forms, or end at a run that hangs."""
     done = [recorder.search((3, 1, 1), tmp_path / search, mistake.example, search, mistake)
             for search in SEARCHES]
     (runs, preemptions, _), (fewer, found, _) = map(said_by, done)

@@ -1,7 +1,7 @@
-"""Right locks in C, C++ and Rust: none of 100 runs is refused, in any mode.
+"""No mode refuses any of 100 runs of a right lock in C, C++ or Rust.
 
-A run of one thread at a time is checked, and the logs of threads that run as they like have an
-order. Of a tour with fewer schedules than that, all are followed.
+If one thread runs at a time, the trace is checked; the logs of free threads have to have an order.
+A lock follows the first 100 schedules of its tour, or all if the tour has fewer.
 """
 import os
 import re
@@ -25,12 +25,12 @@ SOURCES_OF = {
 }
 IN_RUST = {"free": REAL, "noise": REAL, "ordered": REAL, "seed": SEEDED, "wakes": SEEDED,
            "pct": SEEDED}
-# ck_ticket makes two published steps by one operation, and noted has no calls to follow.
+# ck_ticket makes two published steps in one operation, and noted has no calls to follow.
 FOLLOWS_NOTHING = ("ck_ticket", "noted")
 
 
 def first_schedules(tour, lock, folder):
-    """A folder with the first schedules of a lock's tour, and how many these are."""
+    """Copies the first schedules of a lock's tour to a folder, and counts them."""
     paths = sorted(tour(lock).glob("*.schedule"))[:RUNS]
     (folder / "schedules").mkdir()
     for path in paths:
@@ -39,14 +39,14 @@ def first_schedules(tour, lock, folder):
 
 
 def is_ordered(judge, folder, words):
-    """Whether a run of threads that run as they like ends, and its logs have an order."""
+    """Whether a run of free threads ends well, and its logs have an order."""
     shutil.rmtree(folder, ignore_errors=True)
     folder.mkdir()
     return ran(*words, folder).returncode == 0 and judge.order(folder)[1] == 0
 
 
 def refused_in_c(judge, program, mode, folder):
-    """The numbers of the runs of a seed or of free threads that are refused."""
+    """The numbers of the refused runs, by seeds or of free threads."""
     refused = []
     for number in range(1, RUNS + 1):
         words = [*program, *(REAL if mode in REAL_MODES else SEEDED), number]
@@ -68,7 +68,7 @@ def test_in_c(library, judge, tour, tmp_path, record_property, compiler, source,
     assert compile_c(compiler, source, tmp_path / "program", *MODES[mode],
                      library=None if mode in REAL_MODES else library) == ""
     program, logs = [tmp_path / "program"], tmp_path / "logs"
-    if mode not in REAL_MODES:  # one thread at a time is fastest on one core
+    if mode not in REAL_MODES:  # if one thread runs at a time
         cores = sorted(os.sched_getaffinity(0))
         program = ["taskset", "-c", cores[len(mode + source.name) % len(cores)], *program]
     count = RUNS

@@ -1,9 +1,9 @@
-"""Recorded runs of the locks in C and in Rust: of right locks, and of locks with a mistake.
+"""Recorded runs of right and wrong locks, in C and in Rust.
 
-For a right lock every run has to be accepted: the trace of a run whose order is known, the order
-found for the threads' logs, and each schedule of it; and threads have to have waited. For a wrong
-one the trace has to be refused at the line where the mistake is first seen, which signs.py finds by
-itself, and its logs have no order.
+Every run of a right lock has to be accepted: its trace, if the run has one, the order of its logs,
+and each schedule of the order. Some thread has to have waited. The trace of a wrong lock has to be
+refused at the line where the mistake first shows, which signs.py finds by itself, and its logs have
+no order.
 """
 import pytest
 
@@ -13,8 +13,8 @@ from signs import moves_of
 
 pytestmark = pytest.mark.slow
 
-MOST_TRIES = 20  # of free threads, until one of them waited
-HANGS = 1  # the status of such a run
+MOST_TRIES = 20  # of free threads, until one waits
+HANGS = 1  # the status of a run that hangs
 RIGHT = [pytest.param(name, example, mode, id=f"{name}-{example}-{mode}")
          for name, recorder in RECORDERS.items() for example in recorder.examples
          for mode in recorder.runs]
@@ -26,7 +26,7 @@ MISTAKES = [pytest.param(mistake.recorder, mistake, id=str(mistake)) for mistake
 
 
 def waits(recorder, judge, target, example, mode, number):
-    """How many moves of a run wait; in its trace, if there is one, and in the order of its logs."""
+    """How many moves of a run wait, in its trace or in the order of its logs: the smaller count."""
     assert recorder.run(target, example, mode, number).returncode == 0
     trace = target / "run.trace"
     assert trace.exists() == (mode in recorder.traced)
@@ -39,7 +39,7 @@ def waits(recorder, judge, target, example, mode, number):
 
 @pytest.mark.parametrize("recorder, example, mode, number", ONE_BY_ONE, indirect=["recorder"])
 def test_right_lock(recorder, judge, tmp_path, example, mode, number):
-    """Free threads may run one after another, which shows little: then the run is tried again."""
+    """A thread waits in some try. Free threads may run one after another, so they have 20 tries."""
     tries = range(MOST_TRIES if mode in recorder.free else 1)
     assert any(waits(recorder, judge, tmp_path / str(attempt), example, mode,
                      number + 100 * attempt) for attempt in tries)
@@ -48,7 +48,7 @@ def test_right_lock(recorder, judge, tmp_path, example, mode, number):
 @pytest.mark.parametrize("recorder, example", [of for of in EXAMPLES if of.values[0] == "rust"],
                          indirect=["recorder"])
 def test_right_lock_by_priorities(recorder, judge, tmp_path, example):
-    """Threads wait in few of these runs, since a thread goes on as long as it can."""
+    """A thread waits in some of the runs. With priorities a thread goes on as long as it can."""
     found = [waits(recorder, judge, tmp_path / str(seed), example, "pct", seed)
              for seed in recorder.runs["pct"][2]]
     assert any(found)
@@ -56,7 +56,7 @@ def test_right_lock_by_priorities(recorder, judge, tmp_path, example):
 
 @pytest.mark.parametrize("recorder, example", EXAMPLES, indirect=["recorder"])
 def test_seed_again(recorder, tmp_path, example):
-    """The same seed gives the same run, and another seed another one."""
+    """The same seed gives the same run, and another seed gives another run."""
     texts = []
     for number in ("7", "07", "8"):
         recorder.run(tmp_path / number, example, recorder.seeded, number)
@@ -66,7 +66,7 @@ def test_seed_again(recorder, tmp_path, example):
 
 @pytest.mark.parametrize("recorder, example, mode", RIGHT, indirect=["recorder"])
 def test_logs_of_two_runs(recorder, tracer, tmp_path, example, mode):
-    """They are not put into one order."""
+    """`order` refuses to merge logs of two runs."""
     for number in (901, 902):
         recorder.run(tmp_path / str(number), example, mode, number)
     logs = ["901/thread-0.log", *sorted(str(path.relative_to(tmp_path)) for path in
@@ -76,7 +76,7 @@ def test_logs_of_two_runs(recorder, tracer, tmp_path, example, mode):
 
 
 def shows(recorder, judge, mistake, target, seed):
-    """Whether a mistake shows in a seeded run; what the programs say is what is due."""
+    """Whether a mistake shows in a seeded run. The programs have to say so as signs.py does."""
     status = recorder.run(target, mistake.example, recorder.seeded, seed, mistake).returncode
     trace = target / "run.trace"
     refused = judge.refused_line(trace)
@@ -100,7 +100,7 @@ def test_mistake_by_seeds(recorder, judge, tmp_path, mistake):
 @pytest.mark.parametrize("recorder, mistake", [of for of in MISTAKES if of.values[0] == "c"],
                          indirect=["recorder"])
 def test_mistake_by_free_threads(recorder, judge, tmp_path, mistake, number):
-    """Logs of a wrong lock have no order, or one in which the mistake does not show."""
+    """The logs of a wrong lock have no order, or an order in which the mistake does not show."""
     recorder.run(tmp_path, mistake.example, "VALUES", number, mistake, seconds=3)
     ordered, status = judge.order(tmp_path)
     shown = [mistake.sign(moves_of(trace.read_text())) for trace in ordered.glob("*.trace")]

@@ -1,6 +1,7 @@
-"""A crate of somebody who has cargo, a C compiler and the package of the Rust crate, and no kit.
+"""A user who has cargo, a C compiler and the package of the Rust crate, but no kit, tests a lock.
 
-The crate is that of the package's README, right or with a mistake in it; its test names the step.
+The user's crate has the lock of the package's README, right or with a mistake, whose step the test
+names.
 """
 import re
 import tarfile
@@ -15,7 +16,7 @@ CRATE = TOP / "record" / "rust"
 TOML, LOCK, TEST = re.findall(r"```(?:toml|rust)\n(.*?)```", (CRATE / "README.md").read_text(),
                               re.DOTALL)
 STORE = "self.now_serving.store(served.wrapping_add(1), SeqCst);"
-# A text of the lock, what it is in its place, and what is said of the step.
+# A text of the lock, the text in its place, and the message about the wrong step.
 MISTAKES = {
     "addition of two operations": (
         "self.next_ticket.fetch_add(1, SeqCst);",
@@ -24,7 +25,7 @@ MISTAKES = {
         "WrongStep: "),
     "no wait": (
         "SeqCst) != ticket {", "SeqCst) > ticket {",
-        " release': Busy: "),  # of the one that did not wait
+        " release': Busy: "),  # by the thread that did not wait
     "nobody is served": (STORE, "let _ = served;", "run 1: thread 0 has ended inside a call\n"),
     "the ticket after the next is served": (
         STORE, STORE.replace("add(1)", "add(2)"),
@@ -33,7 +34,7 @@ MISTAKES = {
 
 
 def cargo(*words, folder):
-    """The output of Debian's cargo, which is as old as any that the crate is for."""
+    """Runs Debian's cargo, the oldest that the crate supports."""
     return ran("/usr/bin/cargo", *words, "--offline", cwd=folder, timeout=600, env=environment(
         PATH="/usr/bin:/bin", RUSTC="/usr/bin/rustc", RUSTFLAGS="-D warnings",
         RUSTDOC="/usr/bin/rustdoc", CARGO_HOME=str(folder.parent / "cargo"),
@@ -42,7 +43,7 @@ def cargo(*words, folder):
 
 @pytest.fixture(scope="module")
 def package(tmp_path_factory):
-    """The unpacked package."""
+    """Packs the crate, and returns the folder of the unpacked package."""
     folder = tmp_path_factory.mktemp("package")
     output(TOP / "packaging" / "crate.sh", folder / "crate")
     made = cargo("package", "--no-verify", "--allow-dirty", folder=folder / "crate")
@@ -54,7 +55,7 @@ def package(tmp_path_factory):
 
 
 def test_package(package):
-    """It has all that its build, its user and its licences ask for, as files of their own."""
+    """The package has every file that its build, its user and its licences need."""
     files = {str(file.relative_to(package)) for file in package.rglob("*") if file.is_file()}
     assert files >= {"README.md", "LICENSE-APACHE", "LICENSE-MIT", "build.rs", "locktrace.c",
                      "src/lib.rs"}
@@ -63,7 +64,7 @@ def test_package(package):
 
 @pytest.fixture
 def tested(package):
-    """The test of a crate with this lock, beside the package: its status, and what is said."""
+    """Runs the test of a crate with this lock, beside the package: its status and its output."""
     def run(lock):
         crate = package.parent / "stranger"
         (crate / "src").mkdir(parents=True, exist_ok=True)

@@ -1,4 +1,4 @@
-/* Tries the preloaded library: `probe` under it, `probe plain` without it. Prints what is wrong. */
+/* Tries the preloaded library: `probe` with it, `probe plain` without it. Prints failed checks. */
 #include <pthread.h>
 #include <stdio.h>
 #include <stdlib.h>
@@ -16,7 +16,7 @@ static int failed;
         }                                                                                          \
     } while (0)
 
-/* Whether a request is granted; the block is given back at once. */
+/* Whether a request is granted. A granted block is given back at once. */
 static int is_granted(size_t size)
 {
     void *volatile block = malloc(size);

@@ -7,19 +7,17 @@
  * A test speaks to it by requests of telling sizes, which need no call that a test cannot make.
  * Each is answered with one byte or refused; the test gives a granted block back without using it.
  *
- *     HERE        is refused. Without the library it is granted: so a test knows whether it is
- *                 there.
- *     ARM + N     arms it, N from 1 to 999,999: of the requests that follow, of all threads
- *                 together, the Nth is refused, and no other.
- *     ASK         disarms it, and is refused exactly where a request was refused since it was
- *                 armed.
+ *     HERE        is refused. Without the library it is granted, so a test knows whether the
+ *                 library is there.
+ *     ARM + N     arms the library, N from 1 to 999,999: it refuses the Nth of the requests that
+ *                 follow, counted over all threads, and no other.
+ *     ASK         disarms the library. It is refused exactly if a request was refused since ARM.
  *                 Without the library it is granted: no request was refused.
  *
- * A request is a call of malloc, realloc, aligned_alloc, memalign or posix_memalign, other than
- * with the sizes above. A program in Rattle uses malloc and realloc
- * alone (`nm -D`); alignments above 16 are refused before. calloc is let through and not counted:
- * the C library calls it when it starts a thread. Freeing and shrinking with realloc(p, 0) are no
- * requests.
+ * A request is a call of malloc, realloc, aligned_alloc, memalign or posix_memalign with any other
+ * size. A program in Rattle uses only malloc and realloc (`nm -D`), and alignments above 16 are
+ * refused before they get here. The library neither counts nor refuses calloc, which the C library
+ * calls when it starts a thread. Freeing a block, also by realloc(p, 0), is no request.
  *
  * A test of a call that may want memory is repeated for N = 1, 2, 3 and so on:
  *
@@ -27,21 +25,20 @@
  *     ASK refused:  the answer is out of memory, or the answer with ample memory; go on with N + 1
  *     ASK granted:  the answer is the one with ample memory; end
  *
- * Where HERE is refused and the call is to take memory, N = 1 has to be refused: a test that ends
- * its round with N = 1 then met no refusal and fails. For a call that takes no memory the round is
- * N = 1 alone, with ASK granted. Nothing between ARM and ASK but the call itself may ask for
- * memory.
+ * If HERE is refused and the call takes memory, N = 1 has to be refused: a test whose round ends
+ * with N = 1 met no refusal, and fails. For a call that takes no memory the round is N = 1 alone,
+ * with ASK granted. Only the call itself may ask for memory between ARM and ASK.
  *
- * At each ASK a line `request N refused` or `request N not reached` is appended to the file that
- * REFUSE_LOG names. A library that could not be preloaded leaves no line, and the loader only
- * warns: so whoever runs the tests looks for the lines.
+ * Each ASK appends a line `request N refused` or `request N not reached` to the file that
+ * REFUSE_LOG names. If the loader cannot preload the library, it only warns, and no line appears.
+ * So the tests look for the lines.
  *
- * A program that does not speak to it is armed by REFUSE_NTH=N: of all requests since its start the
- * Nth is refused. When the program ends, the line of that round is appended, and a line
- * `requests K` with how many it made. test_memory.py runs the built program so.
+ * REFUSE_NTH=N arms the library for a program that does not speak to it: the Nth request since the
+ * start is refused. When the program ends, the library appends the line of that round, and a line
+ * `requests K` with the number of requests. test_memory.py runs the built program in this way.
  *
- * A program that itself asks for exactly one of these sizes would be misread. No test here leads to
- * such a request.
+ * The library would misread a program that itself asks for exactly one of these sizes. No test here
+ * leads to such a request.
  */
 #define _GNU_SOURCE
 #include <errno.h>
@@ -59,10 +56,10 @@ void *__libc_malloc(size_t);
 void *__libc_realloc(void *, size_t);
 void *__libc_memalign(size_t, size_t);
 
-static long left;   /* requests up to the one that is refused, 0 where disarmed or past it */
+static long left;   /* requests up to the one to refuse; 0 if disarmed or past it */
 static long armed;  /* the N of the last arming */
-static int refused; /* since then */
-static long count;  /* of requests since the start, where one of those is to be refused */
+static int refused; /* whether a request was refused since then */
+static long count;  /* of requests since the start, if REFUSE_NTH is set */
 static int is_armed_at_start;
 static const char *log_name;
 
@@ -104,7 +101,7 @@ static int answer(size_t size)
     return 1;
 }
 
-/* Whether a request of any other size is granted: each is one of those left, in one atomic step. */
+/* Whether a request of any other size is granted. One atomic step takes it from those left. */
 static int is_granted(void)
 {
     if (is_armed_at_start) __atomic_add_fetch(&count, 1, __ATOMIC_SEQ_CST);

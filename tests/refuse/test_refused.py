@@ -1,8 +1,9 @@
-"""The tests of the libraries that speak of a request, each with some request for memory refused.
+"""Runs the tests of the libraries in which a request for memory is refused.
 
-Each is run in a process of its own under refuse.c, whose head says how the two speak: it has to end
-well, and some request has to have been refused. One with `no_request` in its name shows that a call
-asks for nothing: none is reached. Before them the library itself is tried by probe.c.
+These tests have `request` in their names. Each runs in a process of its own with refuse.c, whose
+head says how the two communicate. A test has to end well, and some request has to have been
+refused. A test with `no_request` in its name shows that a call asks for no memory, so it reaches no
+request. probe.c tests the library refuse.c itself.
 """
 import re
 from pathlib import Path
@@ -16,7 +17,7 @@ HERE, WHICH = Path(__file__).parent, "tests of the libraries"
 PROGRAM = TOP / BUILT[WHICH][0]
 NAMES = [name for name in re.findall(r"(?m)^(.*): test$", output(PROGRAM, "--list"))
          if "request" in name] if PROGRAM.exists() else ["request"]
-pytestmark = pytest.mark.slow  # to build them is
+pytestmark = pytest.mark.slow  # because the tests take long to build
 
 
 @pytest.fixture(scope="module")
@@ -32,7 +33,7 @@ def probe(library):
 
 
 def log_of(library, folder, *words):
-    """The notes of the library on a program that ends well."""
+    """Runs a program with the library, asserts that it ends well, and returns the library's log."""
     log = folder / "log"
     done = ran(*words, env=environment(REFUSE_LOG=str(log), LD_PRELOAD=str(library)))
     assert done.returncode == 0, done.stdout + done.stderr
