@@ -1,11 +1,11 @@
-// For readers without a mouse, a large screen or sight: the focus, the speech, and what fits.
+// Checks for readers without a mouse, a large screen or sight: focus, speech, and room.
 
 const tag = (node) => node.id || node.tagName.toLowerCase();
 
 const stops = () => all('*').filter((one) => one.tabIndex >= 0 && one.checkVisibility()
   && !one.disabled).map(tag);
 
-// The element that has the focus, and whether it is seen to have it.
+// The element that has the focus, and whether it shows an outline.
 function ring() {
   const one = document.activeElement;
   const { outlineStyle, outlineWidth } = getComputedStyle(
@@ -13,7 +13,7 @@ function ring() {
   return [tag(one), outlineStyle !== 'none' && parseFloat(outlineWidth) >= 2];
 }
 
-// The lane that is chosen, the move that is shown, and what has the focus.
+// The chosen lane, the shown move, and the element with the focus.
 function lane() {
   const chosen = byId(byId('lanes').getAttribute('aria-activedescendant'));
   return [chosen?.getAttribute('aria-label'), chosen?.getAttribute('aria-selected'),
@@ -31,7 +31,7 @@ function nameless() {
   return [...parts.filter((one) => !isNamed(one)), ...pictures].map((one) => one.outerHTML);
 }
 
-// Where a part is once the page is scrolled down to it.
+// Scrolls down to a part, and tells where it is.
 function reached(id) {
   byId(id).scrollIntoView();
   const { left, right, top, height } = rect(byId(id));
@@ -53,7 +53,7 @@ function onPhone() {
   return { slider: rect(byId('slider')).width, keys, signs, tools };
 }
 
-// Whether all choices and what they do are on the screen.
+// Whether all choices and the part with the move are on the screen.
 function choicesFit() {
   const choices = all('#choices button');
   return choices.length > 0 && choices.every((one) => rect(one).bottom <= innerHeight)
@@ -72,11 +72,10 @@ function colours() {
   };
 }
 
-// Whether the browser says that the system asks for this.
+// Whether the browser reports this media feature.
 const isAsked = (name, wanted) => matchMedia(`(${name}: ${wanted})`).matches;
 
-// The look where the system has colours of its own: the bars of lines of code, buttons, and
-// the ground of pictures.
+// What shows under forced colours: the bars of lines of code, buttons, and the ground of pictures.
 function inForcedColours() {
   const { backgroundColor } = styleOf('#code');
   const bars = all('.code-line').map((one) => [one.classList.contains('here'),
@@ -90,7 +89,7 @@ function inForcedColours() {
   };
 }
 
-// How long a shape is in motion when it is drawn; null if it is not.
+// How long a shape is in motion when the page draws it; null if it is still.
 function motionOf(selector) {
   const { animationName, animationDuration, animationIterationCount } = styleOf(selector);
   return animationName === 'none' || animationIterationCount !== '1' ? null : animationDuration;

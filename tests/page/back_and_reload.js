@@ -1,9 +1,14 @@
-// The view, and where it is kept: in the address, in the history and in the browser.
+// The view, and its copies in the address, in the history and in the browser.
 
-// Whether this text is shown, and at this place if one is given.
+// Whether the page shows this text, at this place unless it is null.
 function shows(letters, place) {
   const { text: bytes, place: now } = port.state();
   return lettersOf(bytes) === letters && (place === null || place === now);
+}
+
+function goAndLeave(move, name) {
+  port.go(move);
+  port.open({ lesson: name });
 }
 
 const notice = () => text('#notice');

@@ -1,7 +1,7 @@
-"""Debian's Chromium and Firefox, headless, spoken to by WebDriver BiDi over a web socket.
+"""Controls headless Chromium and Firefox of Debian by WebDriver BiDi over a web socket.
 
-A browser sees some of the machine's fonts (fonts.conf), and neither a user's settings nor the place
-and the language of the machine.
+A browser sees only the fonts of fonts.conf. It sees no user's settings, and not the time zone and
+the language of the machine.
 """
 import contextlib
 import json
@@ -16,7 +16,7 @@ import websocket
 FONTS = Path(__file__).with_name("fonts.conf")
 PATIENCE = 120  # seconds
 STARTS = 3
-# How each of the two says where it listens.
+# The line in which chromedriver and Firefox name the port on which they listen.
 LISTENS = re.compile(rb"(?:listening on ws://[\w.]+:|successfully on port )(\d+)")
 EVENTS = ["network.beforeRequestSent", "log.entryAdded"]
 ARGUMENTS = [
@@ -24,12 +24,14 @@ ARGUMENTS = [
     "--disable-background-networking", "--disable-sync", "--disable-component-update",
     "--hide-scrollbars", "--window-size=1440,900",
 ]
-# Few pictures a second are drawn, since nobody looks at them. A test asks for the layout, which is
-# made anew for each answer. At 60 a second a fifth of the work would go into pictures.
+# Nobody looks at the pictures, so Firefox draws few a second: 60 a second would take a fifth of the
+# work. A test asks for the layout, which is computed anew for each answer.
 UNSEEN = {"layout.frame_rate": 10}
-# A page gets touch events, also where there is no screen to touch.
+# A page gets touch events, even on a machine without a touch screen.
 TOUCHED = {"dom.w3c_touch_events.enabled": 1}
-# Preferences of Firefox for what a system asks for.
+# The panel that shows a saved file would catch the keys of later tests.
+SAVED = {"browser.download.alwaysOpenPanel": False}
+# The preferences of Firefox that emulate media features of the system.
 IN_PREFERENCES = {
     ("forced-colors", "active"): ("browser.display.document_color_use", 2),
     ("prefers-reduced-motion", "reduce"): ("ui.prefersReducedMotion", 1),
@@ -38,16 +40,22 @@ IN_PREFERENCES = {
 
 
 class Browser:
-    """A browser, and its messages besides answers. `media` are features that each tab is told that
-    the system asks for."""
+    """A browser with one tab. `told` has its messages that are no answers.
+
+    `media` are the media features that the tab emulates. All tests share the tab: a tab for each
+    test would take a third of all work, as a process in Firefox, and as a window in Chromium.
+    """
 
     def __init__(self, port, home, media, capabilities):
-        self.home, self.media, self.number, self.told = Path(home), media, 0, []
-        self.kept, self.keeps = None, bool(capabilities)
+        self.home, self.number, self.told = Path(home), 0, []
         self.socket = websocket.create_connection(
             f"ws://127.0.0.1:{port}/session", timeout=PATIENCE, suppress_origin=True)
         self.ask("session.new", capabilities=capabilities)
         self.ask("session.subscribe", events=EVENTS)
+        self.tab = self.ask("browsingContext.create", type="tab")["context"]
+        self.size, self.pages = None, 0
+        if media:
+            self.emulate(media)
 
     def ask(self, command, /, **params):
         self.number += 1
@@ -59,37 +67,24 @@ class Browser:
                 return answer["result"]
             self.told.append(answer)
 
-    def tab(self):
-        """A tab, in Firefox a new one. In Chromium that would take a window, and so most of the
-        work of a test."""
-        if self.kept is None or not self.keeps:
-            self.kept = self.ask("browsingContext.create", type="tab")["context"]
-            if self.media:
-                self.emulate(self.kept)
-        return self.kept
-
-    def end_tab(self):
-        if not self.keeps:
-            self.ask("browsingContext.close", context=self.kept)
-
-    def emulate(self, tab):
-        features = [{"name": name, "value": value} for name, value in self.media.items()]
-        session = self.ask("goog:cdp.getSession", context=tab)["session"]
+    def emulate(self, media):
+        features = [{"name": name, "value": value} for name, value in media.items()]
+        session = self.ask("goog:cdp.getSession", context=self.tab)["session"]
         self.ask("goog:cdp.sendCommand", session=session, method="Emulation.setEmulatedMedia",
                  params={"features": features})
 
 
 def surroundings(home):
-    """The environment of a browser, whose files are in this folder."""
+    """The environment of a browser that keeps its files in the folder `home`."""
     return {"PATH": "/usr/bin:/bin", "HOME": home, "TMPDIR": home, "LC_ALL": "C.UTF-8",
             "TZ": "UTC", "FONTCONFIG_FILE": str(FONTS)}
 
 
 @contextlib.contextmanager
 def listening(words, home):
-    """The port on which a process listens, as it says, until the end. Its output is read on.
+    """Starts a process, yields the port on which it listens, and ends the process.
 
-    chromedriver ends if the port that it was given for IPv4 is taken for IPv6: it is started again.
+    chromedriver ends if its port for IPv4 is in use for IPv6, so there are several starts.
     """
     for _ in range(STARTS):
         process = subprocess.Popen(words, stdout=subprocess.PIPE, stderr=subprocess.STDOUT,
@@ -115,7 +110,7 @@ def folder():
 
 @contextlib.contextmanager
 def chromium(media):
-    """A Chromium with a profile of its own, by way of its driver."""
+    """A Chromium with a profile of its own, through chromedriver."""
     with folder() as home, listening(["chromedriver", "--port=0"], home) as port:
         options = {"binary": "/usr/bin/chromium", "args": [*ARGUMENTS, f"--user-data-dir={home}"]}
         wanted = {"browserName": "chrome", "webSocketUrl": True, "goog:chromeOptions": options}
@@ -128,10 +123,10 @@ def chromium(media):
 
 @contextlib.contextmanager
 def firefox(media):
-    """A Firefox with a profile of its own, in which preferences say what the system asks for."""
+    """A Firefox with a profile of its own, whose preferences emulate the media features."""
     with folder() as home:
         asked = dict(IN_PREFERENCES[one] for one in media.items())
-        preferences = {**UNSEEN, **TOUCHED, **asked}
+        preferences = {**UNSEEN, **TOUCHED, **SAVED, **asked}
         lines = [f'user_pref("{name}", {json.dumps(value)});\n'
                  for name, value in preferences.items()]
         Path(home, "user.js").write_text("".join(lines))

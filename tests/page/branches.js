@@ -11,6 +11,7 @@ function compared() {
   const mark = (id) => document.querySelector(`#${id} [data-different]`)?.dataset.different;
   return {
     shown: !byId('other').hidden, there: mark('other'), here: mark('time'),
-    lines: texts('#other .compared code'), title: text('#other h2'),
+    lines: texts('#other .compared code'), differs: count('#other .differs'),
+    title: text('#other h2'),
   };
 }

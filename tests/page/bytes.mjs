@@ -1,10 +1,10 @@
-// The bytes that the page's module writes into the memory that it is lent:
+// Checks the bytes that the page's module writes into the memory that a caller lends it:
 //
 //     node tests/page/bytes.mjs MODULE.wasm
 //
-// A row is a call of `play`, and what it answers and writes. The values were made by hand, from the
-// published algorithms and page/MODULE.md, which says what is at which byte. At the end: a kind of
-// transition whose text has no room, and a number that is no lock's.
+// A row is a call of `play`, its answer, and bytes that it writes. The values were made by hand,
+// from the published algorithms and page/MODULE.md, which has the layout of the bytes. The last
+// check has a text of a kind of transition without room, and a number that no lock has.
 
 import assert from 'node:assert/strict';
 import { RECORD_BYTES, STATE_BYTES } from '../../page/src/machine/machine.js';
@@ -44,7 +44,7 @@ const DOWNGRADE = `lock rw-fifo threads 3 bits 2
 2 section
 `;
 
-// The byte of a move's record, the moves counted from 1.
+// The index of a byte in a move's record. Moves count from 1.
 const at = (move, byte) => (move - 1) * RECORD_BYTES + byte;
 
 const ROWS = [

@@ -1,9 +1,9 @@
-// Hall mode in a class: the quiz in it, a black screen, and how much of code and memory is seen.
+// Hall mode in a class: the quiz, a black screen, and how much of code and memory is visible.
 
 const place = () => port.state().place;
 const isHall = () => document.body.classList.contains('hall');
 
-// The question of the quiz, if all of it is on the screen.
+// The question of the quiz, or false if part of it is off the screen.
 function asked() {
   const form = byId('quiz-form');
   const screen = { left: 0, top: 0, right: innerWidth, bottom: innerHeight };
@@ -19,13 +19,13 @@ function answer(given) {
   form.requestSubmit();
 }
 
-// Whether nothing is seen but black.
+// Whether the whole screen is black.
 function isBlack() {
   const { backgroundColor, position } = getComputedStyle(document.body, '::after');
   return position === 'fixed' && backgroundColor === 'rgb(0, 0, 0)';
 }
 
-// How many lines the code has, and how many of them are seen.
+// How many lines the code has, and how many of them are visible.
 function code() {
   const box = rect(byId('code-lines'));
   const lines = all('#code-lines .code-line').map(rect);
@@ -33,7 +33,7 @@ function code() {
     && bottom <= box.bottom + 1).length];
 }
 
-// Texts of the memory picture that are not seen whole.
+// The texts of the memory picture that are cut or partly out of view.
 function cut() {
   const box = rect(byId('memory-picture'));
   return all('#memory-picture text').filter((one) => !inside(rect(one), box)

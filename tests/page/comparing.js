@@ -1,4 +1,4 @@
-// Two runs compared: where their moves are, and what is seen of them.
+// Two compared runs: where their moves are, and what is visible of them.
 
 const PICTURES = ['#other svg', '#time svg', '#there-picture svg', '#memory-picture svg'];
 const middleOf = (node) => Math.round((rect(node).left + rect(node).right) / 2);
@@ -17,7 +17,7 @@ function compared() {
   };
 }
 
-// How far below the ink of each sign of a difference its dashed line begins, in the picture.
+// The distance from the ink of each sign of a difference down to its dashed line, in the picture.
 const belowSigns = () => all('.different-sign').map((sign) => {
   const pen = document.createElement('canvas').getContext('2d');
   pen.font = getComputedStyle(sign).font;

@@ -1,4 +1,4 @@
-"""The page in both browsers: a test that asks for `page` is run in each of them."""
+"""Runs each test that takes the fixture `page` in both browsers."""
 import contextlib
 from pathlib import Path
 
@@ -9,17 +9,21 @@ from bidi import BROWSERS
 from tab import Tab
 
 HERE = Path(__file__).parent
+# The fixtures that are built. All other tests of this folder need only the committed page.
+BUILT = {"lockreplay", "locktrace", "module"}
 
 
 def pytest_collection_modifyitems(items):
-    """All tests here take what `make test-page` builds."""
+    """Marks all tests of this folder, which need what `make test-page` builds."""
     for item in items:
         if HERE in item.path.parents:
             item.add_marker("browser")
+            if BUILT & set(item.fixturenames):
+                item.add_marker("built")
 
 
 class Open(contextlib.ExitStack):
-    """The browsers that are open, by what each is and what its system asks for."""
+    """The open browsers, by their kind and the media features that they emulate."""
 
     def __init__(self):
         super().__init__()
@@ -33,7 +37,7 @@ class Open(contextlib.ExitStack):
 
     @contextlib.contextmanager
     def tab(self, name, *key):
-        """A tab. A browser that no longer answers is not asked again."""
+        """A tab for one test. After a failure the next test gets a new browser."""
         try:
             tab = Tab(self.browser(*key), name)
             yield tab
@@ -45,21 +49,21 @@ class Open(contextlib.ExitStack):
 
 @pytest.fixture(scope="session")
 def browsers():
-    """The browsers of this process, which stay open."""
+    """The browsers of this worker, which stay open from test to test."""
     with Open() as those:
         yield those
 
 
 @pytest.fixture
 def media():
-    """The features that a system asks for, of which a test can give others by a parameter."""
+    """The media features that the browser emulates: none, unless a test parametrizes `media`."""
     return {}
 
 
 @pytest.fixture(params=list(BROWSERS))
 def page(request, browsers, media):
-    """The page in one of the browsers. In the end it must have made no request, and no error may
-    have gone unseen."""
+    """A tab in each of the browsers. At the end of a test the page must have made no request, and
+    logged no error."""
     name = request.module.__name__.removeprefix("test_")
     with browsers.tab(name, request.param, tuple(media.items())) as tab:
         yield tab

@@ -1,10 +1,10 @@
-// Pictures to take away, with what was chosen.
+// Exported pictures, with the chosen parts.
 
 function tick(parts) {
   for (const box of all('#take [type=checkbox]')) box.checked = parts.includes(box.name);
 }
 
-// The bytes of the file that is saved by an act.
+// The bytes of the file that an act saves.
 async function caught(act) {
   const saved = new Promise((done) => {
     URL.createObjectURL = (blob) => { blob.arrayBuffer().then(done); return 'data:,'; };
@@ -20,24 +20,33 @@ async function taken(what, parts) {
   return new TextDecoder().decode(await caught(() => click(`[data-take=${what}]`)));
 }
 
-// The letters of each text of a picture that stands alone, its bands under the move, and the texts
-// that are not inside it.
-async function alone(parts) {
+// Where the corners of a picture are drawn. The style of the page may make its frame larger.
+function areaOf(svg) {
+  const { a, d, e, f } = svg.getScreenCTM();
+  const { width, height } = svg.viewBox.baseVal;
+  return { left: e, top: f, right: e + a * width, bottom: f + d * height };
+}
+
+// Draws a picture in a frame of its own: the font families of its texts, the bands under the move,
+// and the texts that are inside the picture and those that are not.
+async function alone(parts, what = 'svg') {
   const frame = document.createElement('iframe');
   document.body.append(frame);
-  frame.contentDocument.body.innerHTML = await taken('svg', parts);
+  frame.contentDocument.body.innerHTML = await taken(what, parts);
   const inFrame = (selector) => all(selector, frame.contentDocument);
   const families = inFrame('text')
     .map((one) => frame.contentWindow.getComputedStyle(one).fontFamily.split(',')[0]);
-  const bands = inFrame('.here-column').map((one) => [rect(one).top, rect(one).bottom]);
-  const whole = rect(inFrame('svg')[0]);
-  const outside = inFrame('text').filter((one) => !inside(rect(one), whole))
-    .map((one) => one.textContent);
+  const endsOf = (selector) => inFrame(selector).map((one) => [rect(one).top, rect(one).bottom]);
+  const [bands, lanes] = ['.here-column', '.lane-line'].map(endsOf);
+  const whole = areaOf(inFrame('svg')[0]);
+  const words = inFrame('text').filter((one) => one.textContent.trim());
+  const [within, outside] = [true, false].map((is) => words
+    .filter((one) => inside(rect(one), whole) === is).map((one) => one.textContent));
   frame.remove();
-  return { families: [...new Set(families)].sort(), bands, outside };
+  return { families: [...new Set(families)].sort(), bands, lanes, inside: within, outside };
 }
 
-// The colour of the ground of a picture, as the browser draws it.
+// The background colour of a picture, as the browser draws it.
 async function groundOf(parts) {
   const image = new Image();
   image.src = `data:image/svg+xml;charset=utf-8,${encodeURIComponent(await taken('svg', parts))}`;
@@ -47,7 +56,7 @@ async function groundOf(parts) {
   return `rgb(${pen.getImageData(3, 3, 1, 1).data.join()})`;
 }
 
-// The parts of an animated picture, and its width as the browser finds it.
+// The chunks of an animated picture, and its width in the browser.
 async function animation(from, to) {
   click('#show-take');
   byId('take-from').value = from;
@@ -59,7 +68,7 @@ async function animation(from, to) {
   return { ...chunksOf(bytes), width: image.naturalWidth };
 }
 
-// The kind of each chunk, and how long each picture is shown.
+// The kind of each chunk, and for how many seconds each frame is shown.
 function chunksOf(bytes) {
   const view = new DataView(bytes.buffer);
   const [kinds, seconds] = [[], []];
@@ -73,7 +82,7 @@ function chunksOf(bytes) {
 
 const asks = () => byId('take-answer').checkVisibility();
 
-// Says which moves are wanted, and gives what is said to that.
+// Fills in the wanted moves, and returns the answer of the dialog.
 function askMoves(from, to) {
   for (const [id, move] of [['take-from', from], ['take-to', to]]) {
     byId(id).value = move;
@@ -83,7 +92,7 @@ function askMoves(from, to) {
   return box.checkVisibility() ? plain(box.textContent) : '';
 }
 
-// Saves these moves, and gives what is said then.
+// Saves these moves, and returns the notice.
 async function noticed(what, from, to) {
   byId('take').close();
   byId('notice').textContent = '';

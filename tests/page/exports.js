@@ -1,6 +1,6 @@
-// Exports, as they are handed to the browser or to the clipboard.
+// Exports, as the page passes them to the browser or to the clipboard.
 
-// Takes it, and gives the name of the file with its bytes as letters.
+// Saves an export, and returns the name of the file and its bytes as letters.
 async function take(what) {
   const taken = {};
   const caught = new Promise((done) => {
@@ -22,7 +22,7 @@ function copied(what) {
 
 const tips = () => all('footer button, footer select').map((one) => one.title);
 
-// A step has an open angle, and playing the full triangle.
+// The buttons of steps have open angles, and the button that plays has a full triangle.
 const fills = () => [styleOf('#back path').fill, styleOf('#forward path').fill,
   styleOf('#run .go').fill !== 'none'];
 const withKeys = () => all('button').filter((one) => one.querySelector('kbd'))

@@ -1,17 +1,21 @@
-// A schedule of one's own that has a mistake.
+// A schedule of the reader's own with a mistake.
 
 const open = (letters) => show(lettersOf(new TextEncoder().encode(letters)));
 
-// The text that is offered in place of a line.
+// The text that the page offers in place of a line.
 const offered = () => document.querySelector('#verdict [data-mend]')?.dataset.mend ?? null;
 
-// Text that was taken for markup: elements that the page does not have, and a script that ran.
+// Signs that the page took text for markup: elements that it does not have, and a script that ran.
 const markup = () => [count('img, h1 b, main b b, i, main h1, #paper b, main script, main style'),
   window.broken ?? null, byId('title').textContent];
 
-// From where to where on the screen the band of a wrong line goes, and its number.
+// The top and the bottom of the band of a wrong line, and those of its number.
 const bandAndNumber = () => ['#band .fault', '#gutter .fault']
   .map((one) => rect(document.querySelector(one))).map(({ top, bottom }) => [top, bottom]);
+
+// The parts that say what is wrong.
+const places = () => all('.verdict.bad').filter((one) => one.checkVisibility())
+  .map((one) => one.closest('[id]').id);
 
 const drawPaper = () => dispatchEvent(new Event('beforeprint'));
 const allText = () => ['main', '#verdict']

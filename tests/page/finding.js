@@ -1,6 +1,6 @@
-// The dialog in which a moment is looked for, and what can happen next.
+// The dialog that finds a moment, and the list of what can happen next.
 
-// Fills in fields as a reader does, and gives the lines of the sketch.
+// Fills in fields as a reader does, and returns the lines of the sketch.
 function fill(fields) {
   const { elements } = byId('find-form');
   for (const [name, text] of fields) {
@@ -12,7 +12,7 @@ function fill(fields) {
 
 const kinds = () => [...byId('find-form').elements.kind.options].slice(1).map((one) => one.label);
 
-// Each kind that can be reached, and in how many moves.
+// Each kind that can come next, and after how many moves.
 const next = () => all('#next-kinds-list li').map((row) => [
   row.textContent.replace(row.firstChild.textContent, '').trim(), row.firstChild.textContent]);
 const nextOf = (least) => next().length >= least && next();

@@ -1,4 +1,4 @@
-// Hall mode: how large letters are, and what is in view.
+// Hall mode: the sizes of letters, and the parts in view.
 
 const PARTS = ['time', 'memory', 'code', 'now'];
 
@@ -11,7 +11,7 @@ function scaleOf(node) {
 const isUnseen = (node) => node.closest('script, style, title, .spoken, option, #paper')
   || !node.checkVisibility() || !rect(node).width;
 
-// The least sizes of letters that are seen, as shares of the screen's height, and what has them.
+// The three smallest visible texts: size as a share of the screen's height, text and part.
 function letters() {
   const seen = [];
   const walker = document.createTreeWalker(document.body, NodeFilter.SHOW_TEXT);
@@ -30,7 +30,7 @@ const parts = () => {
     && inside(rect(part), page)).map((part) => part.id);
 };
 
-// Whether the current line is in view: of the code, or in the bar that has it alone.
+// Whether the current line is in view, in the code or, without the code, in the bar.
 function line() {
   const page = { left: 0, top: 0, right: innerWidth, bottom: innerHeight };
   const lines = all('.code-line.here').filter((one) => one.checkVisibility());
@@ -57,6 +57,9 @@ function choosePart(name) {
   click(`#view [name=${name}]`);
   closeDialog('view');
 }
+
+const partsTicked = () => all('#view :checked').map(({ name }) => name)
+  .filter((name) => PARTS.includes(name));
 
 function story() {
   return {

@@ -3,20 +3,23 @@
 const tools = () => Object.fromEntries(all('.tools button:has(kbd)')
   .map((one) => [text(`#${one.id} kbd`), one.title]));
 
-// Before the page's script: the clocks that go are noted, by how long each waits.
-function keepClocks() {
-  const { setInterval, clearInterval } = window;
-  const going = new Map();
-  window.going = going;
-  window.setInterval = (act, wait) => {
-    const clock = setInterval(act, wait);
-    going.set(clock, wait);
-    return clock;
-  };
-  window.clearInterval = (clock) => {
-    going.delete(clock);
-    clearInterval(clock);
-  };
+// The meanings of signs that are drawn into the words beside them.
+const wideSigns = () => all('#sign-list svg')
+  .filter((one) => one.getBBox().x + one.getBBox().width > one.clientWidth)
+  .map((one) => one.nextSibling.textContent);
+
+const columnWidth = () => rect(document.querySelector('#numbers .here-column')).width;
+
+// The ends of a part of the slider, without the ends of its pen.
+function endsOf(selector) {
+  const { x, width } = document.querySelector(`#slider-picture ${selector}`).getBBox();
+  return [x, x + width].map(Math.round);
 }
 
-const clocks = () => [...window.going.values()];
+// The ends of the slider's track, with the middle of its knob between them.
+function track() {
+  const [[left, right], knob] = [endsOf('.track'), endsOf('.knob')];
+  return [left, (knob[0] + knob[1]) / 2, right].map(Math.round);
+}
+
+const passed = () => endsOf('.track.done');

@@ -1,10 +1,10 @@
-// Runs that the page reads off records, against replays by the page's module:
+// Compares runs that the page reads off records with replays by the page's module:
 //
 //     node tests/page/known.mjs MODULE.wasm
 //
-// For each example, the run of its first lines, and of the text without its comments. For the
-// examples of read-write locks, and for random schedules, the same turns on the other lock, against
-// those found move by move, each by a replay; and how many replays both ways took.
+// For each example: the runs of its first lines, and of the text without comments. For the examples
+// of read-write locks and for random schedules: the same turns on the other lock, as the page finds
+// them and move by move with a replay each; and the number of replays of both ways.
 
 import assert from 'node:assert/strict';
 import { withoutLines } from '../../page/src/lib/bytes.js';
@@ -16,12 +16,12 @@ import { onOtherLock } from '../../page/src/model/other_lock.js';
 import { bytesOf, examples, machineOf } from './node.mjs';
 
 const RANDOM = { schedules: 40, moves: 120 };
-// In a random schedule a wrong guess may come once in so many moves.
+// The move-by-move way has to take at least this many times the replays, on random schedules.
 const FEWEST_BETWEEN = 3;
 
 const lettersOf = (bytes) => new TextDecoder('latin1').decode(bytes);
 
-// Counts what the machine plays.
+// Makes a machine count its replays.
 function counted(machine) {
   const play = machine.play.bind(machine);
   machine.plays = 0;
@@ -51,14 +51,14 @@ function shownOf(run) {
     run.replayed(run.count).word(0), stateOf(0), stateOf(run.count)];
 }
 
-// The first lines of a text, whole and with the last one's line feed left out.
+// Every front of a text that ends with a line, with and without the last line feed.
 function beginnings(text) {
   const ends = [...text.keys()].filter((at) => text[at] === 10);
   return ends.flatMap((at) => [text.slice(0, at), text.slice(0, at + 1)]);
 }
 
-// A known text that begins with this one saves its replay, unless it has no move or the refused
-// one.
+// A known text that begins with a shorter text saves the replay of the shorter text, unless that
+// has no move or the refused move.
 function checkBeginnings(machine, text) {
   const whole = new Run(machine, text);
   for (const part of beginnings(text)) {
@@ -82,7 +82,7 @@ function checkWithout(machine, text) {
   }
 }
 
-// The same turns on the other lock, if the machine is asked before each.
+// The same turns on the other lock, with a replay before each move.
 function moveByMove(machine, run) {
   const { records } = run;
   const calls = Array.from({ length: run.threads }, () => []);
@@ -102,7 +102,7 @@ function moveByMove(machine, run) {
   return { text, at };
 }
 
-// How many replays it takes both ways. With a run that begins in the same way there is one at most.
+// Counts the replays of both ways. The page needs none if it knows the run on the other lock.
 function checkTurns(machine, text) {
   const run = new Run(machine, text);
   const slow = playsOf(machine, () => moveByMove(machine, run));

@@ -1,4 +1,4 @@
-// A lesson at each of its places: what is said, and what of a picture's texts is cut.
+// A lesson at each of its places: its texts, and the texts of its picture that are cut.
 
 function atEachPlace(name, take) {
   lesson(name);
@@ -22,7 +22,7 @@ function cutNow() {
 
 const cut = (name) => atEachPlace(name, cutNow);
 
-// The meaning of a stretch of a lane, by its kind, as the legend has it.
+// A map from the kind of a stretch of a lane to its meaning in the legend.
 const signs = () => Object.fromEntries(all('#legend > span').filter((one) => (
   one.querySelector('.span'))).map((one) => [one.querySelector('.span').classList[1],
   plain(one.textContent)]));

@@ -1,4 +1,4 @@
-// A lecture after a plan: the step that is given, and the window of the presenter.
+// A lecture by a plan: the current step, and the window of the lecturer.
 
 const PARTS = ['time', 'memory', 'code', 'now'];
 const isOpen = () => byId('plans').open;
@@ -21,8 +21,8 @@ function step() {
   };
 }
 
-// The least letters of the memory of two runs, and how far their lanes are from each other, as
-// shares of the screen's height.
+// The smallest letters in the memory of two runs, and the distance between two lanes, as shares of
+// the screen's height.
 function compared() {
   const scale = (one) => rect(one).width / one.viewBox.baseVal.width;
   const letters = all('#there-picture text, #memory-picture text').map((one) => (
@@ -31,11 +31,11 @@ function compared() {
   return [Math.min(...letters), below.top - above.top].map((one) => one / innerHeight);
 }
 
-// The parts of the picture of memory that are seen whole.
+// The texts of the memory picture that are wholly in view.
 const seenOfMemory = () => all('#memory-picture text')
   .filter((one) => inside(rect(one), rect(byId('memory')))).map((one) => plain(one.textContent));
 
-// The clock of the browser goes on by minutes.
+// Moves the clock of the browser on by minutes.
 function wait(minutes) {
   const { now } = Date;
   Date.now = () => now() + minutes * 60000;
@@ -43,7 +43,7 @@ function wait(minutes) {
 
 const clockBegins = (sign) => text('#lecture-clock').startsWith(sign);
 
-// Windows that the page opens are known by name.
+// Keeps the window that the page opens as window.opened.
 function keepWindows() {
   const { open } = window;
   window.open = (...asked) => {
@@ -53,6 +53,8 @@ function keepWindows() {
 }
 
 const presented = () => window.opened && plain(window.opened.document.body.textContent);
+const clockThereBegins = (sign) => (
+  window.opened.document.querySelector('.clock b').textContent.startsWith(sign));
 const pressThere = (name, held) => {
   window.opened.dispatchEvent(new KeyboardEvent('keydown', { key: name, [held]: true }));
 };

@@ -28,7 +28,7 @@ const wrote = (moves) => moves.map((move) => {
   return document.querySelector('dd.wrote').textContent;
 });
 
-// The sentence on each of these moves, with the answer to its question.
+// The sentence on each of these moves, after its answer is shown.
 const said = (moves) => moves.map((move) => {
   go(move);
   key('a');
@@ -49,7 +49,7 @@ const pointedAt = () => all('#memory-picture .link:not(.missing)').map((path) =>
   return all('.record .frame').find((one) => near(rect(one)))?.closest('.record').dataset.record;
 });
 
-// The moves between which the arrows in the lanes lead.
+// For each arrow in the lanes, the moves from which and to which it leads.
 function waitsEnded() {
   const middles = all('#lanes .move').map((one) => {
     const { left, right } = rect(one.querySelector('.target'));

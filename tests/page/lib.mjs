@@ -1,5 +1,5 @@
-// The page's modules that know no lock, in Node. Each value was made by hand, from the head of the
-// module.
+// Tests the page's modules that know no lock, in Node. Each value was made by hand, from the
+// description at the head of the module.
 //
 //     node tests/page/lib.mjs
 
@@ -21,14 +21,14 @@ import { nearestWord } from '../../page/src/lib/nearest_word.js';
 const letters = (bytes) => new TextDecoder().decode(bytes);
 const bytes = (text) => new TextEncoder().encode(text);
 
-// Ten threads of which some are kept, as they are shown: a stretch that is folded in brackets.
+// Folds ten threads, of which some are kept, and writes each folded stretch in brackets.
 function shown(kept, most) {
   const list = Array.from({ length: 10 }, (_, thread) => thread);
   return folding(list, (one) => kept.includes(one), most)
     .map(({ one, folded }) => (folded ? `[${folded.join('')}]` : one)).join(' ');
 }
 
-// Both ends come before neighbours, and what is kept is always there.
+// Kept threads are always shown. The two ends come next, then neighbours.
 assert.equal(shown([5], 10), '0 1 2 3 4 5 6 7 8 9');
 assert.equal(shown([5], 5), '0 [1234] 5 [678] 9');
 assert.equal(shown([5], 6), '0 [123] 4 5 [678] 9');
@@ -42,7 +42,7 @@ assert.equal(html`<b title="${'&<>"\''}">${'<i>'}</b>`.text,
 assert.equal(html`${html`<i>${1}</i>`}${[html`<b>`, '<']}${null}${undefined}${false}${0}`.text,
   '<i>1</i><b>&lt;0');
 
-// At most one change in three letters; upper case, and `_` for `-`, are none.
+// A near word has at most one change in three letters. Upper case, and `_` for `-`, do not count.
 const WORDS = ['acquire', 'release', 'read', 'write', 'swap', 'rw-fifo'];
 const NEAREST = {
   aquire: 'acquire', relaese: 'release', raed: null, reed: 'read', WRITE: 'write', wrt: null,
@@ -52,14 +52,14 @@ for (const [found, word] of Object.entries(NEAREST)) {
   assert.equal(nearestWord(found, WORDS), word, found);
 }
 
-// A place in numbers that ascend, and the last number up to one; 0 if there is none.
+// The place of a number in an ascending list, and the last number up to it, or 0 without one.
 assert.deepEqual([1, 2, 3, 6, 7].map((number) => placeAfter([2, 3, 6], number)), [0, 1, 2, 3, 3]);
 assert.deepEqual([1, 2, 5, 6].map((number) => lastUpTo([2, 3, 6], number)), [0, 2, 3, 6]);
 assert.equal(lastUpTo(undefined, 9), 0);
 
-// Raw deflate, whose one block has two letters as they are. A page keeps it, though another packing
-// is shorter, unless it is of other bytes or more comes after it.
-const PACKED = [1, 2, 0, 0xfd, 0xff, 0x6f, 0x6b];
+// Zlib's head, one stored block of two letters, and their checksum. A page keeps its packed module,
+// though another packing is shorter, unless it unpacks to other bytes or has more bytes after it.
+const PACKED = [0x78, 1, 1, 2, 0, 0xfd, 0xff, 0x6f, 0x6b, 0x01, 0x4b, 0x00, 0xdb];
 assert.equal(letters(await unpacked(Uint8Array.from(PACKED))), 'ok');
 await assert.rejects(unpacked(Uint8Array.from(PACKED.slice(1))));
 const folder = mkdtempSync(join(tmpdir(), 'page-'));
@@ -86,7 +86,7 @@ assert.deepEqual([1, 3, 9].map((line) => letters(beforeLine(TEXT, line))),
 assert.equal(letters(withoutLines(TEXT, [1, 4])), '\nthree\n');
 assert.equal(letters(withoutLines(TEXT, [2])), 'one\nthree\nfour');
 
-// Three pictures as one: a chunk's type, and of the delays how long each frame is shown.
+// Three pictures become one animation, whose chunks have the delay of each frame.
 function chunk(type, data) {
   const view = new DataView(new ArrayBuffer(12 + data.length));
   view.setUint32(0, data.length);
@@ -113,15 +113,15 @@ const moving = chunksOf(animated([1, 2, 3].map(picture), 1200, 3000));
 assert.deepEqual(moving.map(({ type }) => type),
   ['IHDR', 'acTL', 'fcTL', 'IDAT', 'fcTL', 'fdAT', 'fcTL', 'fdAT', 'IEND']);
 assert.deepEqual(moving[1].data, [0, 0, 0, 3, 0, 0, 0, 0]);
-// The number of the chunk, width, height, place, milliseconds of 1000, and what comes before.
+// A frame: number of the chunk, width, height, offsets, delay in ms over 1000, disposal, blending.
 const frame = (number, high, low) => [0, 0, 0, number, 0, 0, 0, 9, 0, 0, 0, 5, ...Array(8).fill(0),
   high, low, 3, 232, 0, 0];
 assert.deepEqual([2, 4, 6].map((at) => moving[at].data),
   [frame(0, 4, 176), frame(1, 4, 176), frame(3, 11, 184)]);
 assert.deepEqual([3, 5, 7].map((at) => moving[at].data), [[1], [0, 0, 0, 2, 2], [0, 0, 0, 4, 3]]);
 
-// A text that is no UTF-8 is shown byte by byte, however long it is, and goes back to its bytes. A
-// letter that is no byte makes it UTF-8.
+// A text that is no UTF-8 becomes one letter for each byte, and becomes the same bytes again. A
+// letter beyond a byte makes it UTF-8.
 const odd = Uint8Array.from([108, 255, 10]);
 assert.deepEqual(lettersOf(odd), { letters: 'l\xff\n', plain: true });
 assert.deepEqual(bytesOf('l\xff\n', true), odd);
@@ -131,14 +131,14 @@ assert.deepEqual(bytesOf('l\u0416', true), bytes('l\u0416'));
 const long = Uint8Array.from({ length: 20000 }, (_, at) => at % 256);
 assert.deepEqual(bytesOf(lettersOf(long).letters, true), long);
 
-// A link has letters that need no escape, and is read in either alphabet.
+// A link uses letters that need no escape, and the page reads both alphabets of base64.
 assert.deepEqual([toBase64(Uint8Array.from([251, 255])), toLink(Uint8Array.from([251, 255]))],
   ['+/8=', '-_8']);
 assert.deepEqual([fromLink('-_8'), fromLink('+/8=')],
   [Uint8Array.from([251, 255]), Uint8Array.from([251, 255])]);
 assert.deepEqual(fromLink(toLink(long)), long);
 
-// A text begins with another one of whole lines.
+// Whether a text begins with another text that has whole lines.
 const LINES = bytes('ab\ncd\n');
 assert.deepEqual(['', 'ab', 'ab\n', 'ab\nc', 'ab\ncd', 'ab\ncd\n', 'b', 'ab\ncd\ne']
   .map((text) => beginsWith(LINES, bytes(text))),

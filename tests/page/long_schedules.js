@@ -1,5 +1,5 @@
-// Schedules as long as they may be: how many milliseconds it takes to load them, to step and to
-// edit, until the page is laid out.
+// The longest schedules: how many milliseconds a load, a step or an edit takes until the layout of
+// the page is done.
 
 const BEGUN = 'lock ticket threads 2\n0 acquire\n0 add\n1 acquire\n1 add\n';
 const layOut = () => document.body.offsetHeight;
@@ -20,7 +20,7 @@ const mean = (act, times) => timed(() => {
 
 const least = (rounds, act) => Math.min(...Array.from({ length: rounds }, act));
 
-// Loads a text from its bytes on, after a lesson, since a text that is shown is not played again.
+// Loads a text from its bytes, after a lesson, since the page does not replay a text that it shows.
 function loads(letters, rounds) {
   const text = bytesOf(letters);
   return least(rounds, () => {
@@ -30,7 +30,7 @@ function loads(letters, rounds) {
   });
 }
 
-// The mean time of some steps from each of these places; and the time of a jump.
+// The mean time of some steps from each of these places, and the mean time of a jump.
 function steps(places, times, rounds) {
   const stretches = places.map((from) => least(rounds, () => {
     timed(() => go(from));
@@ -40,8 +40,8 @@ function steps(places, times, rounds) {
   return [...stretches, jumps];
 }
 
-// Types a letter at the end of a text of 354,000 bytes. The browser's own work to set the field is
-// not counted.
+// Types a letter at the end of a text of 354,000 bytes. The time leaves out the browser's own work
+// to set the field.
 function edits(rounds) {
   show(`${BEGUN}${'1 read\n'.repeat(50560)}`);
   return least(rounds, (_, round) => {
@@ -51,7 +51,7 @@ function edits(rounds) {
   });
 }
 
-// A letter is typed where the caret is. Gives what has the text played after a pause.
+// Types a letter at the caret, and returns the function that plays the text after a pause.
 function typedAtCaret(letter) {
   const later = window.setTimeout;
   let settle;
@@ -61,8 +61,8 @@ function typedAtCaret(letter) {
   return settle;
 }
 
-// The least time of each key of a line that is typed some times at the end of 10,004 moves, and of
-// the pause after it, in which the text is played.
+// Types a line several times at the end of 10,004 moves: the least time of each key, and of the
+// pause after it, in which the page plays the text.
 function typing(line, times) {
   show(`${BEGUN}${'1 read\n'.repeat(10000)}`);
   inMode('own');
@@ -77,8 +77,8 @@ function typing(line, times) {
   return rounds[0].map((_, at) => Math.min(...rounds.map((one) => one[at])));
 }
 
-// The place after so many choices at the end of a long schedule; how many of them Undo takes back,
-// and the bytes of all that it brings back.
+// Makes choices at the end of a long schedule: the place after them, how many of them Undo takes
+// back, and the bytes of all texts that it brings back.
 function undone(times) {
   show(`${BEGUN}${'1 read\n'.repeat(60000)}`);
   inMode('play');

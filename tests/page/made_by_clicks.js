@@ -1,17 +1,17 @@
-// Schedules made by choices in Play.
+// Schedules that choices in Play make.
 
 const choices = () => all('#choices [data-word]');
 
-// Which choices there are, as lines of a schedule.
+// The offered choices, as lines of a schedule.
 const offered = () => choices().map(({ dataset: { thread, word } }) => `${thread} ${word}`);
 
-// The form of a new lock, opened, with this one chosen.
+// Opens the form of a new lock, and chooses this lock.
 function openNew(lock) {
   document.querySelector('#play details:has(#new)').open = true;
   byId('new-lock').value = lock;
 }
 
-// Chooses so many times among what is offered; how many moves there are then, and the verdict.
+// Makes choices among the offered ones, and returns the place and the numbers of moves and places.
 function chooseMany(times) {
   for (let k = 0; k < times; k += 1) {
     const all = choices();

@@ -1,4 +1,4 @@
-// Many threads: what is drawn of them, what is folded, and what is cut.
+// Many threads: the drawn ones, the folded ones, and the texts that are cut.
 
 function open([letters, mode, move]) {
   show(letters);
@@ -6,7 +6,7 @@ function open([letters, mode, move]) {
   go(move);
 }
 
-// How many threads the texts of some folds count.
+// The number of threads that the texts of some folds count together.
 const folded = (selector) => all(selector)
   .reduce((sum, one) => sum + Number(/\d+/.exec(one.textContent)[0]), 0);
 
@@ -26,9 +26,32 @@ function drawn() {
   };
 }
 
-// The moves whose numbers are above the lanes, and those that a lane has.
+const choiceInView = (thread) => inside(
+  rect(document.querySelector(`#choices [data-thread="${thread}"]`)), rect(byId('choices')));
+
+// How many lanes have room in their part.
+function lanesInView() {
+  const [first, second] = all('#lanes .lane-line').map((one) => rect(one).top);
+  return Math.floor(byId('lanes').clientHeight / (second - first) + 0.05);
+}
+
+const isChosenInView = (thread) => {
+  const chosen = document.querySelector(`#lane-${thread} .chosen`);
+  return chosen !== null && inside(rect(chosen), rect(byId('lanes')));
+};
+
+// The moves with a number above the lanes, and the moves in the lanes.
 const movesInView = () => ['numbers', 'lanes'].map((id) => all(`#${id} [data-move]`)
   .map((one) => Number(one.dataset.move)).sort((one, other) => one - other));
 
 const cut = () => all('#lanes .found, #memory-picture text')
   .map((one) => one.lastChild?.textContent ?? '').filter((one) => one.endsWith('…'));
+
+// How far each line of a thread that is not linked is below the line of its lane, as a share of the
+// distance of two lanes.
+function belowLines() {
+  const top = (one) => rect(one).top;
+  const [first, second] = all('#lanes .lane-line').map(top);
+  return all('#lanes .unlinked').map((one) => (
+    (top(one) - top(one.closest('g').querySelector('.lane-line'))) / (second - first)));
+}

@@ -2,7 +2,7 @@
 
 const isMenu = () => document.body.classList.contains('menu');
 
-// Before the page's script: the browser keeps so many schedules and no more.
+// Before the page's script: lets the browser keep at most `room` schedules.
 function leaveRoom(room) {
   const { setItem } = Storage.prototype;
   Storage.prototype.setItem = function set(key, text) {
@@ -18,14 +18,14 @@ const fitsAcross = () => [document.documentElement, byId('lessons')]
 const instead = () => [byId('text').placeholder, byId('text').wrap];
 const openNew = () => { byId('new').parentElement.open = true; };
 
-// Whether all of a control can be clicked.
+// Whether nothing covers a control, at its top and at its bottom.
 function isFree(selector) {
   const { left, top, bottom, width } = rect(document.querySelector(selector));
   return [top + 3, bottom - 3].every((y) => (
     document.elementFromPoint(left + width / 2, y)?.closest(selector)));
 }
 
-// A line of the code, and the number that is drawn before it.
+// A line of the code, the number before it, and whether all lines up to it count one.
 function numbered(number) {
   const line = all('#code-lines .code-line')[number - 1];
   const counted = all('#code-lines .code-line').slice(0, number)
@@ -34,7 +34,7 @@ function numbered(number) {
     getComputedStyle(line, '::before').content, counted];
 }
 
-// Which of these parts of the move are seen whole.
+// Which of these parts of the move are wholly in view.
 function seenOfMove(parts) {
   const box = rect(byId('now'));
   return parts.filter((part) => {
@@ -47,14 +47,14 @@ const tops = (selectors) => selectors.map((one) => rect(document.querySelector(o
 const scrolled = () => [scrollX, scrollY];
 const disabled = (ids) => ids.map((id) => byId(id).disabled);
 
-// Before the page's script: the screen is touched.
+// Before the page's script: the browser reports a touch screen.
 function withFingers() {
   const { matchMedia } = window;
   window.matchMedia = (asked) => matchMedia(asked.replace('(pointer: coarse)', 'all'));
 }
 
-function swipe(by, fingers = 1) {
-  const node = byId('lanes');
+function swipe(by, fingers = 1, id = 'lanes') {
+  const node = byId(id);
   const touch = (x, finger = 0) => (
     new Touch({ identifier: finger, target: node, clientX: x, clientY: 300 }));
   const touches = Array.from({ length: fingers }, (_, finger) => touch(200 + 60 * finger, finger));

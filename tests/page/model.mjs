@@ -1,7 +1,7 @@
-// Facts that the page reads off a lock's code, names and records, in Node; made by hand, from
-// docs/LOCKS.md and reports: the moves of each lock, what threads are called, where two runs
-// differ, what threads are doing, which write ended which wait, what is said below memory, and that
-// a count wraps around.
+// Tests in Node the facts that the page reads off a lock's code, names and records: the moves of
+// each lock, the names of threads, the first difference of two runs, the activities of threads, the
+// write that ended each wait, the captions of memory, the wraps of counts, and the answers of the
+// quiz. The values were made by hand, from docs/LOCKS.md and reports.
 //
 //     node tests/page/model.mjs MODULE.wasm
 
@@ -15,6 +15,7 @@ import { learnWords } from '../../page/src/machine/word_names.js';
 import { arrowsBetween, arrowsOf } from '../../page/src/model/arrows.js';
 import { firstDifference } from '../../page/src/model/compare_runs.js';
 import { Names } from '../../page/src/model/names.js';
+import { KINDS, questionsOf } from '../../page/src/model/questions.js';
 import { Run } from '../../page/src/model/run.js';
 import { Session } from '../../page/src/model/session.js';
 import { spansOf, unlinkedSpans } from '../../page/src/model/spans.js';
@@ -26,12 +27,12 @@ import { bytesOf, examples, machineOf, module } from './node.mjs';
 
 // From the write to the move that found what it waited for.
 const ARROWS = {
-  // A poll before one's turn, and the write of the next number.
+  // A failed poll waits for the write of the next number.
   'ticket-hand-over': ['9 10'],
   // The link that came late, and the grant.
   'mcs-late-link': ['13 14', '15 16'],
-  // The last reader leaves, for which the writer waits since it announced itself; then the writer,
-  // for which a reader waits. Of two counts that are compared the one that changed last ends it.
+  // The last reader leaves, for which the announced writer waits; then the writer leaves, for which
+  // a reader waits. If a thread compares two counts, the one that changed last ends its wait.
   'fifo-reader-waits-behind-writer': ['9 11', '14 15'],
 };
 
@@ -61,15 +62,15 @@ for (const { name, text } of examples().filter((one) => ARROWS[one.name])) {
   const run = new Run(machine, text);
   const arrows = arrowsOf(run, awaitedLines(lines[run.kind]), words[LOCK_NAMES[run.kind]]);
   assert.deepEqual(arrows.map(({ from, to }) => `${from} ${to}`), ARROWS[name], name);
-  // In view are those that end there.
+  // An arrow is in view if it ends there.
   const [{ to }] = arrows;
   const ends = arrows.map((arrow) => arrow.to);
   assert.equal(arrowsBetween(arrows, ends, to, to).length, 1);
   assert.equal(arrowsBetween(arrows, ends, 1, to - 1).length, 0);
 }
 
-// The activity of each thread, and from which move to which; an MCS record is linked by the second
-// write after the swap. What goes on at the end goes on beyond the last move.
+// The activities of each thread, with the moves from and to which each lasts. The second write
+// after the swap links an MCS record. An activity that has not ended lasts beyond the last move.
 const SPANS = {
   'mcs-late-link': [['call 1 3', 'holds 3 15'], ['call 4 8', 'queue 8 16', 'holds 16 17']],
   'ticket-hand-over': [['call 4 5', 'queue 5 10', 'holds 10 11'],
@@ -89,7 +90,7 @@ for (const { name, text } of examples().filter((one) => SPANS[one.name])) {
   });
 }
 
-// The first move after which two runs differ: also the one that only the other has; 0 for none.
+// The first move at which two runs differ, which may be a move of only one run; 0 if none differs.
 const runOf = (...moves) => new Run(machine,
   bytesOf(['lock ticket threads 2', ...moves, ''].join('\n')));
 const differs = (one, other) => firstDifference(one, other, (move) => Math.min(move, other.last));
@@ -125,7 +126,7 @@ for (const { name, text } of examples().filter((one) => CAPTIONS[one.name])) {
   }
 }
 
-// The fourth ticket is the last of two bits: after it comes 0. Both counters wrap in that round.
+// The fourth ticket is the last in words of two bits, so both counters wrap to 0 in that round.
 learnKinds(kindsOf(module));
 const ROUND = ['acquire', 'add', 'read', 'release', 'read', 'write'].map((word) => `0 ${word}`);
 const four = new Run(machine, bytesOf(
@@ -134,3 +135,17 @@ const WRAPS = 'After 3 comes 0: the numbers wrap around.';
 const wraps = Array.from({ length: four.count }, (_, at) => at + 1)
   .filter((move) => sentence({ run: four, names: new Names() }, move).endsWith(WRAPS));
 assert.deepEqual(wraps, [20, 24]);
+
+// Of the questions of a kind no answer is right for more than half, and "as before" neither.
+let asked = 0;
+for (const { name, text } of examples()) {
+  const questions = [...questionsOf(new Run(machine, text)).values()];
+  asked += questions.length;
+  for (const kind of KINDS) {
+    const those = questions.filter((one) => one.kind === kind);
+    const most = (is) => assert.ok(those.filter(is).length <= those.length / 2, `${name} ${kind}`);
+    those.forEach(({ truth }) => most((one) => one.truth === truth));
+    most(({ same }) => same);
+  }
+}
+assert.ok(asked > 60, String(asked));

@@ -2,14 +2,14 @@
 //
 //     node tests/page/module.mjs MODULE.wasm [SCHEDULE...]
 //
-// For each example: the whole report, as it was written by hand; the words that a record names,
-// against the states before and after it; the states that the page reads off the records, with
-// allowed calls, against those that the machine writes; who waits, against what is answered to the
-// same moves with the due step after them, and so each thread's allowed calls and due step at the
-// end. The states are compared of the schedules that are named, too. Then where words and names of
-// an MCS lock are, from which to which number a header goes, where a line stops being a header or a
-// move, and what `play` answers to a text that is too long, to a state that is too short, and where
-// there is room for one record of two.
+// For each example the script compares the report with the one written by hand; the words that a
+// record names with the states before and after it; the states that the page reads off the records,
+// with allowed calls, with those that the machine writes; and who waits, and at the end each
+// thread's allowed calls and due step, with the answers to further moves. It also compares the
+// states of the named schedules. Then it checks where words and names of an MCS lock are, the
+// ranges of numbers in a header, where a line stops being a header or a move, and the answers of
+// `play` to a text that is too long, to a state that is too short, and with room for one record of
+// two.
 
 import assert from 'node:assert/strict';
 import { readFileSync } from 'node:fs';
@@ -26,7 +26,7 @@ const MOST_WORDS = 129;
 const A_WRITER = 3;
 const MCS = 1;
 
-// The contents of the lent memory after `play` was handed room for so many bytes.
+// Calls `play` with room for so many bytes, and returns the contents of the lent memory.
 function playRaw(machine, text, recordBytes, stateBytes) {
   const recordsAt = STATE_BYTES + 64;
   machine.text = null;
@@ -40,7 +40,7 @@ function playRaw(machine, text, recordBytes, stateBytes) {
   return { answer: Number(answer), records, state };
 }
 
-// All words but those that the record names stayed, and those are what it says.
+// The words that a record names change as it says, and all other words stay.
 function checkWords(records, move, before, after) {
   const touched = new Map([
     [records.touched(move), [records.found(move), records.left(move)]],
@@ -52,7 +52,7 @@ function checkWords(records, move, before, after) {
   }
 }
 
-// The thread's place in the state says what its record says.
+// The state says the same about the thread of a move as the record of the move.
 function checkThread(records, move, after) {
   const thread = records.thread(move);
   const holds = after.holders.includes(thread);
@@ -65,7 +65,7 @@ function checkThread(records, move, after) {
   assert.equal(records.due(move), after.dueStep(thread));
 }
 
-// A thread that waits has just polled in vain, or is in the queue and would poll in vain now.
+// A thread waits if it has just polled in vain, or is in the queue and would poll in vain now.
 function checkWaits(machine, text, run, move, after) {
   const { records } = run;
   const thread = records.thread(move);
@@ -92,7 +92,7 @@ function checkLinks(run, move, after) {
   });
 }
 
-// The state after a move as it is read off the records, and as the machine has it.
+// The state after a move is the same off the records and by a replay.
 function checkMoment(run, move) {
   const threads = Array.from({ length: run.threads }, (_, thread) => thread);
   const words = Array.from({ length: MOST_WORDS }, (_, index) => index);
@@ -105,7 +105,7 @@ function checkMoment(run, move) {
   assert.deepEqual(read, said, `after move ${move}`);
 }
 
-// Each call and each step, played after the moves so far.
+// Plays each call and each step after the moves so far, to see which the machine accepts.
 function checkNext(machine, text, moves, state) {
   const accepts = (thread, word) => {
     const longer = new Uint8Array([...text, ...bytesOf(`\n${thread} ${word}\n`)]);
@@ -158,7 +158,7 @@ function checkOwned(machine, order) {
   });
 }
 
-// Where no lock has records, and what docs/FORMATS.md says of headers.
+// Only MCS locks have records, and headers have the ranges of docs/FORMATS.md.
 function checkNumbers(machine, bytes) {
   for (const lock of ['ticket', 'rw-simple', 'rw-fifo']) {
     const { state } = machine.play(bytesOf(`lock ${lock} threads 2\n`), 0, false);
@@ -170,7 +170,7 @@ function checkNumbers(machine, bytes) {
   assert.deepEqual(rangesOf(bytes), { threads: [1, 64], bits: [2, 64], thread: [0, 255] });
 }
 
-// Where lines stop, by docs/FORMATS.md. A word that is missing would be after one blank more.
+// The column where a line stops, by docs/FORMATS.md. A missing word would come after a blank.
 const HEADERS = [
   ['', 1, 'lock'], ['Lock mcs threads 2', 1, 'lock'], ['lock', 6, 'name'], ['lock clh', 6, 'name'],
   ['lock mcs', 10, 'threads'], ['lock mcs thread 2', 10, 'threads'],

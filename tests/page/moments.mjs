@@ -2,12 +2,11 @@
 //
 //     node tests/page/moments.mjs MODULE.wasm
 //
-// For each row of tests/rows/sketches.txt: the length of the run that is found, or the number of
-// states if there is none; the run is accepted by `play`, and has the lines. For each kind of
-// transition: its name, as in tests/rows/kinds.txt, and after how many moves the run that its
-// sketch finds takes it, and the run from a new lock to this kind, as it says too. For
-// each row of tests/rows/soon.txt: the same for a run from a state. Then the answers if memory,
-// moves or a line are at fault.
+// For each row of tests/rows/sketches.txt the search has to find a run of the row's length, or no
+// run after as many states; `play` accepts the run, which has the lines. Each kind of transition
+// has its name in tests/rows/kinds.txt, and the run of its sketch and the run from a new lock take
+// it after as many moves as kinds.txt says. The same holds for a run from a state, for each row of
+// tests/rows/soon.txt. Then come the answers if memory, moves or a line are at fault.
 
 import assert from 'node:assert/strict';
 import { ANSWER, MOVES, OUTCOMES, PHASES } from '../../page/src/machine/codes.js';
@@ -26,7 +25,7 @@ function moveOf(code) {
   return { thread: code % 256, word, meets: Math.floor(code / 256) % 2 === 1 };
 }
 
-// What is found by a search in so many cells. `call` gives the module a text and the memory.
+// Searches with room for so many cells. `call` passes a text and the memory to the module.
 function search(machine, text, { cells = CELLS, moves = MOST_FOUND, numbers = 1 }, call) {
   const sizes = [8, 8 * moves, 8 * cells, 4 * SLOTS, text.length];
   const places = sizes.map((_, i) => machine.base
@@ -44,7 +43,7 @@ function search(machine, text, { cells = CELLS, moves = MOST_FOUND, numbers = 1 
   return { answer, number, run };
 }
 
-// What is found for these lines.
+// Searches for a run that has these lines.
 function find(machine, { lock, threads, bits, rounds }, lines, room = {}) {
   const asked = [LOCKS.indexOf(lock), threads, bits, rounds, room.most ?? 1e6].map(BigInt);
   return search(machine, bytesOf(lines.join('\n')), room, (text, memory) => (
@@ -54,7 +53,7 @@ function find(machine, { lock, threads, bits, rounds }, lines, room = {}) {
 const headerOf = ({ lock, threads, bits }) => (
   `lock ${lock} threads ${threads}${bits < 64 ? ` bits ${bits}` : ''}\n`);
 
-// What is found from the state after these lines of a schedule.
+// Searches from the state after these lines of a schedule.
 function findSoon(machine, asked, lines, kind, room = {}) {
   const numbers = [lines.length, kind, asked.rounds, 1e6].map(BigInt);
   const schedule = bytesOf(headerOf(asked) + lines.map((line) => `${line}\n`).join(''));
@@ -78,7 +77,7 @@ function transitionsOf(machine, asked, run) {
   });
 }
 
-// The moves that meet the lines are by their threads, and of their words.
+// The moves that meet the lines have the threads and the words of the lines.
 function checkMet(run, lines) {
   const met = run.filter((move) => move.meets);
   assert.equal(met.length, lines.length);
@@ -89,7 +88,7 @@ function checkMet(run, lines) {
   });
 }
 
-// The run that was found, of as many moves as a row says; or null, after as many states.
+// The found run, with as many moves as a row says; or null, after as many states.
 function foundAs(expected, { answer, number, run }, what) {
   const [word, states] = expected.split(' ');
   const due = word === 'nowhere' ? [FOUND.nowhere, Number(states)] : [FOUND.run, Number(word)];
@@ -133,7 +132,7 @@ function checkKinds(machine, lock, names, lengths) {
   });
 }
 
-// Only the last move of the run is of this kind, and it alone is said to be.
+// Only the last move of the run is of this kind, and only that move is marked as such.
 function checkSoon(machine, names, [space, moves, rounds, kind, expected]) {
   const [lock, threads] = space.split(' ');
   const asked = { lock, threads: Number(threads), bits: 64, rounds: Number(rounds) };
@@ -183,7 +182,7 @@ function checkFaults(machine) {
 }
 
 const machine = machineOf();
-// The module is asked for a number of rounds, and its sketches have moves alone.
+// The module takes rounds with a bound, and sketches with moves alone.
 const sketches = rowsOf('sketches.txt')
   .filter(([space, lines]) => !space.includes(' any ') && !/(^|; )is /.test(lines));
 for (const row of sketches) checkSketch(machine, row);

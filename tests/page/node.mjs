@@ -1,5 +1,5 @@
-// Shared by the tests in Node: the machine of the module that is named first on the command line,
-// examples, and texts as bytes.
+// Functions that the tests in Node share: the machine of the module that the command line names
+// first, the examples, and texts as bytes.
 
 import { readFileSync, readdirSync } from 'node:fs';
 import { dirname, join } from 'node:path';

@@ -1,4 +1,4 @@
-// What is wrong with what is drawn, as a list of sentences.
+// A list of all that is wrong with the drawing of the page.
 
 const nameOf = (node) => `${node.closest('[id]').id}: ${node.textContent.trim().slice(0, 40)}`;
 const screen = () => ({ left: 0, top: 0, right: innerWidth, bottom: innerHeight });
@@ -6,7 +6,8 @@ const seen = (selector) => all(selector).filter((one) => (
   one.checkVisibility() && rect(one).width > 0));
 const isApart = (one, other) => one.bottom <= other.top + 1 || one.top >= other.bottom - 1;
 
-// A box on the screen. Of a text in a picture it is without the halo, which Firefox counts.
+// The box of a node on the screen. For a text in a picture it leaves out the halo, which Firefox
+// counts.
 function boxOf(node) {
   if (!(node instanceof SVGTextElement)) return rect(node);
   const { x, y, width, height } = node.getBBox();
@@ -15,13 +16,15 @@ function boxOf(node) {
   return { left, top, right, bottom };
 }
 
+// The rectangle of a text includes its halo, and takes less time than its box, so it comes first.
 function outOfView(selector, id) {
-  const isInside = (one) => inside(boxOf(one), rect(byId(id))) && inside(boxOf(one), screen());
-  return seen(selector).filter((one) => !isInside(one))
+  const [part, whole] = [rect(byId(id)), screen()];
+  const isInside = (box) => inside(box, part) && inside(box, whole);
+  return seen(selector).filter((one) => !isInside(rect(one)) && !isInside(boxOf(one)))
     .map((one) => `out of view: ${selector} ${nameOf(one)}`);
 }
 
-// A line is in view or it is out of view; none is cut.
+// A line may be in view or out of view, but not cut.
 function cutLines() {
   const lines = seen('.code-line, #now p, #now .head, #now dt, #now dd, #now summary');
   const isCut = (one) => {
@@ -33,7 +36,7 @@ function cutLines() {
 
 const isWider = (node) => node.scrollWidth > node.clientWidth + 1;
 
-// A name that goes on beyond its lane's head.
+// The names that go beyond the head of their lane.
 function namesOutOfLanes() {
   const lineOf = (one) => one.parentNode.querySelector('.lane-line');
   const isOut = (one) => rect(one).right > rect(lineOf(one)).left + 1;
@@ -73,20 +76,20 @@ function wrongNow(isHidden) {
   return wrong;
 }
 
-// The answer brings the sentence. The two may be longer than their part, which is then scrolled.
+// The answer shows the sentence. Both may be longer than their part, which is then scrolled.
 function wrongWithAnswer() {
   key('a');
   const wrong = outOfView('#now .say', 'now');
   return seen('#now .say').length ? wrong : ['no sentence with the answer'];
 }
 
-// With the first of these links the page was loaded.
+// The browser loaded the page with the first of these links, and follows the others.
 const wrongAt = (links) => links.map(([fragment, isHidden], i) => {
   if (i) follow(fragment);
   return [...wrongNow(isHidden), ...(isHidden ? wrongWithAnswer() : [])];
 });
 
-// Whether the page is drawn in this family, which the system has.
+// Whether the browser draws the page in this font family of the system.
 function drawnIn(family) {
   const pen = document.createElement('canvas').getContext('2d');
   const widthIn = (font) => {

@@ -1,6 +1,7 @@
 // Schedules of one's own: what is said of them, and what is dropped.
 
 const verdictHas = (part) => text('#verdict').includes(part);
+const verdictEnds = (part) => text('#verdict').endsWith(part);
 
 function dropFile(letters) {
   const data = new DataTransfer();

@@ -2,7 +2,7 @@
 
 const drawPaper = () => dispatchEvent(new Event('beforeprint'));
 
-// From now on a sheet is only drawn, and noted, in the place of being printed.
+// Replaces printing: from now on the page only draws a sheet, and notes which one.
 function stubPrint() {
   window.print = () => {
     drawPaper();
@@ -24,7 +24,7 @@ const rows = () => all('#paper tbody tr').map((row) => (
 const movesOfStrips = () => all('#paper .strip').map((one) => all('.move', one).length);
 const words = (selector) => document.querySelector(selector).textContent;
 
-// The style as it is for a printer: rules for the screen are off, those for paper are on.
+// Applies the style for a printer: rules for the screen are off, and rules for paper are on.
 function onPaper() {
   document.documentElement.dataset.theme = 'dark';
   for (const { media } of [...document.styleSheets].flatMap(({ cssRules }) => [...cssRules])) {
@@ -36,7 +36,7 @@ function onPaper() {
     styleOf('#paper td').color];
 }
 
-// Of an exercise sheet: what is drawn of its moves, and lines to write on.
+// What an exercise sheet draws about the outcomes of moves, and its lines to write on.
 const drawn = () => [count('#paper .strip .span, #paper .strip .found, #paper .strip .arrow'),
   count('#paper .asked .blank')];
 const offered = () => document.activeElement.dataset.sheet;

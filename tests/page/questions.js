@@ -11,7 +11,7 @@ function beside() {
   };
 }
 
-// What draws that a reader is inside: discs, and how far the bars of lanes go beyond the move.
+// Signs that a reader is inside: discs, and how far the bars of lanes go beyond the move.
 function readers() {
   const ends = all('#lanes .span.reads').map((one) => rect(one).right);
   const here = document.querySelector('#lanes .here-column');
@@ -23,7 +23,7 @@ function readers() {
 const waiting = () => [text('#notice'),
   all('.question.waits').filter((one) => one.checkVisibility()).length];
 
-// The moves whose numbers have a mark above them, and those below a mark of the slider.
+// The moves with a mark above their numbers, and the moves with a mark on the slider.
 function marked() {
   const track = rect(document.querySelector('#slider-picture .track'));
   const { last } = port.state();

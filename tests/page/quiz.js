@@ -24,7 +24,7 @@ function answer(given) {
   form.requestSubmit();
 }
 
-// What holders or queue are now, as the report writes them.
+// The current holders or queue, as a report writes them.
 function now(kind) {
   const part = document.querySelector(`#now [data-${kind}]`);
   const threads = part ? all('[data-thread]', part).map((one) => one.dataset.thread) : [];
@@ -32,8 +32,8 @@ function now(kind) {
   return threads.length ? `${kind === 'holders' ? letter : ''}${threads.join(',')}` : '-';
 }
 
-// Answers all questions of a lesson with this outcome, and on threads with this, or with what is
-// now.
+// Answers all questions of a lesson with the same outcome, and with the same threads, or with the
+// current ones if `threads` is null.
 function answerBlindly(name, outcome, threads) {
   lesson(name);
   for (let one = asked(); one.move; one = asked()) {
@@ -41,7 +41,7 @@ function answerBlindly(name, outcome, threads) {
   }
 }
 
-// What would be saved of the answers.
+// The file in which the page would save the answers.
 async function saved() {
   let blob;
   URL.createObjectURL = (one) => { blob = one; return 'data:,'; };

@@ -1,9 +1,9 @@
-// Traces: what the recorded run has beside what the lock has.
+// Traces: the values of the recorded run beside those of the lock.
 
 const RECORDED = '#now dd.recorded';
 const recorded = () => texts(RECORDED);
 
-// The same after each of the first moves; nothing for a line that says no more than its move.
+// The same after each of the first moves. A line with nothing but its move has no values.
 const recordedAt = (moves) => Array.from({ length: moves }, (_, i) => {
   go(i + 1);
   return recorded();
@@ -15,6 +15,6 @@ const crosses = () => [attribute('#lanes [data-refused]', 'data-move'),
 
 const marked = () => [text('#now .refused-text'), text('#now mark.bad')];
 
-// How many of each of these are seen whole.
+// How many nodes of each of these parts are wholly in view.
 const wholeOf = (...parts) => parts.map((part) => all(`#now ${part}`)
   .filter((one) => one.checkVisibility() && inside(rect(one), rect(byId('now')))).length);

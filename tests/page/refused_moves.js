@@ -1,6 +1,6 @@
 // The scene of a refused move, on the screen and on paper.
 
-// What is said, and whether the refused move is in the picture.
+// The text on paper, and whether its picture has the refused move.
 function onPaper() {
   dispatchEvent(new Event('beforeprint'));
   return [text('#paper'), count('#paper .strip [data-refused]') > 0];
@@ -8,6 +8,6 @@ function onPaper() {
 
 const focusedChoice = () => ({ ...document.activeElement.dataset });
 
-// The words of memory that are marked, and how.
+// The marked words of memory, each with its mark.
 const markedWords = () => all('#memory-picture .word:is(.read, .changed)').map((box) => (
   `${box.closest('g').previousElementSibling.textContent} ${box.classList[1]}`));

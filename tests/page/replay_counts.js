@@ -1,18 +1,18 @@
-// How often the machine is asked for what a reader does.
+// How often the page asks the machine for what a reader does.
 
 const playsNow = () => port.state().plays;
 const isLesson = (name) => port.state().lesson === name;
 
 const acts = { choose, click, key, lesson, paste, undo, write };
 
-// The plays that some acts took, each by its name with its values.
+// The number of replays that some acts took. An act has a name and its values.
 function playsOf(rows) {
   const before = playsNow();
   for (const [name, ...values] of rows) acts[name](...values);
   return playsNow() - before;
 }
 
-// What steps to a place or from it, and views of it.
+// Goes to a place, steps around it, and changes its views.
 function seePlace(place, last) {
   go(place);
   slide(last - place);
@@ -22,7 +22,7 @@ function seePlace(place, last) {
   click('#every');
 }
 
-// A lesson is opened, and each of its places is seen, in each way: the plays of both.
+// Opens a lesson, and sees each of its places in every way: the replays of both.
 function playsOfLesson(name) {
   URL.createObjectURL = () => 'data:,';
   HTMLAnchorElement.prototype.click = () => {};

@@ -1,4 +1,4 @@
-"""Reports of the program, which the page's are compared with."""
+"""Reports of the program, with which tests compare those of the page."""
 import re
 
 from tree import EXAMPLES, ran
@@ -10,7 +10,7 @@ LESSONS = {path.stem: path.with_suffix(".report").read_text("ascii")
 
 
 def reports_of(program, texts, folder):
-    """The program's report of each text, from one batch. The texts are put into a folder."""
+    """Writes texts into a folder, and returns the program's report of each, from one batch."""
     paths = [folder / str(number) for number in range(len(texts))]
     for path, text in zip(paths, texts):
         path.write_bytes(text)
@@ -28,7 +28,7 @@ def moves_of(report):
 
 
 def moves_replayed(program, text):
-    """The same of a text that the program accepts."""
+    """The accepted moves of a text, which the program has to accept as a whole."""
     done = ran(program, "replay", input=text)
     assert done.returncode == 0, done
     return moves_of(done.stdout)

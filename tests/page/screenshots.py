@@ -12,11 +12,11 @@ from tree import TOP  # noqa: E402
 
 PICTURES = TOP / "docs" / "pictures"
 MOST_BYTES = 200_000
-# Fewer colours: flat pictures lose nothing by it.
+# pngquant reduces the colours, which a flat picture does not need.
 SHRINK = ["pngquant", "--force", "--strip", "--speed", "1", "--output"]
 LATE_LINK = "#lesson=mcs-late-link&move=9"
 MISTAKE = "lock mcs threads 2\n0 acquire\n0 write\n0 swap\n0 realease\n"
-# Name of the picture, fragment of the page, and the keys that are pressed before.
+# The name of a picture, the fragment of the page, and the keys to press before.
 SHOTS = [
     ("late-link", LATE_LINK, "a"),
     ("out-of-order-dark", "#lesson=mcs-third-linked-before-second&move=12&theme=dark", "a"),

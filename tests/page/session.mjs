@@ -1,6 +1,6 @@
-// What the page keeps of a schedule while one steps through it and edits it, in Node: places,
-// lines, remarks that hold, runs that are read off others, two runs beside each other, and how it
-// is asked to look. Each value was made by hand, from the schedule below and docs/FORMATS.md.
+// Tests in Node what the page keeps of a schedule while a reader steps and edits: places, lines,
+// remarks that hold, runs read off other runs, two runs beside each other, and the look of the
+// page. Each value was made by hand, from the schedule below and docs/FORMATS.md.
 //
 //     node tests/page/session.mjs MODULE.wasm
 
@@ -39,8 +39,8 @@ const opened = (...all) => {
   return session;
 };
 
-// Moves 1 to 6 are in lines 7, 8, 10, 12, 13 and 14. Thread 1 holds and has no call pending, so the
-// last line is refused.
+// Moves 1 to 6 are in lines 7, 8, 10, 12, 13 and 14. Thread 1 holds and has no pending call, so the
+// lock refuses the last line.
 const TWO = [
   '# Two threads of a ticket lock: the second one waits.',
   '#! name 1 Ann',
@@ -59,7 +59,7 @@ const TWO = [
   '1 read',
 ];
 
-// Places: 0 is before the first move, and one comes after the last for the move that is refused.
+// Place 0 is before the first move, and the place after the last move is the refused move.
 const session = opened(...TWO);
 assert.deepEqual([session.move, session.place, session.refused], [0, 0, false]);
 assert.equal(session.line(), 6);
@@ -83,7 +83,7 @@ assert.deepEqual([8, 9, 10].map((line) => run.movesThrough(line)), [2, 2, 3]);
 assert.deepEqual([[1, 6], [0, 6], [0, 3], [1, 2]].map(([thread, move]) => (
   run.lastMoveOf(thread, move))), [3, 6, 0, 2]);
 
-// A run without a refusal ends at its last move, and its lines beyond that are the last move's.
+// A run without a refusal ends at its last move, to which all later lines belong.
 const accepted = opened(...TWO.slice(0, -1));
 accepted.go(99);
 assert.deepEqual([accepted.place, accepted.move, accepted.refused, accepted.run.refusal],
@@ -95,7 +95,7 @@ assert.equal(headerLine(text('', '# lock', '', 'lock mcs threads 1')), 4);
 assert.equal(headerLine(text('lock mcs threads 1')), 1);
 assert.equal(headerLine(text('# nothing else')), 0);
 
-// The text up to the move that is shown, with one more.
+// The text up to the shown move, with one more move.
 session.go(2);
 assert.deepEqual(session.textWith('0 acquire'),
   { letters: `${TWO.slice(0, 8).join('\n')}\n0 acquire\n`, plain: false });
@@ -103,8 +103,8 @@ session.go(0);
 assert.equal(session.textWith('0 acquire').letters,
   `${TWO.slice(0, 6).join('\n')}\n0 acquire\n`);
 
-// The words of the move are marked; of a refused one those of its thread's last; of a question that
-// hides what the move did none, until its answer is shown.
+// The page marks the words of a move, or at a refused move those of its thread's last move. At a
+// question that hides what the move did it marks none before the answer.
 const marked = (wishes, place) => session.view(wishes, place).marked;
 assert.deepEqual([marked({}, 5), marked({}, 7), marked({}, 3), marked({ answered: true }, 3),
   marked({ whole: true }, 3), marked({}, 0)], [5, 3, 0, 3, 3, 0]);
@@ -115,8 +115,8 @@ assert.deepEqual([2, 3, 4, 7].map((place) => isAsked(session.view({}, place))),
   [false, true, false, false]);
 assert.equal(isCovered(session.view({ answered: true }, 3), 'facts'), false);
 
-// Who holds and who waits after each move, as the report has it, and in which phase it found its
-// thread.
+// Holders and queue after each move, as the report has them, and the phase of the thread before the
+// move.
 const standing = (move) => {
   const state = run.state(move);
   return `${holdersText(state)} ${queueText(state)}`;
@@ -129,7 +129,7 @@ assert.deepEqual([0, 2, 5].map((move) => Number(run.state(move).word(0))), [0, 1
 assert.deepEqual([0, 1].map((thread) => PHASES[run.state(4).phase(thread)]),
   ['TakeTicket', 'TicketInside']);
 
-// Remarks: the first sentence of the first comment is the title, all plain comments are the story.
+// The first sentence of the first comment is the title, and all plain comments are the story.
 const { remarks, names } = session;
 assert.deepEqual([remarks.title, remarks.learn], ['Two threads of a ticket lock', '']);
 assert.equal(remarks.about, 'Two threads of a ticket lock: the second one waits. between');
@@ -152,8 +152,8 @@ assert.equal(isCovered(view('#! ask 2 What?', '#! answer 2 This.'), 'memory'), t
 assert.equal(isCovered(view('#! ask 2 What?', '#! answer 2 This.'), 'facts'), false);
 assert.equal(isCovered(view('#! ask 2 What?'), 'memory'), false);
 
-// In a text that was made from this one a remark holds while the moves before it are the same; the
-// story belongs to all moves, and a name to none.
+// After an edit, a remark holds if the moves before it are the same. The story belongs to all
+// moves, and a name to none.
 const stale = (...all) => {
   const edited = opened(...TWO);
   edited.derive(text(...all), null, 0);
@@ -179,8 +179,8 @@ edited.keepRemarks();
 assert.deepEqual([edited.stale, edited.remarks.ask.get(3)], [[], 'Who holds?']);
 assert.equal(edited.twin().machine, machine);
 
-// A known run saves a replay: of the same text, and of its beginning. A run of no move, and a
-// refused one, are played.
+// A known run saves the replay of the same text, and of its front, unless the front has no move or
+// the refused move.
 let plays = 0;
 const counting = { play: (...words) => { plays += 1; return machine.play(...words); } };
 const known = new Run(counting, text(...TWO));
@@ -194,7 +194,7 @@ for (const [count, moves, played] of PREFIXES) {
   assert.equal(plays, played, `${count}`);
 }
 
-// How many moves two runs begin with: only of one lock, with as many threads and bits.
+// Two runs have common first moves only if they have the same lock, threads and bits.
 const HEADER = 'lock ticket threads 2 bits 8';
 const of = (...all) => new Run(machine, text(...all));
 const TAKEN = of(HEADER, '0 acquire', '0 add');
@@ -207,8 +207,8 @@ for (const other of OTHERS) {
   assert.equal(commonMoves(of(HEADER, '0 acquire'), of(other, '0 acquire')), 0, other);
 }
 
-// The same calls on the other read-write lock: a writer announces itself there, and a turn in which
-// nothing can be done there is left out.
+// The same calls on the other read-write lock: a writer announces itself there, and a turn without
+// a possible move is left out.
 const SIMPLE = ['0 rlock', '0 section', '1 wlock', '1 section', '0 runlock', '0 section',
   '1 section'];
 const beside = onOtherLock(machine, of('lock rw-simple threads 2 bits 8', ...SIMPLE));
@@ -233,7 +233,7 @@ const late = of('lock mcs threads 2', '0 acquire', '0 write', '0 swap', '1 acqui
 assert.deepEqual([0, 3, 5, 6, 7, 8].map((move) => unlinkedAfter(late, move)),
   [false, false, false, true, true, false]);
 
-// How the page is asked to look, in the order of its parts; a hall has two of them.
+// The look of the page from its address. Parts are in their order, and a hall has two of them.
 readLooks('#text=x&hall&show=now,code,time&theme=dark&sheet=worked');
 assert.deepEqual(looks, {
   hall: true, embed: false, parts: ['time', 'code'], future: false, theme: 'dark', sheet: 'worked',
@@ -265,7 +265,7 @@ assert.equal(withoutLooks('#text=abc&hall&show=code,now&theme=dark&lang=de&futur
   '#text=abc&lang=de');
 assert.deepEqual([['hall', 'lang'], ['hall', 'text'], []].map(isLooksAlone), [true, false, true]);
 
-// One and several, in both languages.
+// Texts with a number, for one and for several, in both languages.
 const { de } = LANGUAGES;
 const COUNTED = [
   [texts.threads, '1 thread', '2 threads'], [texts.find.rounds, 'once', '2 times'],
@@ -292,7 +292,7 @@ for (const [others, kept, said] of FILES) {
 }
 assert.equal(LOCK_NAMES[run.kind], 'ticket');
 
-// Each text of a lesson, a refusal or a fault is there in German too.
+// Each text of a lesson, a refusal or a fault has a German translation.
 const german = JSON.parse(readFileSync(
   new URL('../../examples/lessons.de.json', import.meta.url), 'utf8'));
 for (const example of examples()) {

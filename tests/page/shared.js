@@ -1,5 +1,5 @@
-// Functions that tests of the page share. Each is called by its name inside the page, with values
-// of JSON. The .js file of a test is read after this one.
+// Functions that tests of the page share. A test calls one by its name inside the page, with values
+// of JSON. The browser reads the .js file of a test after this file.
 
 const port = window.lockreplay?.test;
 const byId = (id) => document.getElementById(id);
@@ -8,33 +8,25 @@ const rect = (node) => node.getBoundingClientRect();
 const plain = (text) => text.replace(/\s+/g, ' ').trim();
 const styleOf = (selector) => getComputedStyle(document.querySelector(selector));
 
-// Whether one box is inside another, up to what rounding moves.
+// Whether one box is inside another, up to rounding.
 const inside = (one, other) => one.left >= other.left - 1.5 && one.right <= other.right + 1.5
   && one.top >= other.top - 1.5 && one.bottom <= other.bottom + 1.5;
 
-// Reports as an error what the page's Content-Security-Policy refuses.
+// Logs an error for each violation of the page's Content-Security-Policy.
 function reportViolations() {
   addEventListener('securitypolicyviolation', ({ violatedDirective, blockedURI }) => {
     console.error(`${violatedDirective}: ${blockedURI}`);
   });
 }
 
-// Clears what an earlier test left in this browser.
+// Clears what earlier tests stored in this browser.
 function forget() {
   if (location.protocol === 'file:') localStorage.clear();
 }
 
-// Whether the browser still has what a test stored, which no page knows of.
+// A mark that a test stores and the page does not know, and whether the browser still has it.
 const mark = () => localStorage.setItem('mark', 'set');
 const isMarked = () => localStorage.getItem('mark') === 'set';
-
-const isThere = () => document.readyState === 'complete' && Boolean(window.lockreplay);
-
-// A document is complete before its page has begun, which waits for the fonts.
-function isAt(url) {
-  const hasBegun = url.startsWith('about:') ? document.readyState === 'complete' : isThere();
-  return hasBegun && location.href.split('#')[0] === url;
-}
 
 // Before the page's script: fonts that load late.
 function delayLetters() {
@@ -45,6 +37,24 @@ function delayLetters() {
   };
 }
 
+// Before the page's script: notes the running clocks, or timeouts, with the wait of each.
+function keepClocks(kind = 'Interval') {
+  const [set, clear] = [window[`set${kind}`], window[`clear${kind}`]];
+  const going = new Map();
+  window.going = going;
+  window[`set${kind}`] = (act, wait) => {
+    const clock = set(act, wait);
+    going.set(clock, wait);
+    return clock;
+  };
+  window[`clear${kind}`] = (clock) => {
+    going.delete(clock);
+    clear(clock);
+  };
+}
+
+const clocks = () => [...window.going.values()];
+
 // Before the page's script: a browser without 64-bit WebAssembly memory.
 function withoutMachine() {
   WebAssembly.Module = class {
@@ -52,7 +62,7 @@ function withoutMachine() {
   };
 }
 
-// The test port. A text that goes through JSON has a letter for each byte.
+// The page's port for tests. In JSON a text has a letter for each byte.
 
 const bytesOf = (letters) => Uint8Array.from(letters, (letter) => letter.charCodeAt(0));
 
@@ -64,7 +74,7 @@ function lettersOf(bytes) {
 
 const show = (letters, move) => port.open({ text: bytesOf(letters), move });
 const lesson = (name, move) => port.open({ lesson: name, move });
-// JSON has no Infinity.
+// JSON has no Infinity, and writes null for it.
 const go = (move) => port.go(move ?? Infinity);
 const undo = () => port.undo();
 
@@ -93,13 +103,13 @@ function shown() {
   };
 }
 
-// What is shown, once it has these parts.
+// The view if it has these parts, else false.
 function shownWith(wanted) {
   const now = shown();
   return Object.entries(wanted).every(([name, one]) => now[name] === one) && now;
 }
 
-// Where a control is to be clicked, scrolled into view. Nothing may lie over it.
+// Scrolls a control into view, and returns its middle. Nothing may lie over it.
 function middle(selector) {
   const node = document.querySelector(selector);
   node.scrollIntoView({ block: 'nearest' });
@@ -125,7 +135,7 @@ function key(name) {
   document.body.dispatchEvent(new KeyboardEvent('keydown', { key: name, bubbles: true }));
 }
 
-// A panel beside the schedule: own, play, or with 'lessons' none.
+// Opens a panel beside the schedule: own or play, or none with 'lessons'.
 function inMode(mode) {
   const { mode: now } = document.body.dataset;
   if (mode !== now) click(`#mode-${mode === 'lessons' ? now : mode}`);
@@ -136,16 +146,16 @@ function slide(move) {
   byId('slider').dispatchEvent(new Event('input', { bubbles: true }));
 }
 
-// A link, followed in the page that is there.
+// Follows a link in the open page.
 function follow(fragment) {
   history.replaceState(null, '', fragment);
   dispatchEvent(new PopStateEvent('popstate'));
 }
 
-// Writes into the address what is shown, without the delay.
+// Makes the page write its address at once.
 const leave = () => dispatchEvent(new Event('pagehide'));
 
-// Types a text into the field. Gives what has it played, without the wait for more.
+// Types a text into the field, and returns the function that plays it after a pause.
 function typed(letters) {
   const later = window.setTimeout;
   let settle;
@@ -158,7 +168,7 @@ function typed(letters) {
 
 const write = (letters) => typed(letters)();
 
-// What is brought by the clipboard or by the mouse. True if the browser would do the rest.
+// Brings data by the clipboard or by the mouse. True if the browser would go on itself.
 function bring(kind, name, data, target = document.body) {
   const event = new Event(kind, { bubbles: true, cancelable: true });
   event[name] = data;

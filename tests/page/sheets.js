@@ -1,6 +1,6 @@
-// An exercise sheet: its marks, and the places to be filled in.
+// An exercise sheet: its marks and its blanks.
 
-// Before the page's own script: a sheet that is there is printed as it is.
+// Before the page's script: keeps a drawn sheet, so the browser prints it as it is.
 function keepSheet() {
   addEventListener('beforeprint', (event) => {
     if (window.kept) event.stopImmediatePropagation();
@@ -21,11 +21,21 @@ function sheet() {
     spans: count('#paper .strip :is(.span, .found, .arrow, .unlinked)'),
     words: count('#paper .figure .word'), values: count('#paper .figure .value'),
     lines: count('#paper .name-line span'), places: count('#paper .figure .cell'),
-    discs: count('#paper .figure .code .disc'),
+    discs: count('#paper .figure .code .disc'), pictures: count('#paper .figure > div > svg'),
+    arrows: texts('#paper .figure .note').filter((one) => one === '→').length,
   };
 }
 
-// The sheet that is printed at a move.
+// How these are drawn, each look once.
+const looksOf = (selector) => [...new Set(all(`#paper ${selector}`).map((one) => {
+  const { fill, stroke, strokeDasharray, strokeWidth } = getComputedStyle(one);
+  return [fill, stroke, strokeDasharray, strokeWidth].join(' ');
+}))];
+
+// The looks of the first sign of the legend, and of the blanks in the lanes.
+const blanks = () => ['.legend > span > :first-child .step', '.strip .step.blank'].map(looksOf);
+
+// The sheet that the page prints at a move.
 function sheetAt(move) {
   go(move);
   sheet();

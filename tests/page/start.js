@@ -17,21 +17,32 @@ const ticked = () => all('#lessons [data-lesson]').filter((one) => one.textConte
   .map((one) => one.dataset.lesson);
 const topOf = (selector) => rect(document.querySelector(selector)).top;
 
-// What is said of a term of a part that one points at, and whether all of it is on the screen, with
-// nothing over it.
+// The explanation of a term in a part, and whether all of it is on the screen with nothing over it.
 function explained(part, term) {
   all(`${part} .term`).find((one) => one.dataset.term === term && one.checkVisibility()).focus();
   const box = byId('tip-box');
   const { left, right, top, bottom } = rect(box);
   const screen = { left: 0, top: 0, right: innerWidth, bottom: innerHeight };
-  // Else a pointer goes through it.
+  // elementFromPoint skips a box without pointer events.
   box.style.pointerEvents = 'auto';
   const above = document.elementFromPoint((left + right) / 2, (top + bottom) / 2);
   box.style.pointerEvents = '';
   return [!box.hidden && box.textContent, inside(rect(box), screen) && above === box];
 }
 
-// Before the page's script: its clocks go ten times as fast.
+// In a window that ends just below a term: whether its explanation is above it.
+function isExplainedAbove(term) {
+  const node = all('main .term').find((one) => one.dataset.term === term && one.checkVisibility());
+  const { top, bottom } = rect(node);
+  window.innerHeight = bottom + 5;
+  node.focus();
+  return !byId('tip-box').hidden && rect(byId('tip-box')).bottom <= top;
+}
+
+const atCard = (lock, event) => document.querySelector(`#lessons [data-lock=${lock}]`)
+  .dispatchEvent(new Event(event));
+
+// Before the page's script: makes its clocks run ten times as fast.
 function hasten() {
   const { setInterval } = window;
   window.setInterval = (act, wait) => setInterval(act, wait / 10);

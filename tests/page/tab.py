@@ -1,6 +1,7 @@
-"""A tab with the page in it: what a reader does, and what functions in JavaScript find there."""
+"""A tab with the page: it acts like a reader, and calls JavaScript functions in the page."""
 import base64
 import json
+import re
 import time
 from pathlib import Path
 
@@ -13,10 +14,13 @@ HERE = Path(__file__).parent
 PAGE = TOP / "page" / "lockreplay.html"
 OWN = ("about:", "data:", "blob:")
 PATIENCE = 60  # seconds
-# How long one question waits for its answer while a page is being opened.
+# How many seconds one question waits for an answer while a page loads.
 ASKED_AGAIN = 3
 WAIT = 0.02
-# Keys by their names in the web, as WebDriver writes them.
+BEGAN = (HERE / "began.js").read_text()
+# The name of a function or a constant of a script.
+NAMED = re.compile(r"^(?:async )?(?:function|const) (\w+)", re.MULTILINE)
+# From the names of keys in the web to those of WebDriver.
 KEYS = {
     "Tab": "\ue004", "Enter": "\ue007", "Control": "\ue009", "Escape": "\ue00c", "Space": " ",
     "PageUp": "\ue00e", "PageDown": "\ue00f", "End": "\ue010", "Home": "\ue011",
@@ -25,15 +29,16 @@ KEYS = {
 
 
 class Tab:
-    """`js` calls a function of shared.js, or of the .js file that is named like the test."""
+    """`js` calls a function of shared.js, or of the .js file with the name of the test."""
 
     def __init__(self, browser, name):
-        self.browser, self.context = browser, browser.tab()
+        self.browser, self.context = browser, browser.tab
         files = [HERE / "shared.js", HERE / f"{name}.js"]
-        self.scripts = "".join(path.read_text() for path in files if path.exists())
+        self.scripts = BEGAN + "".join(path.read_text() for path in files if path.exists())
+        self.kept = f"{name}_tests"
         self.added, self.path = {}, PAGE
         self.browser.told.clear()
-        # A file that an earlier test saved would give one of this test another name.
+        # A browser would give a saved file another name if an earlier test saved one with its name.
         for path in (browser.home / "Downloads").glob("*"):
             path.unlink(missing_ok=True)
         self.before("reportViolations")
@@ -43,19 +48,29 @@ class Tab:
     def ask(self, method, **params):
         return self.browser.ask(method, context=self.context, **params)
 
-    def js(self, name, *values):
-        """The result of a function of these values, all of them as JSON."""
-        function = (f"async (values) => {{ {self.scripts}\n"
-                    f"return JSON.stringify(await {name}(...JSON.parse(values)) ?? null); }}")
+    def run(self, scripts, call, values):
+        """Runs scripts and a call in the page: the result of the call. `values` go as JSON."""
         answer = self.browser.ask(
-            "script.callFunction", functionDeclaration=function, awaitPromise=True,
-            target={"context": self.context},
+            "script.callFunction", awaitPromise=True, target={"context": self.context},
+            functionDeclaration=f"async (values) => {{ {scripts}\n"
+                                f"return JSON.stringify(await ({call}) ?? null); }}",
             arguments=[{"type": "string", "value": json.dumps(values)}])
-        assert answer["type"] == "success", (name, answer["exceptionDetails"]["text"])
+        assert answer["type"] == "success", (call, answer["exceptionDetails"]["text"])
         return json.loads(answer["result"]["value"])
 
+    def js(self, name, *values):
+        """Calls a function in the page, and returns its result. A page that has begun keeps the
+        functions, since parsing them takes longer than most calls."""
+        call = f"{name}(...JSON.parse(values))"
+        kept = self.run("", f"window.{self.kept} && [await window.{self.kept}.{call}]", values)
+        if kept:
+            return kept[0]
+        names = ", ".join(NAMED.findall(self.scripts))
+        keep = f"if (isThere()) window.{self.kept} = {{ {names} }};"
+        return self.run(self.scripts + keep, call, values)
+
     def before(self, name, *values):
-        """Calls a function in each page before the page's own script."""
+        """Makes each page call a function before its own script, until `no_longer`."""
         added = self.browser.ask("script.addPreloadScript", contexts=[self.context],
                                  functionDeclaration=f"() => {{ {self.scripts}\n"
                                  f"{name}(...{json.dumps(values)}); }}")
@@ -67,7 +82,7 @@ class Tab:
 
     @staticmethod
     def wait(holds, what):
-        """Waits until this gives something true, and gives that; else says what did not come."""
+        """Waits until `holds` returns something true, and returns that. `what` words a timeout."""
         late = time.monotonic() + PATIENCE
         while not (given := holds()):
             assert time.monotonic() < late, what()
@@ -75,34 +90,35 @@ class Tab:
         return given
 
     def until(self, name, *values):
-        """Waits until a function gives something true, and gives that."""
+        """Waits until a function in the page returns something true, and returns that."""
         return self.wait(lambda: self.js(name, *values), lambda: f"{name}{values} stays false")
 
     def becomes(self, wanted, name, *values):
-        """Waits until a function gives this."""
+        """Waits until a function in the page returns the wanted value."""
         self.wait(lambda: self.js(name, *values) == wanted, lambda: (
             f"{name}{values} is not {wanted!r}, but {self.js(name, *values)!r}"))
 
     def open(self, fragment="", path=PAGE):
-        """Loads the page, or a changed one, anew even if it is open: a new fragment alone would not
-        load it."""
+        """Loads the page, or a changed one. A new query makes a browser load an open page again,
+        which a new fragment alone does not."""
         self.path = path
-        if self.js("isThere"):
-            self.load("about:blank")
-        self.load(f"{path.as_uri()}{fragment}")
+        self.browser.pages += 1
+        self.load(f"{path.as_uri()}?{self.browser.pages}{fragment}")
         self.no_longer("forget")
 
     def load(self, url):
-        """Goes to a page and waits for it. The browser's own event can be lost where another
-        process takes the tab over, so the page itself is asked."""
+        """Goes to a page and waits for it. The browser can lose its event if another process takes
+        over the tab, so the tab asks the page itself."""
         self.ask("browsingContext.navigate", url=url, wait="none")
-        self.wait(lambda: self.tried("isAt", url.partition("#")[0]), lambda: f"{url} did not load")
+        place = [url.partition("#")[0]]
+        self.wait(lambda: self.tried(self.run, BEGAN, "isAt(...JSON.parse(values))", place),
+                  lambda: f"{url} did not load")
 
-    def tried(self, name, *values):
-        """The result of a function. While a page loads nobody may answer."""
+    def tried(self, asked, *values):
+        """The answer to a question, or None if nobody answers, as while a page loads."""
         self.browser.socket.settimeout(ASKED_AGAIN)
         try:
-            return self.js(name, *values)
+            return asked(*values)
         except (AssertionError, websocket.WebSocketTimeoutException):
             return None
         finally:
@@ -113,12 +129,14 @@ class Tab:
         self.until("isThere")
 
     def resize(self, width, height):
-        self.ask("browsingContext.setViewport", viewport={"width": width, "height": height})
+        if self.browser.size != (width, height):
+            self.ask("browsingContext.setViewport", viewport={"width": width, "height": height})
+            self.browser.size = width, height
 
     # What a reader does
 
     def press(self, *keys):
-        """Keys one after another, each a letter or a name, perhaps as `Control+z`."""
+        """Presses keys in order. A key is a letter, a name, or several as in `Control+z`."""
         actions = []
         for key in keys:
             held = [KEYS.get(one, one) for one in (key.split("+") if len(key) > 1 else [key])]
@@ -127,7 +145,7 @@ class Tab:
         self.perform({"type": "key", "id": "keyboard", "actions": actions})
 
     def click(self, selector):
-        """A click into the middle of a control, which is scrolled into view."""
+        """Scrolls a control into view, and clicks its middle."""
         x, y = self.js("middle", selector)
         self.perform({"type": "pointer", "id": "mouse", "actions": [
             {"type": "pointerMove", "x": x, "y": y},
@@ -147,7 +165,7 @@ class Tab:
     # The test port
 
     def show(self, text, move=0):
-        """Opens a schedule of one's own."""
+        """Opens a schedule as the reader's own."""
         letters = (text.encode() if isinstance(text, str) else text).decode("latin-1")
         self.js("show", letters, move)
 
@@ -161,17 +179,17 @@ class Tab:
         self.js("undo")
 
     def shown(self, **wanted):
-        """The view, once these parts of it are as wanted."""
+        """Waits until these parts of the view are as wanted, and returns the view."""
         return self.until("shownWith", wanted)
 
     # What a test takes from a browser
 
     def pdf(self):
-        """What the page prints."""
+        """The bytes of the PDF that the page prints."""
         return base64.b64decode(self.ask("browsingContext.print", background=True)["data"])
 
     def saved(self, name, size):
-        """The bytes of a file of this size that the page saves."""
+        """Waits until the page has saved a file of this size, and returns its bytes."""
         path = self.browser.home / "Downloads" / name
         self.wait(lambda: path.exists() and path.stat().st_size == size,
                   lambda: f"{path} is not saved")
@@ -181,12 +199,11 @@ class Tab:
         return base64.b64decode(self.ask("browsingContext.captureScreenshot")["data"])
 
     def end(self):
-        """The next test finds the browser as this one did."""
+        """Removes the scripts that this test added, for the next test."""
         self.no_longer(*self.added)
-        self.browser.end_tab()
 
     def strangers(self):
-        """Requests beyond the page, and errors that were not shown, since the last time."""
+        """The requests to other addresses, and the logged errors, since the last call."""
         self.browser.ask("session.status")
         told, self.browser.told = self.browser.told, []
         events = [(one["method"], one["params"]) for one in told if "method" in one]

@@ -1,5 +1,5 @@
-"""The page by keys alone, read aloud, at 200 %, on a phone, and where the system asks for colours
-of its own and for less motion."""
+"""Readers use the page by keys alone, by a screen reader, at 200 %, on a phone, and with a system
+that asks for its own colours and less motion."""
 import pytest
 
 from contrast import contrast
@@ -11,7 +11,7 @@ FORCED = {"forced-colors": "active", "prefers-reduced-motion": "reduce"}
 
 @cases("media", {"usual": {}, "forced": FORCED})
 def test_tab_reaches_everything(page):
-    """Each control is reached in order, and is seen to have the focus."""
+    """Tab reaches every control in order, and each shows that it has the focus."""
     page.open(LATE_LINK)
     stops = page.js("stops")
     for part in ["show-about", "mode-lessons", "menu", "lanes", "code-lines", "slider", "run"]:
@@ -24,7 +24,7 @@ def test_tab_reaches_everything(page):
 
 
 def test_lanes_are_chosen(page):
-    """A lane has the focus by its key, says its moves, and Enter goes to its next one."""
+    """The arrow keys choose a lane, whose label has its moves. Enter goes to its next move."""
     page.open(LATE_LINK)
     page.js("focus", "#lanes")
     page.press("ArrowDown")
@@ -65,10 +65,10 @@ def test_the_names_of_the_foot(page):
 
 
 def test_everything_has_a_name(page):
-    """Each control and part, and each picture; and each move is spoken."""
+    """Each control, part and picture has a name, and a screen reader hears each move."""
     page.open(LATE_LINK)
     assert page.js("nameless") == []
-    # A fact that the question asks for is spoken once its answer is shown.
+    # A screen reader hears a fact for which a question asks only after the answer is shown.
     assert "compare-and-swap fails" not in page.text("#spoken")
     page.press("a")
     spoken = page.text("#spoken")
@@ -79,7 +79,7 @@ def test_everything_has_a_name(page):
 
 @pytest.mark.parametrize("width, height", [(720, 450), (640, 360), (512, 384)])
 def test_at_two_hundred_per_cent(page, width, height):
-    """A screen at 200 % has half of its pixels: all parts are reached, by scrolling down alone."""
+    """At 200 % a screen has half of its pixels. A reader only scrolls down to reach all parts."""
     page.resize(width, height)
     page.open(LATE_LINK)
     for part in ["title", "time", "memory", "code", "now", "forward", "menu"]:
@@ -103,7 +103,7 @@ def test_on_a_phone(page, width, height):
     "light": ({}, "&theme=light"), "dark": ({}, "&theme=dark"), "system light": ({}, ""),
     "system dark": ({"prefers-color-scheme": "dark"}, "")})
 def test_contrast_of_letters_and_words(page, theme):
-    """Letters and line numbers have 4.5 : 1, and borders of words 3 : 1."""
+    """Letters and line numbers have a contrast of 4.5 : 1, and borders of words of 3 : 1."""
     page.open(f"{LATE_LINK}{theme}")
     page.press("a", "e")
     shown = page.js("colours")
@@ -117,8 +117,8 @@ def test_contrast_of_letters_and_words(page, theme):
 @cases("media", {"forced": FORCED})
 @pytest.mark.parametrize("theme", ["light", "dark"])
 def test_colours_of_the_system(page, media, theme):
-    """One line of code has the bar, a pressed button is seen to be, and pictures, which keep their
-    colours, have their own ground."""
+    """Only the current line of code has the bar, a pressed button looks pressed, and pictures keep
+    their colours and their own ground."""
     page.open(f"{LATE_LINK}&theme={theme}")
     assert [page.js("isAsked", *asked) for asked in media.items()] == [True, True]
     page.press("g")
@@ -128,8 +128,8 @@ def test_colours_of_the_system(page, media, theme):
     assert contrast(shown["letters"], shown["ground"]) >= 4.5, shown
 
 
-# Signs of a move: a word and a link that it changes, the line of code and the thread on its
-# way to the next one; who enters, and the arrow from the write that let it.
+# The signs of a move: a word and a link that it changes, the line of code and the thread on its
+# way to the next line; the thread that enters, and the arrow from the write that let it enter.
 MOVED = {
     "#lesson=mcs-late-link&move=3": [
         ".word.changed", ".link.redirected", ".code-line.here", ".disc.moving",
@@ -142,7 +142,7 @@ MOVED = {
 @cases("media, lasts", {
     "usual": ({}, "0.2s"), "less": ({"prefers-reduced-motion": "reduce"}, None)})
 def test_motion(page, lasts):
-    """For 0.2 s each, and not at all if the system asks for less motion."""
+    """Each sign of a move is in motion for 0.2 s, and not at all if the system asks for less."""
     for link, selectors in MOVED.items():
         page.open(link)
         assert {one: page.js("motionOf", one) for one in selectors} == dict.fromkeys(

@@ -18,7 +18,7 @@ AWAY = {
 
 
 def shows(page, text, place=None):
-    """Waits until this text is shown, at this place."""
+    """Waits until the page shows this text, at this place."""
     page.until("shows", text.decode("latin-1"), place)
 
 
@@ -48,6 +48,14 @@ def test_back(page, away):
     shows(page, MINE, 1)
 
 
+def test_back_after_a_step(page):
+    """Back leads to the last place, even if it was left before the address could follow."""
+    mine_at(page, 1)
+    page.js("goAndLeave", 2, "ticket-hand-over")
+    page.js("back")
+    shows(page, MINE, 2)
+
+
 def test_a_paste_that_is_no_schedule(page):
     page.open(LESSON)
     page.js("paste", "hello")
@@ -57,7 +65,7 @@ def test_a_paste_that_is_no_schedule(page):
 
 
 def test_a_paste_without_a_text(page):
-    """A pasted picture does not empty a schedule of one's own."""
+    """A pasted picture does not empty the reader's own schedule."""
     page.open(LESSON)
     page.show(MINE)
     page.js("paste", "")
@@ -73,7 +81,7 @@ def test_a_text_that_is_dropped(page):
 
 
 def test_a_branch_and_back(page):
-    """The first choice of a branch is an entry of the history, so Back is the lesson again."""
+    """The first choice of a branch adds an entry to the history, so Back leads to the lesson."""
     page.open("#lesson=mcs-late-link&move=7")
     page.press("g", "0", "1")
     page.until("addressBegins", "#schedule=")
@@ -84,8 +92,8 @@ def test_a_branch_and_back(page):
 
 
 def kept_and_loaded_again(page):
-    """Links to a long schedule, loads the page anew, and says whether a mark of this test, set
-    before, is still stored. Chromium at times loses all that was stored, by whomever, at a load."""
+    """Links to a long schedule, reloads the page, and tells whether a mark that this test stored is
+    still there. Chromium sometimes loses all stored data at a load."""
     page.open(LESSON)
     page.js("mark")
     page.show(LONG)
@@ -98,7 +106,7 @@ def kept_and_loaded_again(page):
 
 
 def test_a_long_schedule(page):
-    """Its address names what this browser keeps, and a reload brings it back."""
+    """The address of a long schedule names the stored text, and a reload brings it back."""
     assert any(kept_and_loaded_again(page) for _ in range(5)), "the browser stores nothing"
     shows(page, LONG.encode(), 4000)
     name = page.js("keptAt", 4000)
@@ -107,7 +115,7 @@ def test_a_long_schedule(page):
 
 
 def test_a_schedule_that_is_too_long_for_a_link(page):
-    """It is saved as a file, byte for byte."""
+    """The page saves the schedule as a file, byte for byte."""
     page.open(LESSON)
     page.show(LONG)
     page.press("Escape", "l")
@@ -116,7 +124,7 @@ def test_a_schedule_that_is_too_long_for_a_link(page):
 
 
 def test_a_link_from_disk(page):
-    """A reader who copies it is told that it names a file of this disk."""
+    """The page tells a reader who copies the link that it names a file of this disk."""
     page.open(LESSON)
     page.press("l")
     assert "on your disk" in page.until("notice")
@@ -131,7 +139,7 @@ def test_a_link_from_disk(page):
     "cut": ("#schedule=bG9jayBtY3MgdGhyZWFkcyAyCjAgYWNxdWlyZQo", "has no end"),
 })
 def test_damaged_links(page, fragment, part):
-    """It is said, and the address stays until another schedule is opened."""
+    """The page reports the damage, and the address stays until another schedule is opened."""
     page.open(fragment)
     assert part in page.js("damaged")
     page.press("ArrowRight")
@@ -143,7 +151,7 @@ def test_damaged_links(page, fragment, part):
 
 
 def test_an_edit_after_a_damaged_link(page):
-    """What was made of its schedule is in the address, and nothing is damaged any more."""
+    """The address has the edited schedule, and the page no longer reports damage."""
     page.open("#schedule=bG9jayBtY3MgdGhyZWFkcyAyCjAgYWNxdWlyZQo")
     assert "has no end" in page.js("damaged")
     text = "lock mcs threads 2\n1 acquire\n"
@@ -194,7 +202,7 @@ def test_a_link_names_a_lesson(page):
 @pytest.mark.parametrize("fragment", [
     "#", "#move=4", "#lesson=no-such", "#schedule=%%%", "#schedule=A&move=x"])
 def test_a_link_that_names_nothing(page, fragment):
-    """It opens the first lesson."""
+    """The page opens with a title even if a link names nothing."""
     page.open(fragment)
     assert page.text("#title") != ""
     assert page.js("href").startswith(PAGE.as_uri())
@@ -207,7 +215,7 @@ def test_the_nearest_move(page, move, shown):
 
 
 def test_a_text_is_kept_once(page):
-    """Also if it is opened again."""
+    """A text that the reader opens twice is listed once."""
     page.open(LESSON)
     for _ in range(2):
         page.show(MINE)
@@ -217,7 +225,7 @@ def test_a_text_is_kept_once(page):
 
 
 def test_what_is_kept_is_changed_in_its_place(page):
-    """A schedule that is opened from the list is listed once, with its changes."""
+    """A schedule that the reader opens from the list and changes is listed once, as changed."""
     mine_at(page, 2)
     page.lesson("ticket-hand-over", 5)
     page.press("Escape", "o")
@@ -240,7 +248,7 @@ def test_what_is_kept_has_its_place(page):
 
 
 def test_what_is_kept_has_its_last_place(page):
-    """Also if the reader went on after it was kept."""
+    """The list has the last place of a schedule, even if the reader went on after it was kept."""
     mine_at(page, 1)
     page.go(2)
     page.until("addressEnds", "&move=2")
@@ -253,7 +261,7 @@ def test_what_is_kept_has_its_last_place(page):
 
 
 def test_what_is_no_longer_kept(page):
-    """Another tab may have taken its text: that is said, and what is shown stays."""
+    """If the text is gone, as another tab may remove it, the page says so and shows the same."""
     mine_at(page, 2)
     page.lesson("ticket-hand-over", 5)
     page.press("Escape", "o")
@@ -264,7 +272,7 @@ def test_what_is_no_longer_kept(page):
 
 
 def test_the_last_hundred_are_kept(page):
-    """At the start they are listed, the newest first."""
+    """The start lists the last hundred schedules, the newest first."""
     page.open(LESSON)
     for number in range(1, 104):
         page.show(f"#! title of {number}\nlock ticket threads 1\n")

@@ -1,9 +1,9 @@
-"""On a branch and after an edit nothing is said that belongs to other moves, and the two schedules
-are compared."""
+"""On a branch and after an edit, the page shows no remark that belongs to other moves, and compares
+the two schedules."""
 
 
 def test_no_question_of_another_branch(page):
-    """The compare-and-swap comes before the swap, so all questions but that of move 7 are gone."""
+    """The branch makes the compare-and-swap before the swap, so only question 7 is left."""
     page.open("#lesson=mcs-late-link&move=6")
     page.press("g", *"001111111")
     for move in range(16):
@@ -11,7 +11,7 @@ def test_no_question_of_another_branch(page):
         shown = page.shown()
         assert bool(shown["question"]) == (move == 7), shown
         assert "The late link" != shown["title"] and "too late" not in shown["now"], shown
-        assert "The late link" in shown["title"], shown
+        assert shown["title"] == "The late link: another way after move 7", shown
     held = shown["held"]
     assert "#! ask 7 " in held and "#! answer 7 " in held and "#! name 0 Ann" in held, held
     for gone in ["#! ask 8", "#! answer 9", "#! ask 15", "#! title", "# MCS lock"]:
@@ -26,7 +26,8 @@ SWAPPED = ["1 swap\n0 cas\n", "0 cas\n1 swap\n"]
 
 
 def test_an_edit_leaves_out_what_no_longer_holds(page):
-    """The typed text stays in the field; written back, all holds again; or it is kept as it is."""
+    """An edit hides remarks, but the field keeps the text. Undoing the edit by hand brings all
+    remarks back, and a click keeps them as they are."""
     page.open("#lesson=mcs-late-link&move=16")
     before = page.shown()["held"]
     page.press("e")
@@ -45,6 +46,21 @@ def test_an_edit_leaves_out_what_no_longer_holds(page):
     assert "#! ask 8" in shown["held"] and shown["title"] == "The late link", shown
 
 
+def test_an_accepted_text_says_what_it_leaves_out(page):
+    """If the last move is removed, the rest is accepted, and what belongs to all moves is left out
+    until a click keeps it."""
+    page.open("#lesson=mcs-late-link&move=15")
+    page.press("e")
+    lines = page.shown()["area"].rstrip("\n").split("\n")
+    page.js("write", "\n".join([*lines[:-1], ""]))
+    shown = page.shown()
+    assert "end 15" in shown["verdict"] and "belong to other moves" in shown["verdict"], shown
+    page.js("click", "#verdict [data-keep]")
+    shown = page.shown()
+    assert "end 15" in shown["verdict"] and "belong to other moves" not in shown["verdict"], shown
+    assert shown["title"] == "The late link", shown
+
+
 def test_the_branch_and_the_original(page):
     page.open("#lesson=mcs-late-link&move=6")
     page.press("c")
@@ -55,15 +71,18 @@ def test_the_branch_and_the_original(page):
     assert shown["title"] == "Compared with: The late link First difference: move 8", shown
     assert shown["lines"] == [
         "there: 8 1 swap moved hold 0 queue 0,1", "here: 8 0 cas left hold - queue -"], shown
+    assert shown["differs"] == 1, shown
     page.press("ArrowLeft")
-    lines = page.js("compared")["lines"]
+    shown = page.js("compared")
+    lines = shown["lines"]
     assert lines[0].removeprefix("there: ") == lines[1].removeprefix("here: "), lines
+    assert shown["differs"] == 0, shown
     page.press("c")
     assert not page.js("compared")["shown"]
 
 
 def test_the_same_calls_on_the_other_lock(page):
-    """The reader that waits on the FIFO lock joins on the simple one: by the tables of both."""
+    """The reader waits on the FIFO lock, and enters on the simple lock, by the tables of both."""
     page.open("#lesson=fifo-reader-waits-behind-writer&move=6")
     page.press("c")
     shown = page.js("compared")

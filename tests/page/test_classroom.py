@@ -1,4 +1,4 @@
-"""Hall mode in a class: quiz and clicker work in it, the screen is blanked, Escape leaves."""
+"""Hall mode in a class: quiz and clicker work, a key blanks the screen, and Escape leaves."""
 import re
 
 import pytest
@@ -13,7 +13,7 @@ TRUTH = {"outcome": 2, "holders": 3, "queue": 4}
 
 @pytest.mark.parametrize("width, height", SCREENS)
 def test_the_quiz_is_given_in_hall_mode(page, width, height):
-    """It begins where the class is, asks on the screen, and says what came of the answer."""
+    """The quiz begins at the current move, asks on the screen, and judges an answer."""
     page.resize(width, height)
     page.open(f"{LATE_LINK}&move=7&hall")
     page.press("q")
@@ -27,7 +27,7 @@ def test_the_quiz_is_given_in_hall_mode(page, width, height):
 
 
 def test_it_ends_where_it_is(page):
-    """Q again does not move the schedule."""
+    """Q ends the quiz at the move where it began."""
     page.open(f"{LATE_LINK}&move=7")
     page.press("q", "q")
     assert page.js("place") == 7
@@ -44,7 +44,7 @@ def test_a_reload_keeps_the_answers(page):
 
 
 def test_a_name_is_asked_for_once(page):
-    """It stays with the next answer, and after a reload."""
+    """The name stays for the next answer, and after a reload."""
     page.open(f"{LATE_LINK}&move=0")
     page.press("q", "End")
     page.js("answer", "-")
@@ -66,13 +66,14 @@ def test_another_language_keeps_the_answers(page):
     points = re.findall(r"\d+", page.text(".score"))
     page.js("click", "#show-about")
     page.js("click", "#about [data-lang=de]")
-    page.wait(lambda: page.tried("attribute", "html", "lang") == "de", lambda: "it stays English")
+    page.wait(lambda: page.tried(page.js, "attribute", "html", "lang") == "de",
+              lambda: "it stays English")
     score = page.text(".score")
     assert score.startswith("Punkte: ") and re.findall(r"\d+", score) == points, score
 
 
 def test_the_answers_for_the_teacher(page):
-    """Name, day and link are in them."""
+    """The saved answers have the name, the day and the link."""
     page.open(f"{LATE_LINK}&move=0")
     page.press("q", "End")
     page.js("answer", "-")
@@ -82,7 +83,7 @@ def test_the_answers_for_the_teacher(page):
 
 
 def test_a_name_is_an_answer(page):
-    """Ann and Bob for threads 0 and 1 are right where their numbers are."""
+    """An answer may have the names of threads, Ann and Bob, in place of their numbers."""
     moves = moves_of((EXAMPLES / "mcs-late-link.report").read_text("ascii"))
     page.open(f"{LATE_LINK}&move=0")
     page.press("q", "End")
@@ -100,7 +101,7 @@ def test_a_name_is_an_answer(page):
 
 
 def test_a_name_within_a_name(page):
-    """Anna is not Ann."""
+    """The quiz does not take the answer Anna for Ann."""
     page.open(f"{LATE_LINK}&move=0")
     calls = "1 acquire\n1 write\n1 swap\n0 acquire\n0 write\n0 swap\n"
     page.show(f"#! name 0 Ann\n#! name 1 Anna\nlock mcs threads 2\n{calls}")
@@ -123,8 +124,8 @@ def test_what_was_wrong_is_listed_at_the_end(page):
 
 
 def test_a_clicker(page):
-    """Page Down is one move in hall mode, a full stop makes the screen black, any key brings it
-    back, and Escape leaves."""
+    """In hall mode Page Down makes one move, a full stop makes the screen black, any key brings it
+    back, and Escape leaves hall mode."""
     page.open(f"{LATE_LINK}&move=0&hall")
     page.press("PageDown", "PageDown")
     assert page.js("place") == 2

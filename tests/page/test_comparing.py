@@ -1,4 +1,4 @@
-"""Two runs compared: in the same columns, with both memories, and nothing scrolled."""
+"""The page shows two compared runs in the same columns, with both memories, without scrolling."""
 import pytest
 
 SCREENS = [(1024, 768), (1280, 720), (1366, 768), (1920, 1080)]
@@ -12,7 +12,7 @@ def is_seen(shown):
 @pytest.mark.parametrize("look", LOOKS)
 @pytest.mark.parametrize("width, height", SCREENS)
 def test_a_branch(page, width, height, look):
-    """The compare-and-swap one move earlier: moves before it are one above the other."""
+    """The branch makes the compare-and-swap one move earlier. The moves before it are aligned."""
     page.resize(width, height)
     page.open(f"#lesson=mcs-late-link&move=7&play=0+cas{look}")
     shown = page.js("compared")
@@ -22,7 +22,7 @@ def test_a_branch(page, width, height, look):
 
 
 def test_in_play(page):
-    """Beside the panel of choices, and nothing moves off the screen."""
+    """The comparison fits beside the panel of choices."""
     page.resize(1366, 768)
     page.open("#lesson=mcs-late-link&move=7")
     page.press("g", "0", "c")
@@ -33,7 +33,7 @@ def test_in_play(page):
 @pytest.mark.parametrize("look", LOOKS)
 @pytest.mark.parametrize("width, height", SCREENS)
 def test_the_other_lock(page, width, height, look):
-    """The calls on the simple lock: with move 4 a writer polls there, and is announced here."""
+    """The same calls on the simple lock: at move 4 a writer polls there, and is announced here."""
     page.resize(width, height)
     page.open(f"#lesson=fifo-reader-waits-behind-writer&move=6&compare{look}")
     shown = page.js("compared")
@@ -43,8 +43,8 @@ def test_the_other_lock(page, width, height, look):
 
 
 def test_turns_without_a_move(page):
-    """On the simple lock the reader enters with move 6, so the turns in which it polls here leave
-    their columns empty there. Each move there is in a column of this run."""
+    """On the simple lock the reader enters at move 6, so the columns of its polls on this lock are
+    empty there. Each move there is in a column of this run."""
     page.resize(1366, 768)
     page.open("#lesson=fifo-reader-waits-behind-writer&move=15&compare")
     shown = page.js("compared")
@@ -54,8 +54,8 @@ def test_turns_without_a_move(page):
 
 
 def test_a_click_beside_this_run(page):
-    """After its move 9 the reader has no turn there, so move 10 there is beside move 11 here. The
-    button goes to the first difference, which is move 4."""
+    """The reader skips its turn after move 9 on the other lock, so move 10 there is beside move 11
+    here. The button goes to the first difference, move 4."""
     page.resize(1366, 768)
     page.open("#lesson=fifo-reader-waits-behind-writer&move=15&compare")
     page.click("#other [data-move='10']")
@@ -85,8 +85,8 @@ def test_no_sign_covers_a_word(page, width, height, look):
 
 
 def test_what_it_needs(page):
-    """Where there is nothing to compare with it says what it needs, and offers each way: Play, a
-    schedule of the reader's own that was kept, and the lessons of the same lock."""
+    """Without another schedule the dialog says what a comparison needs, and offers each way: Play,
+    a kept schedule of the reader's own, and the lessons of the same lock."""
     page.open("#lesson=ticket-hand-over&move=5")
     page.show("#! title Mine\nlock ticket threads 2\n0 acquire\n0 add\n", 2)
     page.show("#! title Another lock\nlock mcs threads 1\n", 0)
@@ -101,7 +101,7 @@ def test_what_it_needs(page):
 
 
 def test_nothing_is_offered_to_itself(page):
-    """The other one of two schedules that are kept."""
+    """If two schedules are kept, the dialog offers only the one that is not shown."""
     page.open("#lesson=ticket-hand-over&move=5")
     for title, thread in [("First", 0), ("Second", 1)]:
         page.show(f"#! title {title}\nlock ticket threads 2\n{thread} acquire\n")
@@ -111,7 +111,7 @@ def test_nothing_is_offered_to_itself(page):
 
 @pytest.mark.parametrize("look", LOOKS)
 def test_a_chosen_schedule(page, look):
-    """A lesson of the same lock is above this one, in the same columns, up to the next C."""
+    """The chosen lesson is above this lesson in the same columns, until C is pressed again."""
     page.resize(1366, 768)
     page.open(f"#lesson=mcs-record-used-again&move=5{look}")
     page.press("c")
@@ -130,7 +130,7 @@ def test_a_chosen_schedule(page, look):
 
 
 def test_a_first_move_that_differs(page):
-    """Of two lessons whose first moves are of different threads."""
+    """Two lessons differ at move 1, which different threads make."""
     page.open("#lesson=ticket-hand-over&move=1")
     page.press("c")
     page.click("#choose-other [data-other='1']")

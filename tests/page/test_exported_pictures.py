@@ -1,5 +1,5 @@
-"""Pictures to take away: in the page's letters, with what was chosen, in one piece; several moves;
-and for LaTeX."""
+"""Exported pictures have the page's fonts, the chosen parts and no gaps; there are strips and
+animations of several moves, and pictures for LaTeX."""
 import shutil
 import subprocess
 import xml.etree.ElementTree
@@ -17,7 +17,7 @@ def tree_of(page, *parts):
 
 
 def texts(tree):
-    """The words of each text of a picture; its style is none."""
+    """The words of each text element of a picture."""
     found = tree.iter("{http://www.w3.org/2000/svg}text")
     return [" ".join(" ".join(one.itertext()).split()) for one in found]
 
@@ -27,7 +27,7 @@ def words(tree):
 
 
 def test_in_letters_of_its_own(page):
-    """Each text is in letters that the picture has."""
+    """The picture embeds the fonts of all its texts."""
     page.open(LATE_LINK)
     assert "url(data:font/woff2;base64," in page.js("taken", "svg", EVERYTHING)
     families = page.js("alone", EVERYTHING)["families"]
@@ -45,22 +45,23 @@ def test_what_was_chosen(page):
 
 
 def test_the_band_has_no_gap(page):
-    """It goes under the move from its number to the last lane."""
+    """The band under the move goes from its number to the last lane without a gap."""
     page.open(LATE_LINK)
-    (_, above), (below, _) = page.js("alone", [])["bands"][:2]
-    assert below <= above
+    shown = page.js("alone", [])
+    (_, above), (below, end) = shown["bands"][:2]
+    assert below <= above and end > max(lane for _, lane in shown["lanes"]) + 20, shown
 
 
 @pytest.mark.parametrize("width", [1024, 1440])
 def test_marks_are_in_the_picture(page, width):
-    """In as many rows as they need, each of which begins at the left."""
+    """The marks of the legend take as many rows as they need, all inside the picture."""
     page.resize(width, 800)
     page.open(LATE_LINK)
     assert page.js("alone", ["legend"])["outside"] == []
 
 
 def test_the_theme(page):
-    """It is that of the page, whatever the system has."""
+    """A picture has the theme of the page, not of the system."""
     grounds = []
     for theme in ["light", "dark"]:
         page.open(f"{LATE_LINK}&theme={theme}")
@@ -79,8 +80,35 @@ def test_an_open_question_is_asked_about(page):
     assert not page.js("asks")
 
 
+@pytest.mark.parametrize("lesson, move", [
+    ("mcs-late-link", 9), ("fifo-reader-waits-behind-writer", 6)])
+@pytest.mark.parametrize("what, parts", [("svg", ["code"]), ("strip", [])])
+def test_nothing_is_outside(page, lesson, move, what, parts):
+    """All lines of the code are inside the picture, and all memories are inside the strip."""
+    page.open(f"#lesson={lesson}&move={move}")
+    shown = page.js("alone", parts, what)
+    assert len(shown["inside"]) > 16 and shown["outside"] == [], shown
+
+
+def test_which_moves_are_offered(page):
+    """The dialog offers the shown move with the three before it, or the first three moves."""
+    page.open(LATE_LINK)
+    for move, offered in [(0, ["0", "3"]), (1, ["0", "3"]), (9, ["6", "9"])]:
+        page.go(move)
+        page.press("t")
+        assert [page.js("value", f"#take-{end}") for end in ("from", "to")] == offered, move
+        page.press("Escape")
+
+
+def test_a_strip_from_the_start(page):
+    """The first memory of a strip may be that before the first move."""
+    page.open("#lesson=mcs-late-link&move=0")
+    said = texts(xml.etree.ElementTree.fromstring(page.js("taken", "strip", [])))
+    assert "0 All words are 0, and the queue is empty." in said, said
+
+
 def test_a_strip(page):
-    """Memory after each of the moves, with the link that is missing from move 8 on."""
+    """A strip has the memory after each move, and shows from move 8 on that a link is missing."""
     page.open("#lesson=mcs-late-link&move=10")
     page.press("t")
     page.js("closeDialog", "take")
@@ -91,7 +119,7 @@ def test_a_strip(page):
 
 
 def test_an_animation(page):
-    """An APNG with a frame for each move, which the browser shows."""
+    """An animation is an APNG with a frame for each move, which the browser shows."""
     page.open(LATE_LINK)
     shown = page.js("animation", 5, 8)
     kinds = shown["kinds"]
@@ -101,7 +129,7 @@ def test_an_animation(page):
 
 
 def test_dashes_for_latex(page):
-    """A failed poll is dashed, of which there are two, and nothing else that is round."""
+    """The two failed polls are dashed circles, and nothing else is."""
     page.open("#lesson=mcs-late-link&move=12")
     lines = page.js("taken", "tikz", []).splitlines()
     dashed = [line for line in lines if "dash pattern=on 3pt off 2.3pt" in line]
@@ -109,18 +137,22 @@ def test_dashes_for_latex(page):
 
 
 def test_signs_of_latex(page):
-    """Each sign that has a meaning in LaTeX is written as itself."""
+    """Each character that is special in LaTeX is escaped."""
     page.open()
     page.show("#! title R&D, 5 % of #1_a, $2, {b}^c~d\\\nlock ticket threads 1\n0 acquire\n", 1)
-    assert "{R\\&D, 5 \\% of \\#1\\_a, \\$2, \\{b\\}\\^{}c\\~{}d\\textbackslash{}};" in (
-        page.js("taken", "tikz", ["title"]))
+    lines = page.js("taken", "tikz", ["title"]).splitlines()
+    [title] = [line for line in lines if line.endswith(
+        "{R\\&D, 5 \\% of \\#1\\_a, \\$2, \\{b\\}\\^{}c\\~{}d\\textbackslash{}};")]
+    assert "font=\\sffamily\\bfseries\\fontsize{20}{20}" in title, title
+    assert any("font=\\ttfamily\\fontsize" in line and line.endswith("{now\\_serving};")
+               for line in lines), lines
 
 
 @pytest.mark.skipif(not shutil.which("pdflatex"), reason="needs texlive-latex-base and pgf")
 @pytest.mark.parametrize("lesson, move", [
     ("ticket-wraps-at-2-bits", 23), ("mcs-late-link", 13), ("fifo-counts-wrap-at-2-bits", 16)])
 def test_for_latex(page, lesson, move, tmp_path):
-    """pdflatex takes it without an error, and the words of the picture are in its page."""
+    """pdflatex accepts the picture, and the PDF has words of it."""
     page.open(f"#lesson={lesson}&move={move}")
     (tmp_path / "state.tex").write_text(page.js("taken", "tikz", EVERYTHING), "utf-8")
     subprocess.run(["pdflatex", "-halt-on-error", "-interaction=batchmode", "state.tex"],
@@ -134,7 +166,7 @@ def test_for_latex(page, lesson, move, tmp_path):
     ("en", "Only the first 40 of 65 are drawn, up to move 49."),
     ("de", "Nur die ersten 40 von 65 werden gezeichnet, bis Zug 49.")])
 def test_more_moves_than_are_drawn(page, language, said):
-    """It is said where one asks for them, and again when they are saved."""
+    """The page says how many moves it draws, in the dialog and again when it saves them."""
     page.open(f"{LATE_LINK}&lang={language}")
     page.show("lock mcs threads 2\n0 acquire\n0 write\n0 swap\n1 acquire\n1 write\n1 swap\n"
               "1 write\n1 write\n" + "1 read\n" * 92)

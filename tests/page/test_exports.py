@@ -1,4 +1,4 @@
-"""Exports: pictures, the report, a frame; and what the page says of itself."""
+"""Exports: pictures, the report and a frame; and what the page says about itself."""
 import xml.etree.ElementTree
 
 import pytest
@@ -9,8 +9,8 @@ LATE_LINK = "#lesson=mcs-late-link&move=9"
 
 
 def test_the_picture(page):
-    """It is well formed, and has the moves and the words of memory of the state. What answers a
-    question is in it once the answer is shown."""
+    """The picture is well-formed, and has the moves and the words of memory. It shows the answer to
+    a question only after the page does."""
     page.open(LATE_LINK)
     assert "no link" not in page.js("take", "svg")[1]
     page.press("a")
@@ -32,7 +32,7 @@ def test_the_picture_of_points(page):
 
 
 def test_how_sharp_the_picture_is(page):
-    """It has two points for one of the drawing."""
+    """The picture has two pixels for each unit of the drawing, in both directions."""
     page.open(LATE_LINK)
     drawing = xml.etree.ElementTree.fromstring(page.js("take", "svg")[1].encode("latin-1"))
     head = page.js("take", "png")[1][16:24].encode("latin-1")
@@ -47,14 +47,16 @@ def test_the_report_and_the_schedule(page, what, name):
     assert page.js("take", what) == [name, (EXAMPLES / f"mcs-late-link.{what}").read_text("ascii")]
 
 
-def test_the_frame(page):
-    page.open(LATE_LINK)
+@pytest.mark.parametrize("look", ["", "&hall&future&show=time,now&theme=dark"])
+def test_the_frame(page, look):
+    """The frame has its own look in place of that of the page."""
+    page.open(f"{LATE_LINK}{look}")
     frame = page.js("copied", "frame")
     assert "#lesson=mcs-late-link&amp;move=9&amp;embed&amp;show=memory,code" in frame, frame
 
 
 def test_tips_and_speeds(page):
-    """Each control of the foot has a tooltip, and the speed is chosen by key."""
+    """Each control of the foot has a tooltip of its own, and keys choose the speed."""
     page.open("#lesson=mcs-late-link&move=0")
     tips = page.js("tips")
     assert len(tips) == 6 and all(tips) and len(set(tips)) == 6, tips
@@ -66,7 +68,7 @@ def test_tips_and_speeds(page):
 
 
 def test_names_of_controls(page):
-    """A control's name and its key are two words."""
+    """A space is between the name of a control and its key."""
     page.open()
     assert {"Lessons O", "Play G", "Keys ?", "Undo U"} <= set(page.js("withKeys"))
 
@@ -83,7 +85,7 @@ def test_who_it_is(page):
 
 
 def test_words_of_the_report(page):
-    """The outcome is the report's word, with plain words beside it."""
+    """The page shows the outcome in the word of the report, and in plain words beside it."""
     page.open(LATE_LINK)
     shown = [page.text(part) for part in [
         "#now .outcome", "#now .plain", "#code h2", "#now dt:last-of-type"]]

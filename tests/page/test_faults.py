@@ -1,9 +1,9 @@
-"""Schedules of one's own: faults and refusals in words, what is offered in their place, markup."""
+"""Schedules of the reader's own: messages on faults and refusals, corrections, and markup."""
 import pytest
 
 HEADER = "lock ticket threads 2\n"
 CALLED = f"{HEADER}0 acquire\n"
-# A text, the line that is marked, how many moves come before it, and the message.
+# A text, the marked line, the number of moves before it, and parts of the message.
 FAULTS = [
     ("lock MCS threads 2\n0 acquire\n", 1, 0,
      ["Unknown lock MCS", "Did you mean “mcs”?", "BadHeader"]),
@@ -60,7 +60,7 @@ REFUSALS = [
     (f"{CALLED}0 read\n", 3, 1,
      ["not the next step of thread 0", "make the step “add”", "WrongStep next add"]),
 ]
-# A line that is no move, and the move that is offered in its place.
+# A line that is no move, and the move that the page offers in its place.
 NEAR_MISSES = {
     "0: acquire": "0 acquire", "0:acquire": "0 acquire", "acquire 0": "0 acquire",
     "acquire(1)": "1 acquire", "1 acquire()": "1 acquire", "thread 1 acquire": "1 acquire",
@@ -71,7 +71,7 @@ NEAR_MISSES = {
 
 
 def test_what_is_said(page):
-    """Of each text; the moves before its mistake can be stepped through."""
+    """The page marks the wrong line of each text, says why, and plays the moves before it."""
     page.open()
     for text, line, count, parts in FAULTS + REFUSALS:
         page.js("open", text)
@@ -81,14 +81,24 @@ def test_what_is_said(page):
         assert shown["moves"] == count, (text, shown)
         for part in parts:
             assert part in shown["verdict"], (text, part, shown["verdict"])
+        assert ("before it can be stepped through" in shown["verdict"]) == (count > 0), text
         if count:
             page.js("go", 0)
             page.js("click", "#forward")
             assert page.text("#position") == f"1 of {count}", text
 
 
+def test_it_is_said_once(page):
+    """The panel of the text says what is wrong, or, if it is closed, the place of the parts."""
+    page.open()
+    page.js("open", "lock clh threads 2\n")
+    assert page.js("places") == ["verdict"]
+    page.press("e")
+    assert page.js("places") == ["nothing-verdict"]
+
+
 def test_the_line_that_is_wrong_has_a_band(page):
-    """As tall as the line, beside its number."""
+    """The band of a wrong line is as tall as its number, and beside it."""
     page.open()
     page.js("open", f"{CALLED}0 addd\n0 read\n")
     band, number = page.js("bandAndNumber")
@@ -115,7 +125,7 @@ def test_carriage_returns_are_removed(page):
 
 
 def test_near_misses(page):
-    """A move in another order or with other signs is offered as it should be, if it is plain."""
+    """If a line clearly means a move, in another order or with other signs, the page offers it."""
     page.open()
     offered = {}
     for line in NEAR_MISSES:
@@ -157,7 +167,7 @@ def test_markup_is_text(page):
     f"{HEADER}0 {'x' * 5000}\n", f"lock {'y' * 900} threads 2\n", f"{'9' * 300} add\n"],
     ids=["move", "lock", "number"])
 def test_a_long_word_stays_inside(page, text):
-    """Any text found in a line is broken where the panel ends."""
+    """A long word from a line of the text breaks at the edge of the panel."""
     page.open()
     page.js("open", text)
     assert page.js("wide") == []

@@ -1,7 +1,8 @@
-"""A moment is looked for: by a kind of transition, by lines, and what is said if there is none.
+"""The page finds a moment by a kind of transition or by lines, or says that there is none.
 
-Lengths and states are those of tests/rows/kinds.txt and tests/rows/sketches.txt. Then what can
-happen next: from a new lock of two threads as soon as kinds.txt says, and in a lesson by hand.
+tests/rows/kinds.txt and tests/rows/sketches.txt have the lengths and the counts of states. The page
+also lists what can happen next: from a new lock of two threads after as many moves as kinds.txt
+says, and in a lesson after as many as are counted by hand.
 """
 import pytest
 
@@ -18,7 +19,7 @@ def rows_of(name, lock):
 
 
 def ask(page, **fields):
-    """Opens the dialog, fills in fields in this order, and presses its button."""
+    """Opens the dialog, fills in the fields in this order, and presses the button."""
     page.press("m")
     sketch = page.js("fill", list(fields.items()))
     page.click("#find-search")
@@ -26,13 +27,13 @@ def ask(page, **fields):
 
 
 def shown_lines(page):
-    """The view, and the lines of its text that are no comments."""
+    """The view, and the lines of its text without comments."""
     shown = page.shown()
     return shown, [line for line in shown["text"].splitlines() if not line.startswith("#")]
 
 
 def test_a_kind_is_found(page):
-    """At its last move, which is the one looked for; Undo brings the lesson back."""
+    """The page opens the run at its last move, the one of the kind. Undo brings the lesson back."""
     page.open(HAND_OVER)
     assert "cas failed" in ask(page, lock="mcs", kind="12")
     page.becomes("release: failed compare-and-swap", "text", "#title")
@@ -46,7 +47,7 @@ def test_a_kind_is_found(page):
 
 @each_lock
 def test_each_kind_is_opened_at_its_move(page, lock):
-    """Also if the shortest run of its sketch goes on, as after an entry with a call."""
+    """The page opens a run at the move of the kind, even if the run has moves after it."""
     page.open(HAND_OVER)
     for at, (_, name, length, *_) in enumerate(rows_of("kinds.txt", lock)):
         ask(page, lock=lock, kind=str(at))
@@ -71,11 +72,14 @@ def test_lines_go_with_their_lock(page):
 
 
 def test_what_was_filled_in_stays(page):
-    """The dialog is opened again as it was left, until another lock is shown."""
+    """The dialog keeps what was filled in, until the page shows another lock."""
     page.open(HAND_OVER)
     page.press("m")
     page.js("fill", [["lock", "mcs"], ["kind", "12"]])
-    page.press("Escape", "m")
+    page.press("Escape")
+    page.becomes(0, "count", "#find[open]")
+    page.press("m")
+    assert page.js("count", "#find[open]") == 1
     assert page.js("value", "#find-lock") == "mcs"
     assert "cas failed" in page.js("value", "#find-sketch")
     page.press("Escape")
@@ -86,7 +90,7 @@ def test_what_was_filled_in_stays(page):
 
 
 def test_lines_of_ones_own(page):
-    """By thread, word and value, over more threads and rounds than are shown."""
+    """The reader looks for lines of a lock with more threads than the shown lesson."""
     page.open(HAND_OVER)
     ask(page, lock="mcs", threads="3", sketch="2 swap\n# then\n1 cas failed")
     page.becomes("2 swap; # then; 1 cas failed", "text", "#title")
@@ -97,8 +101,8 @@ def test_lines_of_ones_own(page):
 
 @each_lock
 def test_a_line_of_the_report(page, lock):
-    """The shortest run to a step with an outcome, by the rows of all kinds that have both. A call
-    has no outcome of its own."""
+    """A line may be a step with an outcome. Its shortest run is the shortest among the kinds with
+    this step and outcome. A call has no outcome of its own."""
     wanted = {}
     for phases, _, length, *_ in rows_of("kinds.txt", lock):
         _, word, outcome, _ = phases.split()
@@ -113,7 +117,7 @@ def test_a_line_of_the_report(page, lock):
 
 
 def test_outcomes_of_two_lines(page):
-    """The second thread swaps by move 6; its poll, the third step after that, is move 9."""
+    """The second thread swaps at move 6, and its poll, the third step after that, is move 9."""
     page.open(HAND_OVER)
     ask(page, lock="mcs", threads="2", sketch="* swap moved\n* read waits")
     page.becomes("* swap moved; * read waits", "text", "#title")
@@ -121,7 +125,7 @@ def test_outcomes_of_two_lines(page):
 
 
 def test_moves_that_must_not_come(page):
-    """Thread 1 links itself by its fifth move, before thread 0 looks for it by its own fifth."""
+    """Thread 1 links itself in its fifth move, before thread 0 reads `next` in its own fifth."""
     page.open(HAND_OVER)
     ask(page, lock="mcs", threads="2", sketch="not * read waits\n0 read next found 2")
     page.becomes("not * read waits; 0 read next found 2", "text", "#title")
@@ -129,7 +133,7 @@ def test_moves_that_must_not_come(page):
 
 
 def test_the_example_in_the_box(page):
-    """It is a line that the lock has, and is searched for if nothing else is written."""
+    """The example is a line of the lock, and the page searches for it if the field is empty."""
     page.open("#lesson=mcs-late-link&move=3")
     assert ask(page) == ""
     example = page.js("attribute", "#find-sketch", "placeholder")
@@ -165,7 +169,7 @@ BOTH_LOCKED = "0 write locked of 1\n1 write locked of 0"
                "There is no such lock, the text is too long, or many threads need wider words."),
 })
 def test_what_is_answered(page, fields, answer):
-    """If there is no such run, or none can be asked for: the lesson stays."""
+    """If there is no such run or the question is wrong, the page says so and keeps the lesson."""
     page.open(HAND_OVER)
     ask(page, **fields)
     page.becomes(answer, "text", "#find-answer")
@@ -198,8 +202,8 @@ AFTER_THE_SWAP = {
 
 
 def what_is_next(page, wanted):
-    """In how many moves each kind can be reached, of those that are wanted. Gives all kinds, of
-    which the nearest come first."""
+    """Asserts that each wanted kind can be reached in as many moves as `wanted` says, and returns
+    all listed kinds, the nearest first."""
     listed = page.until("nextOf", len(wanted))
     lengths = [int(said.split()[1]) for _, said in listed]
     assert lengths == sorted(lengths), listed
@@ -219,7 +223,7 @@ def test_a_new_lock_reaches_every_kind(page, lock):
 
 
 def test_what_is_near_in_a_lesson(page):
-    """It is gone to by a click, and Undo comes back."""
+    """A click goes to the moment, and Undo comes back."""
     page.open("#lesson=mcs-late-link&move=8")
     page.press("g")
     page.click("#next-kinds summary")
@@ -233,7 +237,7 @@ def test_what_is_near_in_a_lesson(page):
 
 
 def test_what_is_near_is_that_of_the_move(page):
-    """Before the first move of a lesson it is what a new lock reaches."""
+    """The list belongs to the shown move: before the first move it is that of a new lock."""
     page.open("#lesson=mcs-late-link&move=8")
     page.press("g")
     page.click("#next-kinds summary")

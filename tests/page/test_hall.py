@@ -1,8 +1,8 @@
-"""Hall mode, frames for slides, and parts that are hidden: by key, by link and by choice."""
+"""Keys, links and choices lead to hall mode, to frames for slides, and to hidden parts."""
 import pytest
 
 SCREENS = [(1024, 768), (1280, 720), (1366, 768), (1440, 900), (1920, 1080)]
-# A state of each lock with as much in its picture as its lessons have.
+# A state of each lock whose picture has as much in it as any of its lessons.
 STATES = [
     ("mcs-third-linked-before-second", 12), ("ticket-wraps-at-2-bits", 23),
     ("simple-second-writer", 6), ("fifo-counts-wrap-at-2-bits", 16)]
@@ -13,7 +13,7 @@ LATE_LINK = "#lesson=mcs-late-link&move=9"
 
 @pytest.mark.parametrize("width, height", SCREENS)
 def test_letters_are_large(page, width, height):
-    """Every letter that is seen has 2.5 % of the screen's height; the line of code is in view."""
+    """Every visible letter has 2.5 % of the screen's height, and the line of code is in view."""
     page.resize(width, height)
     first, *others = [(*state, PAIRS[0]) for state in STATES]
     for lesson, move, pair in [(*first[:2], pair) for pair in PAIRS] + others:
@@ -43,21 +43,39 @@ def test_by_key(page):
 
 
 def test_two_parts_are_chosen(page):
-    """In a hall, of which the first goes for a third."""
+    """Hall mode shows two parts. A chosen third part replaces the first."""
     page.open(f"{LATE_LINK}&hall")
     page.js("choosePart", "now")
-    assert page.js("parts") == ["code", "now"]
+    assert page.js("parts") == page.js("partsTicked") == ["code", "now"]
+
+
+def test_large_letters_are_chosen(page):
+    """Hall mode that is chosen from the list begins with its own two parts, as by key."""
+    page.open(f"{LATE_LINK}&show=time,memory,now")
+    page.js("choosePart", "hall")
+    assert not page.js("header") and page.js("parts") == ["memory", "code"]
+    page.until("addressEnds", "&move=9&hall")
 
 
 def test_a_link_to_more_than_two_parts(page):
-    """In a hall the first two of them are shown."""
+    """Hall mode shows the first two parts of the link."""
     page.open(f"{LATE_LINK}&hall&show=time,memory,code,now")
     assert page.js("parts") == ["time", "memory"]
 
 
+@pytest.mark.parametrize("key", ["e", "g"])
+def test_beside_a_form(page, key):
+    """On the narrowest screen memory is above the code, and nothing of it is cut."""
+    page.resize(1024, 768)
+    page.open("#lesson=ticket-hand-over&move=3&hall")
+    page.press(key)
+    shown = page.js("inView")
+    assert shown["parts"] == ["memory", "code"] and not shown["cut"], shown
+
+
 @pytest.mark.parametrize("mode", ["", "g", "e", "q"])
 def test_parts_are_chosen(page, mode):
-    """Elsewhere as many as the reader wants."""
+    """Outside hall mode a reader chooses any number of parts."""
     page.open(LATE_LINK)
     page.press(*mode)
     page.js("choosePart", "code")
@@ -69,7 +87,7 @@ def test_parts_are_chosen(page, mode):
 
 @pytest.mark.parametrize("key", ["g", "e", "a"])
 def test_the_line_stays_in_view(page, key):
-    """If a panel opens beside the code or an answer above it, or if the window is made lower."""
+    """The line stays in view beside a panel, below an answer, and in a lower window."""
     page.resize(1280, 720)
     page.open(LATE_LINK)
     page.press(key)
@@ -80,7 +98,7 @@ def test_the_line_stays_in_view(page, key):
 
 @pytest.mark.parametrize("look", ["", "&hall&show=time,now"])
 def test_story_and_moves_to_come(page, look):
-    """They are shown when they are asked for."""
+    """The story and the later moves appear when a key asks for them."""
     page.open(f"#lesson=mcs-late-link&move=0{look}")
     shown = page.js("story")
     assert shown["story"] == shown["faint"] == shown["marks"] == 0, shown
@@ -92,7 +110,7 @@ def test_story_and_moves_to_come(page, look):
 
 
 def test_an_answer_is_not_given_away(page):
-    """What answers a question is shown when it is asked for."""
+    """The page shows the parts that answer a question only with the answer."""
     page.open("#lesson=mcs-late-link&move=8")
     shown = page.js("story")
     assert shown["links"] == shown["answers"] == 0 and "only Bob" not in shown["caption"], shown
@@ -102,7 +120,7 @@ def test_an_answer_is_not_given_away(page):
 
 
 def test_a_frame_for_a_slide(page):
-    """In 960 by 480 both parts are in sight, and no tools."""
+    """A frame of 960 by 480 shows both parts, and no tools."""
     page.resize(960, 480)
     for lesson, move in STATES:
         page.open(f"#lesson={lesson}&move={move}&embed&show=memory,code")
@@ -114,8 +132,8 @@ def test_a_frame_for_a_slide(page):
 
 
 def chosen_and_opened_again(page):
-    """Chooses the light theme, opens the link without it, and says whether a mark of this test, set
-    before, is still stored. Chromium at times loses all that was stored, by whomever, at a load."""
+    """Chooses the light theme, opens the link without it, and tells whether a mark that this test
+    stored is still there. Chromium sometimes loses all stored data at a load."""
     page.open(f"{LATE_LINK}&theme=dark")
     assert page.js("theme") == "dark"
     page.js("mark")
@@ -129,8 +147,8 @@ def chosen_and_opened_again(page):
 
 @pytest.mark.parametrize("letters", ["soon", "late"])
 def test_a_theme_in_the_link(page, letters):
-    """It is in the link once it is chosen, and the browser remembers it; also if the letters, for
-    which the page waits, come late."""
+    """The link has a chosen theme, and the browser remembers it, even if the fonts come late, for
+    which the page waits."""
     if letters == "late":
         page.before("delayLetters")
     assert any(chosen_and_opened_again(page) for _ in range(5)), "the browser stores nothing"
@@ -146,8 +164,44 @@ def test_the_link_comes_before_what_was_chosen(page):
 
 
 def test_the_theme_button_names_the_other(page):
-    """After a link with a theme, and after one without, whose theme is the system's."""
+    """The button names the other theme after a link with a theme, and after a link without one."""
     page.open(f"{LATE_LINK}&theme=dark")
     assert page.text("#theme").startswith("Light")
     page.js("follow", LATE_LINK)
     assert page.js("theme") == "" and page.text("#theme").startswith("Dark")
+
+
+TRACE_IN_A_HALL = "#lesson=ticket-hand-over&hall&show="
+TRACE = """lock ticket threads 2
+0 acquire
+0 add next_ticket found 0
+1 acquire
+1 add next_ticket found 0
+"""
+
+
+def test_a_trace(page):
+    """The bar has what was recorded, and at the refused step why the lock refuses it."""
+    page.open(f"{TRACE_IN_A_HALL}memory,code")
+    page.js("paste", TRACE)
+    page.shown(refused=True, moves=3)
+    refused = "The recorded run: add next_ticket found 0. The lock here: found 1."
+    assert page.text("#current") == (
+        f"✕ thread 1, add next_ticket found 0 refused ticket := add(next_ticket, 1) {refused}")
+    page.go(2)
+    assert page.text("#current") == (
+        "2 thread 0, add next_ticket found 0 ticket := add(next_ticket, 1)")
+    page.open(f"{TRACE_IN_A_HALL}now,code")
+    page.js("paste", TRACE)
+    page.shown(refused=True, moves=3)
+    assert refused not in page.text("#current") and refused in page.text("#now")
+
+
+def test_a_question_covers_recorded_values(page):
+    page.open(f"{TRACE_IN_A_HALL}memory,code")
+    page.js("paste", TRACE + "#! ask 2 hide facts : Which ticket?\n#! answer 2 : 0\n")
+    page.shown(refused=True, moves=3)
+    page.go(2)
+    assert page.text("#current").startswith("2 thread 0, add ticket := add")
+    page.press("a")
+    assert page.text("#current").startswith("2 thread 0, add next_ticket found 0 ticket := add")

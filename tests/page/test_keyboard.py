@@ -1,4 +1,4 @@
-"""The page by keys alone: not one click. What the list of keys says of each."""
+"""Keys alone do all that the page offers, without a click; and the list of keys explains each."""
 import pytest
 
 from tree import VERSION, cases
@@ -12,8 +12,12 @@ def test_slider(page):
     page.press("ArrowRight")
     page.shown(position="5 of 16")
     assert page.js("value", "#slider") == "5"
+    left, knob, right = page.js("track")
+    assert left < knob < right and page.js("passed") == [left, knob]
     page.js("slide", 12)
     page.shown(position="12 of 16")
+    further = page.js("track")[1]
+    assert further > knob and page.js("passed") == [left, further]
 
 
 def test_moving(page):
@@ -24,6 +28,19 @@ def test_moving(page):
             ("-", 8)]:
         page.press(key)
         page.shown(position=f"{move} of 16")
+
+
+def test_zoom(page):
+    """+ and = make the columns wider, and - makes them narrower, both up to a bound."""
+    page.open(f"{LATE_LINK}8")
+    widths = [page.js("columnWidth")]
+    for key in "+=--":
+        page.press(key)
+        widths.append(page.js("columnWidth"))
+    assert widths[0] < widths[1] < widths[2] and widths[2:] == widths[2::-1], widths
+    for key, bound in [("+", min(120, 2.5 * widths[0])), ("-", 0.4 * widths[0])]:
+        page.press(*key * 12)
+        assert abs(page.js("columnWidth") - bound) <= 1, (key, widths)
 
 
 def test_running(page):
@@ -38,6 +55,8 @@ def test_running(page):
     page.becomes("true", *runs)
     page.press("Space")
     page.becomes("false", *runs)
+    page.press("Space")
+    page.shown(position="8 of 16")
 
 
 @cases("stops", {
@@ -45,7 +64,7 @@ def test_running(page):
     "undo": lambda page: page.press("u"), "another": lambda page: page.lesson("ticket-hand-over"),
     "edit": lambda page: page.js("write", "lock ticket threads 1\n0 acquire\n")})
 def test_what_stops_the_moves(page, stops):
-    """No move is made while one reads about a line, answers, or changes the text."""
+    """Running moves stop when the reader opens a dialog or quiz, undoes, or changes the text."""
     page.open(f"{LATE_LINK}0")
     page.lesson("mcs-record-used-again")
     page.press(",", "Space")
@@ -55,14 +74,14 @@ def test_what_stops_the_moves(page, stops):
 
 
 def test_running_from_the_end(page):
-    """Play begins anew there."""
+    """At the end, running begins anew from the first move."""
     page.open(f"{LATE_LINK}16")
     page.press(",", "Space", "Space")
     page.shown(position="0 of 16")
 
 
 def test_speed(page):
-    """A full stop is faster and a comma slower, up to the ends of the list."""
+    """A full stop makes the moves faster and a comma slower, up to the ends of the list."""
     page.open(f"{LATE_LINK}0")
     for key, speed in [(".", "2"), (".", "4"), (".", "4"), (",", "2"), (",", "1"), (",", "0.5"),
                        (",", "0.5"), (".", "1")]:
@@ -71,7 +90,7 @@ def test_speed(page):
 
 
 def test_speed_while_moves_run(page):
-    """The clock that goes is that of the new speed."""
+    """A new speed replaces the clock of the running moves."""
     page.before("keepClocks")
     page.open(f"{LATE_LINK}0")
     page.press(",", "Space")
@@ -80,6 +99,15 @@ def test_speed_while_moves_run(page):
     assert page.js("clocks") == [450]
     page.press("Space")
     assert page.js("clocks") == []
+
+
+def test_a_notice_has_its_time(page):
+    """A second notice is not hidden when the time of the first is over."""
+    page.before("keepClocks", "Timeout")
+    page.open(f"{LATE_LINK}0")
+    for _ in range(2):
+        page.js("paste", "no schedule")
+    assert page.js("clocks").count(4000) == 1
 
 
 def test_choosing_a_lesson(page):
@@ -123,7 +151,7 @@ def test_themes(page):
         page.becomes(theme, "theme")
 
 
-# An answer by keys alone: a choice, or a word.
+# An answer by keys alone: a chosen outcome, or a typed word.
 ANSWERS = {"outcome": "Space", "holders": "0", "queue": "0"}
 
 
@@ -138,7 +166,7 @@ def test_quiz(page):
     assert page.js("focused") == "forward", "Enter goes on"
 
 
-# A word of what each key does, and of what German says of it.
+# Words of the explanation of each key, in English and in German.
 KEYS = {
     "J": ("next question", "nächste Frage"), "N": ("lesson plans", "Unterrichtspläne"),
     "2": ("second window", "zweites Fenster"), "A": ("show the answer", "Antwort zeigen"),
@@ -154,12 +182,13 @@ KEYS = {
 
 @pytest.mark.parametrize("language", ["en", "de"])
 def test_the_list_of_keys(page, language):
-    """It says what each key does, and a tool that one points at says the same."""
+    """The list says what each key does, and the tip of a tool says the same."""
     page.open(f"{LATE_LINK}0&lang={language}")
     page.press("?")
     listed = dict(zip(page.js("texts", "#key-list dt"), page.js("texts", "#key-list dd")))
     said = {key: words[language == "de"] in listed[key] for key, words in KEYS.items()}
     assert all(said.values()), (said, listed)
+    assert page.js("count", "#sign-list svg") > 18 and page.js("wideSigns") == []
     tools = page.js("tools")
     assert len(tools) >= 14 and all(listed[key].lower() == title.lower()
                                     for key, title in tools.items()), (tools, listed)

@@ -1,5 +1,5 @@
-"""The page in German: every sentence is there, none has a hole, pictures have room for its words,
-and reports stay as they are."""
+"""The page in German: every sentence is translated, none has a hole, pictures have room for the
+words, and reports stay as they are."""
 import json
 import re
 
@@ -11,7 +11,7 @@ from tree import EXAMPLES
 GERMAN = "#lesson=mcs-late-link&move=0&lang=de"
 TRANSLATIONS = json.loads((EXAMPLES / "lessons.de.json").read_text("utf-8"))
 PLANS = json.loads((EXAMPLES / "plans.json").read_text("utf-8"))
-# Words of schedules and reports, names of files, and what has no word in it.
+# Texts that stay: words of schedules and reports, names of files, and texts without a word.
 THE_SAME = {f"page.{name}" for name in [
     "product", "shortThread", "outcomes", "wordBecomes", "spoken.did", "own.fileName",
     "own.template", "quiz.short", "quiz.fileName"]}
@@ -39,7 +39,7 @@ def test_no_holes(page):
 
 
 def test_lesson_plans(page):
-    """Each sentence of theirs, that of the homework too."""
+    """Every sentence of the lesson plans is translated, with those of the homework."""
     page.open(GERMAN)
     page.press("n")
     said = page.text("#plan-list")
@@ -53,7 +53,7 @@ def test_lesson_plans(page):
 @pytest.mark.parametrize("width, height, look", [
     (390, 844, ""), (1280, 720, ""), (1280, 720, "&hall"), (1440, 900, "")])
 def test_pictures_fit(page, width, height, look):
-    """German words are longer, and no word of a picture is cut for that."""
+    """German words are longer, and still no picture cuts one."""
     page.resize(width, height)
     page.open(f"{GERMAN}{look}")
     for name, report in LESSONS.items():
@@ -62,21 +62,21 @@ def test_pictures_fit(page, width, height, look):
 
 
 def test_by_the_address_and_back(page):
-    """The language stays in the address, and is chosen in the dialog that says who the page is."""
+    """The address keeps the language, and the dialog about the page changes it."""
     page.open("#lesson=mcs-late-link&move=9&lang=de")
     assert page.text("#now .say").startswith("Das compare-and-swap scheitert")
     page.go(10)
     page.becomes("#lesson=mcs-late-link&move=10&lang=de", "address")
     page.js("click", "#show-about")
     page.js("click", "#about [data-lang=en]")
-    page.wait(lambda: page.tried("language") == "en", lambda: "it stays German")
+    page.wait(lambda: page.tried(page.js, "language") == "en", lambda: "it stays German")
     page.becomes("#lesson=mcs-late-link&move=10&lang=en", "address")
 
 
 @pytest.mark.parametrize("wanted, language", [
     (["de-AT"], "de"), (["fr", "de"], "de"), (["en-GB", "de"], "en"), (["fr"], "en")])
 def test_the_language_of_the_browser(page, wanted, language):
-    """The first that the page has of those that the browser wants, in whatever country."""
+    """The page takes the first wanted language that it has, in the variant of any country."""
     page.before("want", wanted)
     page.open("#lesson=mcs-late-link&move=9")
     assert page.js("language") == language
@@ -84,7 +84,7 @@ def test_the_language_of_the_browser(page, wanted, language):
 
 @pytest.mark.parametrize("language, name", [("en", "English"), ("de", "Deutsch")])
 def test_the_language_is_pressed(page, language, name):
-    """At the start, and in the dialog that says who the page is."""
+    """The button of the language is pressed, at the start and in the dialog about the page."""
     page.open(f"#lang={language}")
     assert page.js("texts", "#lessons [data-lang][aria-pressed=true]") == [name]
     page.press("Escape")
@@ -92,8 +92,8 @@ def test_the_language_is_pressed(page, language, name):
     assert page.js("texts", "#about [data-lang][aria-pressed=true]") == [name]
 
 
-# How threads stand, in a lesson at a move: what German calls it by the report's line, in the room,
-# in a record's head, and below the lanes.
+# The German words for the standing of a thread: in lessons at a move, in the room or in the head
+# of a record, and below the lanes.
 STANDINGS = {
     "fifo-reader-waits-behind-writer&move=2": ("#memory-picture .room-name", "drinnen: liest"),
     "fifo-reader-waits-behind-writer&move=14": ("#memory-picture .room-name", "drinnen"),
@@ -113,15 +113,15 @@ def test_how_threads_stand(page):
     assert page.js("signs") == SIGNS
 
 
-# Words that German had besides the one for the same thing: Record, Zähler, drinnen, Reihenfolge,
-# Kopfzeile (a queue has a Kopf, its head), Trace, wieder bei 0.
+# Synonyms that German texts must not use. The words for these things are Record, Zähler, drinnen,
+# Reihenfolge, Kopfzeile (a queue has a Kopf, its head), Trace, wieder bei 0.
 OTHER_WORDS = re.compile(
     r"Eintrag|Zählung|\bdrin\b|[Ii]n (der|dieser|welcher) Folge\b|\bKopf (ist|erlaubt|beginnt)"
     r"|ist eine Spur|laufen um|als nächster|(?<![Dd]as )(?<![Ii]hr )\bflag (ist|war|setzt|gesetzt)")
 
 
 def test_one_word_for_each_thing(page):
-    """In all that German says, which is in the page's body."""
+    """The German texts, which are in the page's body, have one word for each thing."""
     page.open(GERMAN)
     said = page.text("body").replace("' + '", "")
     assert "flag gesetzt" in said and TRANSLATIONS["The late link"] in said
@@ -129,7 +129,7 @@ def test_one_word_for_each_thing(page):
 
 
 def test_titles_of_what_is_refused(page):
-    """They are German, but for the fault's own name."""
+    """The titles of refused lessons are German, except for the name of the fault."""
     page.open("#lang=de")
     page.click(".refusals summary")
     said = page.text(".refusals")
@@ -143,7 +143,7 @@ def test_the_card_of_mcs(page):
 
 
 def test_comments_on_other_moves(page):
-    """That they are not in a link either is said in German too."""
+    """The German page also says that a link leaves out comments on other moves."""
     page.open(GERMAN)
     page.press("e")
     page.js("write", (EXAMPLES / "mcs-late-link.schedule").read_text().replace("1 swap", "1 read"))

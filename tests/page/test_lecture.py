@@ -1,5 +1,5 @@
-"""The lesson plans in the page: each step at its place, its answer by key, a clock, a second window
-for who gives the lecture; and the same plans in docs/GUIDE.md."""
+"""The lesson plans in the page: each step opens its place, and a key shows its answer; there are a
+clock and a second window for the lecturer; and docs/GUIDE.md has the same plans."""
 import json
 import re
 
@@ -13,7 +13,7 @@ LESSONS = {"ticket": "ticket-", "mcs": "mcs-", "rw-simple": "simple-", "rw-fifo"
 
 
 def begin(page, lock, language="en"):
-    """By key and click, as a lecturer does it."""
+    """Begins a plan by key and click, as a lecturer does."""
     page.open(f"#lesson=ticket-hand-over&move=0&lang={language}")
     page.press("n")
     assert page.js("isOpen")
@@ -21,14 +21,14 @@ def begin(page, lock, language="en"):
 
 
 def played(step):
-    """How many moves a step goes on with."""
+    """How many moves of a branch a step plays."""
     return len(step["play"].split(",")) if "play" in step else 0
 
 
 @pytest.mark.parametrize("width, height", [(1024, 768), (1366, 768), (1920, 1080)])
 @pytest.mark.parametrize("plan", PLANS, ids=list(LESSONS))
 def test_a_plan_step_by_step(page, plan, width, height):
-    """N goes on; each step has a question on the screen, and A shows its answer."""
+    """N goes to the next step. Each step has a question on the screen, and A shows its answer."""
     page.resize(width, height)
     begin(page, plan["lock"])
     for at, step in enumerate(plan["steps"], 1):
@@ -51,7 +51,7 @@ def test_a_plan_step_by_step(page, plan, width, height):
 
 @pytest.mark.parametrize("plan", PLANS, ids=list(LESSONS))
 def test_a_plan_in_german(page, plan):
-    """Its words are longer, and on the least screen none is cut, of controls neither."""
+    """German words are longer, and still the smallest screen cuts no text and no control."""
     page.resize(1024, 768)
     begin(page, plan["lock"], "de")
     for at in range(1, len(plan["steps"]) + 1):
@@ -63,7 +63,7 @@ def test_a_plan_in_german(page, plan):
 
 
 def test_what_a_question_asks_for_is_not_beside_it(page):
-    """Neither the next step of a thread nor, if it is asked for, that a writer is announced."""
+    """The page hides the fact for which a question asks, until the answer."""
     for lock, answer in [("mcs", "holds"), ("rw-fifo", "announced")]:
         page.resize(1024, 768)
         begin(page, lock)
@@ -73,7 +73,7 @@ def test_what_a_question_asks_for_is_not_beside_it(page):
 
 
 def test_memory_of_the_last_step_of_mcs(page):
-    """All of it is seen: three records, and a variable of one's own."""
+    """The whole memory is in view, with three records and a thread's own variable."""
     page.resize(1024, 768)
     begin(page, "mcs")
     page.press(*"nnnn")
@@ -83,7 +83,7 @@ def test_memory_of_the_last_step_of_mcs(page):
 @pytest.mark.parametrize("lock, further", [("mcs", 3), ("rw-fifo", 1)])
 @pytest.mark.parametrize("width, height", [(1024, 768), (1366, 768)])
 def test_a_step_that_compares(page, lock, further, width, height):
-    """Letters of its memory have 2 % of the screen's height, and a word its room above a lane."""
+    """Letters of the memory have 2 % of the screen's height, and lanes leave room for words."""
     page.resize(width, height)
     begin(page, lock)
     page.press(*"n" * further)
@@ -94,7 +94,7 @@ def test_a_step_that_compares(page, lock, further, width, height):
 
 
 def test_the_clock(page):
-    """It shows the minutes that are left of the plan, and after the end how many are over."""
+    """The clock shows the minutes left in the plan, and after its end the minutes over."""
     begin(page, "mcs")
     assert re.fullmatch(r"10:00|9:5\d", page.js("step")["clock"])
     page.js("wait", 11)
@@ -102,7 +102,7 @@ def test_the_clock(page):
 
 
 def test_the_clock_of_a_later_step(page):
-    """The third step of this plan begins with minute 4, so six are left."""
+    """The third step of this plan begins after 4 of 10 minutes, so six are left."""
     page.open()
     page.press("Escape", "n")
     page.click("#plans [data-plan='mcs'][data-step='2']")
@@ -110,7 +110,7 @@ def test_the_clock_of_a_later_step(page):
 
 
 def test_the_last_step(page):
-    """Its button says that no other one follows."""
+    """The button says that no other step follows."""
     begin(page, "mcs")
     for _ in range(4):
         assert page.text("#lecture [data-lecture=next]") == "Next step N"
@@ -119,7 +119,7 @@ def test_the_last_step(page):
 
 
 def test_the_step_before(page):
-    """It is at its own place again; before the first step there is none."""
+    """Back goes to the place of the step before, and stays at the first step."""
     begin(page, "mcs")
     first = page.js("step")["place"]
     page.press("n")
@@ -131,7 +131,7 @@ def test_the_step_before(page):
 
 
 def test_minutes():
-    """Each plan has ten, in at least five steps of its lock, and homework."""
+    """Each plan takes ten minutes, in at least five steps of its lock, and has homework."""
     assert [plan["lock"] for plan in PLANS] == list(LESSONS)
     for plan in PLANS:
         ends = [step["to"] for step in plan["steps"]]
@@ -141,7 +141,7 @@ def test_minutes():
 
 
 def test_links_of_the_guide(page):
-    """Each opens the place that its row names, as the page's own plan does."""
+    """Each link opens the place that the page's own plan has for this row."""
     links = re.findall(r"\]\(\.\./page/lockreplay\.html(#\S+?)\) \|", GUIDE)
     steps = [step for plan in PLANS for step in [*plan["steps"], plan["homework"]]]
     assert len(links) == len(steps) >= 25
@@ -152,9 +152,21 @@ def test_links_of_the_guide(page):
         assert shown["hall"] == ("move" in step) and shown["sheet"] != shown["hall"], (link, shown)
 
 
+@pytest.mark.parametrize("way", ["plan", "about"])
+def test_homework(page, way):
+    """The plans lead to the exercise sheet of the homework, without a dialog below it."""
+    page.open("#lesson=ticket-hand-over&move=3")
+    for button in {"plan": ["#plan"], "about": ["#show-about", "#about [data-plans]"]}[way]:
+        page.js("click", button)
+    assert page.js("texts", "dialog[open] > form h2") == ["Lesson plans"]
+    page.js("click", "#plans [data-sheet^=mcs-]")
+    assert page.js("texts", "dialog[open] > form h2") == ["Print"]
+    assert page.shown()["lesson"] == PLANS[1]["homework"]["lesson"]
+
+
 def test_a_second_window(page):
-    """Its reader sees the answer, the sentence on the move and the next move before the hall does;
-    its keys are the page's."""
+    """The second window shows the lecturer the answer, the sentence on the move and the next move
+    before the hall sees them. Its keys are the page's."""
     page.before("keepWindows")
     begin(page, "mcs")
     page.press("n", "2")
@@ -165,12 +177,14 @@ def test_a_second_window(page):
     assert page.js("step")["place"] == 9
     page.press("d")
     assert page.js("themeThere") == page.js("theme") != ""
+    page.js("wait", 11)
+    page.until("clockThereBegins", "−1:")
     page.js("closeThere")
 
 
 @pytest.mark.parametrize("held", ["ctrlKey", "metaKey", "altKey"])
 def test_copying_in_the_second_window(page, held):
-    """Its reader copies a text there, and the hall is not shown a comparison."""
+    """Control+C copies a text in the second window, and does not start a comparison in the hall."""
     page.before("keepWindows")
     page.open("#lesson=fifo-second-writer&move=6&lang=de")
     page.press("2")

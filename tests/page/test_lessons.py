@@ -1,5 +1,5 @@
-"""Each lesson is stepped through by key to its end. At each move the outcome, the holders and the
-line that the page shows are those of the lesson's report; also where the machine cannot run."""
+"""Keys step through each lesson to its end. At each move the page shows the outcome, the holders
+and the line of the lesson's report, even if the browser cannot run the machine."""
 import re
 
 import pytest
@@ -23,7 +23,7 @@ def compare(shown, move, report):
 
 
 def check_lesson(page, name, has_banner):
-    """Stepped through to its end, and once more, by which a refused move is shown."""
+    """Steps through a lesson to its end. One more step shows a refused move."""
     report = LESSONS[name]
     last, count = report.splitlines()[-1], len(moves_of(report))
     page.open(f"#lesson={name}&move=0")
@@ -53,14 +53,14 @@ def test_lesson(page, name):
 
 @each_lesson
 def test_without_the_machine(page, name):
-    """A browser without 64-bit WebAssembly memory: it is told so, and is shown the lessons."""
+    """A browser without 64-bit WebAssembly memory shows a banner, and all lessons."""
     page.before("withoutMachine")
     check_lesson(page, name, True)
 
 
 @pytest.mark.parametrize("name", ["ticket-wraps-at-2-bits", "mcs-late-link", "fifo-downgrade"])
 def test_memory_without_the_machine(page, name):
-    """Before the first move, after some, and at the end it is what the machine has."""
+    """The picture of memory is the same with and without the machine."""
     page.open(f"#lesson={name}")
     pictures = page.js("memoryAt", [0, 5, 99])
     page.before("withoutMachine")
@@ -79,7 +79,7 @@ def test_without_the_machine_nothing_is_played(page):
 
 
 def test_questions_are_asked(page):
-    """A question is at its move alone, its answer is hidden until it is asked for."""
+    """A question appears at its move alone, and its answer only after A."""
     page.open("#lesson=mcs-late-link&move=8")
     page.press("j")
     page.becomes("9 of 16", "text", "#position")
@@ -90,8 +90,8 @@ def test_questions_are_asked(page):
     page.becomes(0, "count", "#now .question")
 
 
-# By lesson and move: a swap, a compare-and-swap that fails, a write, an add that wraps, and
-# sections of one word and of two.
+# What moves wrote, by lesson and move: a swap, a failed compare-and-swap, a write, an add that
+# wraps, and sections that write one word and two.
 @cases("lesson, wrote", {
     "mcs": ("mcs-late-link", {
         3: "tail = Ann (was nil)", 8: "tail = Bob (was Ann)", 9: "no word",
@@ -103,12 +103,12 @@ def test_questions_are_asked(page):
     "german": ("mcs-late-link&lang=de", {8: "tail = Bob (war Ann)"}),
 })
 def test_what_was_there(page, lesson, wrote):
-    """Each word that a move wrote is said with what was there before."""
+    """The page names each word that a move wrote, with its old value."""
     page.open(f"#lesson={lesson}")
     assert page.js("wrote", list(wrote)) == list(wrote.values())
 
 
-# Sentences on some moves of the late link, with the threads that they name.
+# The sentences on some moves of the late link.
 SENTENCES = {
     8: "Bob swaps the tail and finds Ann; it is in the queue from here on, though no word of "
        "Ann's record says so.",
@@ -120,12 +120,12 @@ SENTENCES = {
 
 
 def test_what_a_move_did(page):
-    """Each sentence names the thread that moved, and the one whose word it is."""
+    """Each sentence names the thread that moved, and the thread whose word it is about."""
     page.open("#lesson=mcs-late-link")
     assert page.js("said", list(SENTENCES)) == list(SENTENCES.values())
 
 
-# Threads of a FIFO lock that have a section due, in the order of their numbers, and what for.
+# What threads of a FIFO lock with a due section want to do, in the order of their numbers.
 WANTS = {
     "0 rlock\n0 section\n0 runlock\n1 rlock\n": ["wants to stop reading", "wants to read"],
     "0 wlock\n0 section\n0 wunlock\n1 wlock\n": ["wants to stop writing", "wants to write"],
@@ -142,7 +142,7 @@ def test_what_is_wanted_at_the_monitor(page):
 
 
 def test_who_has_polled_in_vain(page):
-    """A writer waits for the reader inside; another reader has only called."""
+    """A failed poll is marked at the writer that waits, and not at the reader that only called."""
     page.open()
     page.show("lock rw-simple threads 3\n0 rlock\n0 section\n1 wlock\n1 section\n2 rlock\n", 5)
     assert page.js("texts", "#memory-picture .wants + .note") == ["failed poll"]
@@ -155,7 +155,7 @@ def test_who_has_polled_in_vain(page):
     "only the tail": ("mcs-late-link", 9, ["1"]), "both": ("mcs-late-link", 14, ["1", "1"]),
     "out of order": ("mcs-third-linked-before-second", 12, ["2", "2"])})
 def test_where_pointers_lead(page, lesson, move, records):
-    """The tail's to the last record, and a record's to the next one in the queue."""
+    """The tail points to the last record, and a record to its successor in the queue."""
     page.open(f"#lesson={lesson}&move={move}")
     page.press("a")
     page.becomes(records, "pointedAt")
@@ -165,7 +165,7 @@ def test_where_pointers_lead(page, lesson, move, records):
     "ticket": ("ticket-hand-over", 10, [[9, 10]]), "link": ("mcs-late-link", 14, [[13, 14]]),
     "grant": ("mcs-late-link", 16, [[13, 14], [15, 16]])})
 def test_what_ended_a_wait(page, lesson, move, arrows):
-    """An arrow leads from the write to the step that it let go on."""
+    """An arrow leads from the write that ended a wait to the step that waited."""
     page.open(f"#lesson={lesson}&move={move}")
     page.press("a")
     assert page.js("waitsEnded") == arrows

@@ -1,9 +1,10 @@
-"""64 threads and 65,536 moves: loaded within 1 s, stepped within 50 ms. In a text of 10,000 moves a
-key within a line takes 50 ms at most, an edit is settled soon, and what Undo keeps has a bound.
+"""The page loads 64 threads and 65,536 moves within 1 s, and makes a step within 50 ms. In a text
+of 10,000 moves a key within a line takes at most 50 ms, an edit takes effect soon, and Undo keeps a
+bounded amount.
 
-Loading goes from the bytes of the file to the page laid out, a step from the button's click to the
-page laid out; a step's time is the mean of twelve. The least of some rounds is bounded. If it is
-too long, more rounds are measured, so that other work on the machine counts little.
+A load lasts from the bytes of the file to the layout of the page, and a step from the click on the
+button to the layout; the time of a step is the mean of twelve. The bound holds for the shortest of
+some rounds. If that is too long, there are more rounds, since other work may delay the machine.
 """
 import random
 
@@ -26,7 +27,7 @@ def text_of(lock, threads, count):
 
 
 def least(measure, bounds):
-    """The least time of each key, pause or stretch, of some tries; one is enough if it is short."""
+    """The shortest time of each part over some tries, until all are within their bounds."""
     times = measure()
     for _ in range(TRIES - 1):
         if all(time <= bound for time, bound in zip(times, bounds, strict=True)):
@@ -49,11 +50,13 @@ def test_loads_and_steps(page, record_property, lock):
 
 
 def test_typing(page, record_property):
-    """Each key at the end of 10,004 moves, and each pause after it, in which the text is played.
+    """Measures each key at the end of 10,004 moves, and each pause after it, in which the page
+    plays the text.
 
-    The key that begins a line at the end of the text is bounded as a pause is. In Chromium it takes
-    twice the time of another key, 38 to 42 ms on a quiet processor and 60 on a loaded one, also in
-    a field to which nobody listens, and not in the middle of a text: that work is the browser's."""
+    The key that begins a line at the end of the text has the bound of a pause. In Chromium it takes
+    twice the time of another key: 38 to 42 ms on a quiet processor, 60 ms on a loaded one. A field
+    without listeners takes as long, and a key in the middle of a text does not, so this is the
+    browser's own work."""
     page.open()
     line = "1 read\n"
     bounds = [PAUSE_MS, PAUSE_MS] + [KEY_MS, PAUSE_MS] * (len(line) - 1)
@@ -74,7 +77,7 @@ def test_an_edit_of_a_long_text(page, record_property):
 
 
 def test_what_undo_keeps(page):
-    """The last choices, and no more than their bytes."""
+    """Undo takes back at least 20 of the last choices, and keeps at most MOST_BYTES bytes."""
     page.open()
     place, kept, size = page.js("undone", CHOICES)
     assert place == 60060 and 20 <= kept < CHOICES and size <= MOST_BYTES, (place, kept, size)

@@ -1,4 +1,4 @@
-"""Schedules made by clicks. What is so made is accepted by the program."""
+"""The program accepts schedules that a reader makes by clicks."""
 import random
 
 import pytest
@@ -35,7 +35,7 @@ def test_played_by_clicks(page, lockreplay, lock, threads, bits):
 
 
 def test_from_a_lesson(page, lockreplay):
-    """A choice in the middle of a lesson goes on from there, and undo brings the lesson back."""
+    """A choice in the middle of a lesson begins a branch, and undo brings the lesson back."""
     page.open("#lesson=mcs-late-link&move=9")
     page.click("#mode-play")
     before = page.shown()["area"]
@@ -53,7 +53,7 @@ def test_from_a_lesson(page, lockreplay):
     (9, "A choice here is the next move after move 9."),
     (16, "Choose who moves next. The machine plays what you choose.")], ids=["branch", "end"])
 def test_where_a_choice_goes_on(page, move, hint):
-    """Within a schedule it is a branch."""
+    """The hint says whether a choice begins a branch or adds a move at the end."""
     page.open(f"#lesson=mcs-late-link&move={move}")
     page.click("#mode-play")
     assert page.text("#choices .hint") == hint
@@ -63,7 +63,7 @@ def test_where_a_choice_goes_on(page, move, hint):
     "lock ticket threads 3 bits 2\n", "lock mcs threads 5", "lock rw-simple threads 4\n",
     "# a comment\nlock rw-fifo threads 3 bits 2\n\n"], ids=lambda it: it.split()[1])
 def test_never_refused(page, header):
-    """A hundred choices, each of those that are offered: none is refused."""
+    """The lock refuses none of a hundred choices among the offered ones."""
     page.open()
     page.show(header)
     page.click("#mode-play")

@@ -1,9 +1,9 @@
-"""Many threads: what moves is in view with its neighbours, and what is folded is counted."""
+"""With many threads the moving thread and its neighbours are in view, and folds count the rest."""
 import pytest
 
 from reports import moves_replayed, numbers_of
 
-# All threads wait for one that holds the lock; or all read, and one waits to write.
+# Calls after which all threads wait for the holder; or all read, and the last waits to write.
 CALLS = {
     "ticket": ("acquire", ["add", "read"]),
     "mcs": ("acquire", ["write", "swap", "write", "write"]),
@@ -26,7 +26,7 @@ def schedule(lock, threads):
 @pytest.mark.parametrize("lock", CALLS)
 @pytest.mark.parametrize("threads", [6, 9, 16, 28, 64])
 def test_what_moves_is_in_view(page, lockreplay, lock, threads):
-    """At the end, in the middle and at the beginning, in lessons and in Play."""
+    """The moving thread is in view at the end and in the middle, in lessons and in Play."""
     page.open()
     text, count = schedule(lock, threads)
     moves = moves_replayed(lockreplay, text)
@@ -44,6 +44,34 @@ def test_what_moves_is_in_view(page, lockreplay, lock, threads):
             assert any(letter.isdigit() for letter in shown["note"]), where
 
 
+def test_who_is_not_linked(page):
+    """The line that marks a thread as not linked is in the lower half of its own, low lane."""
+    page.open()
+    moves = [f"{thread} {word}\n" for thread in range(16) for word in ("acquire", "write", "swap")]
+    page.js("open", [f"lock mcs threads 16\n{''.join(moves)}", "lessons", 48])
+    shares = page.js("belowLines")
+    assert len(shares) >= 5 and all(0 < one < 0.5 for one in shares), shares
+
+
+def test_choices_are_in_view(page):
+    """Play shows the choices of the thread that moved last."""
+    page.open()
+    page.js("open", [schedule("ticket", 64)[0], "play", 999])
+    assert page.js("choiceInView", 63) and not page.js("choiceInView", 0)
+    page.go(3)
+    assert page.js("choiceInView", 0) and not page.js("choiceInView", 63)
+
+
+def test_the_chosen_lane_is_in_view(page):
+    """The lanes are scrolled to the one that is chosen by key, and a text counts the others."""
+    page.open()
+    page.js("open", ["lock ticket threads 16\n0 acquire\n", "play", 0])
+    assert page.text("#resting") == f"{16 - page.js('lanesInView')} lanes above or below"
+    page.js("focus", "#lanes")
+    page.press(*["ArrowDown"] * 16)
+    page.until("isChosenInView", 15)
+
+
 # Twenty threads take the lock one after another, in six moves each.
 ROUNDS = "".join(["lock ticket threads 20\n", *(
     f"{thread} {word}\n" for thread in range(20)
@@ -51,15 +79,34 @@ ROUNDS = "".join(["lock ticket threads 20\n", *(
 
 
 def test_idle_lanes_are_folded(page):
-    """Only threads that are busy in view have lanes."""
+    """Only threads that move in the visible columns have lanes."""
     page.open()
     page.js("open", [ROUNDS, "lessons", 120])
     shown = page.js("drawn")
     assert shown["lanes"] <= 6 and shown["note"].startswith(f"{20 - shown['lanes']} threads"), shown
 
 
+def test_who_waits_has_a_lane(page):
+    """A thread that holds or waits has a lane, even if all of its moves are out of view."""
+    page.open()
+    before = ROUNDS[:ROUNDS.index("18 acquire")]
+    waits = "18 acquire\n18 add\n18 read\n19 acquire\n19 add\n0 acquire\n0 add\n"
+    page.js("open", [before + waits + 60 * "0 read\n", "lessons", 175])
+    assert set(page.js("movesInView")[0]) <= set(range(116, 176))
+    assert page.js("texts", "#lanes .lane-name title") == ["thread 0", "thread 18", "thread 19"]
+
+
+def test_what_comes_is_in_view(page):
+    """Of a long schedule more moves before the shown one are in view than after it, but not all."""
+    page.open()
+    page.js("open", [ROUNDS, "lessons", 60])
+    numbered, _ = page.js("movesInView")
+    after = numbered[-1] - 60
+    assert len(numbered) / 4 < after < len(numbered) / 2, numbered
+
+
 def test_each_move_in_view_has_a_lane(page):
-    """Whichever move of its thread's round is the first or the last one in view."""
+    """Each visible move has a lane, whichever part of a round is first or last in view."""
     page.open()
     page.js("open", [ROUNDS, "lessons", 0])
     for move in range(90, 97):
@@ -72,7 +119,7 @@ def test_each_move_in_view_has_a_lane(page):
 # A writer of a read-write lock polls ten times.
 POLLS = ["0 rlock", "0 section", "1 wlock", *["1 section"] * 10, "0 runlock", "0 section",
          "1 section", "0 rlock", *["0 section"] * 9]
-# The ticket lock's widest numbers.
+# The widest numbers of the ticket lock.
 NUMBERS = ["0 acquire", "0 add", "0 read", "1 acquire", "1 add", *["1 read"] * 20]
 
 
@@ -80,7 +127,7 @@ NUMBERS = ["0 acquire", "0 add", "0 read", "1 acquire", "1 add", *["1 read"] * 2
 @pytest.mark.parametrize("lock, moves", [
     ("rw-simple", POLLS), ("rw-fifo", POLLS), ("ticket", NUMBERS)], ids=lambda it: str(it)[:9])
 def test_no_value_is_cut(page, lock, moves, mode):
-    """Below the marks of many moves, and in memory beside the choices of Play."""
+    """No value is cut below the marks of many moves, or in memory beside the choices of Play."""
     page.open()
     text = "\n".join([f"lock {lock} threads 2", *moves]) + "\n"
     page.js("open", [text, mode, len(moves)])
@@ -90,14 +137,14 @@ def test_no_value_is_cut(page, lock, moves, mode):
 @pytest.mark.parametrize("lock, call, line", [
     ("mcs", "acquire", "me.next := nil"), ("rw-fifo", "rlock", "await flag = 0")])
 def test_the_line_a_thread_makes_next(page, lock, call, line):
-    """It is marked there; of several lines of one step at the first."""
+    """A thread is marked at its next line, or at the first of several lines of one step."""
     page.open()
     page.show(f"lock {lock} threads 1\n0 {call}\n", 1)
     assert page.js("texts", "#code-lines .code-line:has(.disc) code") == [line]
 
 
 def test_marks_beside_a_line(page):
-    """Five of eight threads at one line of code are marked, and three counted."""
+    """Of eight threads at one line of code, five have marks, and a number counts the rest."""
     page.open()
     page.show("lock ticket threads 8\n" + "".join(f"{thread} acquire\n" for thread in range(8)), 8)
     assert page.js("texts", "#code-lines .more") == ["+3"]

@@ -1,5 +1,5 @@
-"""The daily work of a reader: the menu, files that are dropped, long titles and texts, phones,
-and low windows."""
+"""The daily work of a reader: the menu, dropped files, long titles and texts, phones, and low
+windows."""
 import pytest
 
 LESSON = "#lesson=mcs-late-link&move=3"
@@ -8,7 +8,7 @@ ONE = "lock mcs threads 2\n0 acquire\n"
 
 @pytest.mark.parametrize("width, height", [(390, 844), (1366, 768)])
 def test_the_menu_closes(page, width, height):
-    """With what is chosen, with a click elsewhere, and with Escape."""
+    """A choice, a click elsewhere and Escape close the menu."""
     page.resize(width, height)
     for away in ["#mode-quiz", "#position", None]:
         page.open(LESSON)
@@ -22,7 +22,7 @@ def test_the_menu_closes(page, width, height):
 
 
 def test_several_files(page):
-    """The first is shown, the others are listed with the lessons, and that is said."""
+    """The page shows the first dropped file, lists the others with the lessons, and says so."""
     page.open(LESSON)
     page.js("dropFiles", [
         ["a.txt", f"#! title First\n{ONE}"], ["b.txt", f"#! title Second\n{ONE}"]])
@@ -33,16 +33,17 @@ def test_several_files(page):
     assert "Second" in page.text("#lessons .kept")
 
 
-def test_twenty_files(page):
-    """All of them are kept, and listed."""
+@pytest.mark.parametrize("files, more", [(20, "8 more"), (13, "1 more")])
+def test_many_files(page, files, more):
+    """The browser keeps all dropped files, and the start lists them, the last ones in a fold."""
     page.open(LESSON)
-    page.js("dropFiles", [[f"{at}.txt", f"#! title Number {at}.\n{ONE}"] for at in range(20)])
-    assert "19 other files are kept" in page.until("text", "#notice")
+    page.js("dropFiles", [[f"{at}.txt", f"#! title Number {at}.\n{ONE}"] for at in range(files)])
+    assert f"{files - 1} other files are kept" in page.until("text", "#notice")
     page.press("Escape", "o")
-    assert page.js("texts", "#lessons .kept summary") == ["8 more"]
+    assert page.js("texts", "#lessons .kept summary") == [more]
     page.click("#lessons .kept summary")
     page.click("#lessons .kept details button:last-of-type")
-    assert page.text("#title") == "Number 19."
+    assert page.text("#title") == f"Number {files - 1}."
 
 
 @pytest.mark.parametrize("room, said", [
@@ -50,7 +51,7 @@ def test_twenty_files(page):
         "no room for more."),
     (0, "The 19 other files are not kept. The browser has no room for more.")])
 def test_files_without_room(page, room, said):
-    """It is said how many are kept, and those are listed. The one that is shown is the newest."""
+    """If the browser has no room, the page says how many files it keeps, and lists those."""
     page.before("leaveRoom", room)
     page.open(LESSON)
     page.js("dropFiles", [[f"{at}.txt", f"#! title Number {at}.\n{ONE}"] for at in range(20)])
@@ -60,7 +61,7 @@ def test_files_without_room(page, room, said):
 
 
 def test_a_long_title(page):
-    """It does not let page or start scroll sideways."""
+    """A long title makes neither the page nor the start scroll sideways."""
     page.resize(1366, 768)
     page.open(LESSON)
     page.show(f"#! title {'W' * 5000}\n{ONE}")
@@ -70,7 +71,7 @@ def test_a_long_title(page):
 
 
 def test_a_text_that_is_too_large(page):
-    """The text in its place is seen whole."""
+    """If a text is too large to edit, the whole message in its place is visible."""
     page.open(LESSON)
     page.show("lock ticket threads 2\n0 acquire\n0 add\n1 acquire\n1 add\n" + "1 read\n" * 65000)
     said, wrap = page.js("instead")
@@ -78,7 +79,7 @@ def test_a_text_that_is_too_large(page):
 
 
 def test_beginning_a_new_schedule(page):
-    """The button is in view, at 1366 by 768."""
+    """The button of the form is in view at 1366 by 768."""
     page.resize(1366, 768)
     page.open(LESSON)
     page.press("g")
@@ -97,7 +98,7 @@ def test_lines_have_numbers(page):
 
 
 def test_the_move_on_a_phone(page):
-    """Who holds and who is in the queue, the outcome in words, and the sentence."""
+    """A phone shows the holders, the queue, the outcome in words, and the sentence."""
     page.resize(390, 844)
     page.open("#lesson=mcs-late-link&move=10")
     parts = ["[data-holders]", "[data-queue]", ".plain", ".say"]
@@ -115,7 +116,7 @@ def test_how_one_begins(page, device, hint):
 
 
 def test_a_finger(page):
-    """To the left is a move forward, and no control is smaller than a finger."""
+    """A swipe to the left goes a move forward, and no control is smaller than a finger."""
     page.resize(390, 844)
     page.open("#lesson=mcs-late-link&move=10")
     page.js("swipe", -120)
@@ -126,16 +127,25 @@ def test_a_finger(page):
 
 
 def test_two_fingers(page):
-    """They make the page larger or smaller, and are no step."""
+    """Two fingers zoom the page, and make no step."""
     page.resize(390, 844)
     page.open("#lesson=mcs-late-link&move=10")
     page.js("swipe", -120, 2)
     assert page.js("place") == 10
 
 
+def test_a_finger_in_the_text(page):
+    """A finger that moves over the text scrolls the text, and makes no step."""
+    page.resize(390, 844)
+    page.open("#lesson=mcs-late-link&move=10")
+    page.press("e")
+    page.js("swipe", -120, 1, "text")
+    assert page.shown(mode="own")["place"] == 10
+
+
 @pytest.mark.parametrize("width, height", [(683, 384), (844, 390)])
 def test_nothing_is_off_a_low_screen(page, width, height):
-    """At 200 % zoom and on a phone on its side: title, menu, lanes and foot, at each move."""
+    """At 200 % zoom and on a phone on its side, title, menu, lanes and foot are on the screen."""
     page.resize(width, height)
     for move in (0, 9):
         page.open(f"#lesson=mcs-late-link&move={move}")
@@ -144,7 +154,7 @@ def test_nothing_is_off_a_low_screen(page, width, height):
 
 
 def test_ticks_that_would_be_a_bar(page):
-    """The slider shows each of few entries, and none of many."""
+    """The slider has a tick for each entry if there are few, and no ticks if there are many."""
     page.open("#lesson=ticket-wraps-at-2-bits&move=28")
     ticks = "#slider-picture .tick.enters"
     assert page.js("count", ticks) == 5
@@ -154,7 +164,7 @@ def test_ticks_that_would_be_a_bar(page):
 
 
 def test_without_the_machine(page):
-    """A tool that needs it cannot be chosen, and the banner goes if one asks."""
+    """Tools that need the machine are disabled, and the reader can close the banner."""
     page.before("withoutMachine")
     page.resize(1366, 768)
     page.open(LESSON)

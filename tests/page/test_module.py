@@ -1,4 +1,4 @@
-"""The page's module in Node, without the page; the first lines of a script say what it tests."""
+"""Runs the page's module in Node, without the page. The head of each script says what it tests."""
 import pytest
 
 from tree import TESTS, ran

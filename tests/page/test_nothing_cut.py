@@ -1,9 +1,10 @@
-"""Right at the first draw: opened by a link, each lesson at each move, on seven screens; and with
-letters of the system in place of the page's own, which a browser may block.
+"""A link to any move of any lesson draws a whole picture at once, on seven screens; and also with
+fonts of the system in place of the page's own, which a browser may block.
 
-No text is cut, and the current line of code, what moves in memory and the sentence are in view; a
-sentence that a question hides comes into view with the answer. Every eighth state is loaded;
-EVERY_MOVE=1 loads all. Those between are opened by their link in the page that is there.
+No text is cut, and the current line of code, the moving parts of memory and the sentence are in
+view; a sentence that a question hides comes into view with the answer. The browser loads every
+eighth state, different states on each screen, and follows the links between them in the open page.
+EVERY_MOVE=1 makes it load every state.
 """
 import os
 import re
@@ -15,22 +16,24 @@ from tab import PAGE
 from tree import EXAMPLES
 
 FEW = 40
-# Families of letters that systems have, and those of one width beside them.
+# Font families of systems, each with a monospaced family.
 FAMILIES = {"DejaVu Sans": "DejaVu Sans Mono", "Noto Sans": "DejaVu Sans Mono",
             "Liberation Sans": "Liberation Mono"}
 FACE = re.compile(r"@font-face \{[^}]*\}\n")
-# A lesson of each lock. Of its states every third is opened.
+# A lesson of each lock, of which the test opens every third state.
 OF_EACH_LOCK = ("mcs-late-link", "ticket-hand-over", "simple-reader-passes-writer",
                 "fifo-reader-waits-behind-writer")
 THIRD = 3
 EVERY = 1 if os.environ.get("EVERY_MOVE") else 8
-# The question of a move that hides the sentence on it.
+SCREENS = [(390, 844), (820, 1180), (1024, 768), (1280, 720), (1366, 768), (1440, 900),
+           (1920, 1080)]
+# A question that hides the sentence on its move.
 HIDES = re.compile(r"^#! ask (\d+) hide (?:\w+ )*sentence (?:\w+ )*:", re.MULTILINE)
 
 
 def states():
-    """The link to each lesson at each place, a refused move among them, and whether a question
-    hides the sentence there."""
+    """(link, whether a question hides the sentence) of each place of each lesson, with the places
+    of refused moves."""
     for name, report in LESSONS.items():
         text = (EXAMPLES / f"{name}.schedule").read_text("latin-1")
         asked = {int(move) for move in HIDES.findall(text)}
@@ -39,15 +42,16 @@ def states():
             yield f"#lesson={name}&move={place}", place in asked
 
 
-@pytest.mark.parametrize("width, height", [
-    (390, 844), (820, 1180), (1024, 768), (1280, 720), (1366, 768), (1440, 900), (1920, 1080)])
+@pytest.mark.parametrize("width, height", SCREENS)
 def test_each_lesson_at_each_move(page, width, height):
-    """A state that is loaded has a query of its own, by which the page is loaded anew."""
+    """The first state of a group has a query of its own, so the browser loads the page anew."""
     page.resize(width, height)
     wrong, links = {}, list(states())
+    first = SCREENS.index((width, height)) * EVERY // len(SCREENS)
+    links = links[first:] + links[:first]
     for at in range(0, len(links), EVERY):
         group = links[at:at + EVERY]
-        page.load(f"{PAGE.as_uri()}?{at}{group[0][0]}")
+        page.load(f"{PAGE.as_uri()}?state={at}{group[0][0]}")
         wrong.update(zip(group, page.js("wrongAt", group)))
     wrong = {link: found for link, found in wrong.items() if found}
     assert not wrong, (len(wrong), list(wrong.items())[:FEW])
@@ -55,7 +59,7 @@ def test_each_lesson_at_each_move(page, width, height):
 
 @pytest.fixture
 def without_letters(tmp_path):
-    """The page without its own letters: the letters of a system's families are in their place."""
+    """A copy of the page with font families of the system in place of its own fonts."""
     def made(letters, mono):
         text, count = FACE.subn("", PAGE.read_text(encoding="utf-8"))
         assert count == 6

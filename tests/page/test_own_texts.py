@@ -1,4 +1,4 @@
-"""Schedules of one's own: typed, files, what a text field would swallow."""
+"""The reader's own schedules: typed texts, files, and bytes that a text field would change."""
 import pytest
 
 HEAD = b"lock ticket threads 1\n0 acquire\n0 add\n"
@@ -6,7 +6,7 @@ MOST = 1048576  # bytes
 
 
 def test_typed(page):
-    """Text typed into the field is played as it is typed."""
+    """The page plays a text while the reader types it into the field."""
     page.open("#lesson=mcs-late-link&move=0")
     page.click("#mode-own")
     page.click("#clear")
@@ -36,8 +36,19 @@ def test_files(page, tmp_path, data, said, count):
     assert page.shown()["moves"] == count
 
 
+def test_a_file_that_was_changed(page, tmp_path):
+    """The same file can be chosen again, after another program has changed it."""
+    path = tmp_path / "schedule.txt"
+    page.open()
+    for text, end in [(HEAD, "end 2"), (HEAD + b"0 read\n", "end 3")]:
+        path.write_bytes(text)
+        page.choose_file("#file", path)
+        page.until("verdictEnds", end)
+        assert page.js("value", "#file") == ""
+
+
 def test_a_title_by_default(page):
-    """It is the first comment, up to its first colon or full stop."""
+    """Without a title, the first comment is the title, up to its first colon or full stop."""
     page.open()
     for comment in ["Two rounds: who is first?", "Two rounds. Who is first?", "Two rounds"]:
         page.show(f"# {comment}\n# More of it.\nlock ticket threads 1\n")
@@ -45,7 +56,7 @@ def test_a_title_by_default(page):
 
 
 def test_the_line_of_the_move(page):
-    """It has a sign beside its number, and the move of the line with the caret is shown."""
+    """The line of the move has a sign beside its number, and the caret chooses the move."""
     page.open()
     page.show("lock ticket threads 2\n0 acquire\n0 add\n0 read\n", 2)
     assert page.text("#gutter .here") == "▸ 3"
@@ -57,7 +68,7 @@ def test_the_line_of_the_move(page):
 
 
 def test_the_line_of_a_refused_move(page):
-    """It is shown with the caret in its line, or below it."""
+    """The page shows the refused move while the caret is in its line or below."""
     page.open()
     page.show("lock ticket threads 2\n0 acquire\n0 read\n1 acquire\n", 1)
     page.click("#text")
@@ -72,19 +83,19 @@ def test_the_line_of_a_refused_move(page):
 def test_dropped_and_pasted(page):
     page.open()
     page.js("dropFile", "lock mcs threads 1\n0 acquire\n")
-    page.until("verdictHas", "end 1")
+    page.until("verdictEnds", "end 1")
     page.js("paste", "lock rw-fifo threads 1\n0 rlock\n0 section\n")
-    page.until("verdictHas", "end 2")
+    page.until("verdictEnds", "end 2")
 
 
 def test_saved(page, tmp_path):
-    """The schedule is saved byte for byte."""
+    """The page saves a schedule byte for byte."""
     data = b"# \xff no text\r\nlock ticket threads 1\n0 acquire"
     path = tmp_path / "mine.txt"
     path.write_bytes(data)
     page.open("#lesson=mcs-late-link&move=0")
     page.click("#mode-own")
     page.choose_file("#file", path)
-    page.until("verdictHas", "end 1")
+    page.until("verdictEnds", "end 1")
     page.click("#save")
     assert page.saved("schedule.txt", len(data)) == data

@@ -1,5 +1,5 @@
-"""Print: strips of moves, memory and code, and the table, in light colours whatever the theme; with
-answers or with blanks, and never on more than twelve sheets."""
+"""Printed pages have strips of moves, memory and code, and the table, in light colours in any
+theme, with answers or with blanks, on at most twelve sheets."""
 import re
 import zlib
 
@@ -25,6 +25,26 @@ def test_a_lesson(page):
     assert page.js("count", "#paper .future") == 0
 
 
+# A trace as a recorder writes it.
+TRACE = """lock ticket threads 2
+0 acquire
+0 add next_ticket found 0
+0 read
+# line 2 is mine.c:10
+# line 3 is mine.c:13
+"""
+
+
+def test_a_trace(page):
+    """A row of the table has the line as it was recorded, and where."""
+    page.open(LATE_LINK)
+    page.js("paste", TRACE)
+    page.shown(moves=3)
+    page.js("drawPaper")
+    assert [row[2].split() for row in page.js("rows")] == [
+        ["acquire", "mine.c:10"], ["add", "next_ticket", "found", "0", "mine.c:13"], ["read"]]
+
+
 @cases("language, heads", {
     "en": ("en", ["Move", "Thread", "Call or step", "Outcome", "What it did", "Holds", "Queue"]),
     "de": ("de", ["Zug", "Thread", "Aufruf oder Schritt", "Ergebnis", "Was er tat", "Hält",
@@ -42,14 +62,14 @@ def test_only_paper_is_printed(page):
 
 
 def sheets(data):
-    """How many pages a PDF has; some of its objects may be packed."""
+    """How many pages a PDF has. Some of its objects may be compressed."""
     packed = re.findall(rb"/ObjStm.*?stream\r?\n(.*?)endstream", data, re.DOTALL)
     parts = [data, *(zlib.decompressobj().decompress(part) for part in packed)]
     return sum(len(re.findall(rb"/Type\s*/Page[^s]", part)) for part in parts)
 
 
 def turns(threads, count):
-    """The ticket lock: all draw a ticket, then all poll in turn."""
+    """A schedule of the ticket lock: all threads draw a ticket, and all but 0 poll in turn."""
     lines = [f"lock ticket threads {threads}"]
     for thread in range(threads):
         lines += [f"{thread} acquire", f"{thread} add"]
@@ -66,6 +86,16 @@ def test_a_long_schedule(page, threads, count):
     rows = [int(row[0]) for row in page.js("rows")]
     assert len(rows) >= 60 and rows[0] <= count // 2 <= rows[-1], rows
     assert 2 <= number <= MOST_SHEETS, number
+
+
+@pytest.mark.parametrize("move", [0, 750, 1500])
+def test_which_part_is_printed(page, move):
+    """Above a part of a long schedule it is said which part it is."""
+    page.open()
+    page.show(turns(2, 1500), move)
+    page.js("drawPaper")
+    numbers = [int(row[0]) for row in page.js("rows")]
+    assert page.text("#paper > p") == f"Moves {numbers[0]} to {numbers[-1]} of 1500"
 
 
 def test_forty_moves_in_one_row(page):
@@ -85,12 +115,12 @@ def test_memory_and_code(page):
 
 
 def test_an_exercise_sheet(page):
-    """The calls of threads are there; their outcomes, and the answers, are blanks."""
+    """An exercise sheet has the moves of threads, and blanks for the outcomes and the answers."""
     page.open(LATE_LINK)
     assert page.js("print", "exercise") == "exercise"
     rows, said = page.js("rows"), page.js("words", "#paper")
     assert len(rows) == 16 and rows[8] == ["9", "Ann (0)", "cas", "", "", ""]
-    # Two lines to write on for each question.
+    # Each question has two lines to write on.
     assert page.js("drawn") == [0, 10]
     assert "record that nobody reads" not in said and "no link" not in said
     assert page.js("print", "worked") == "worked"
@@ -98,7 +128,7 @@ def test_an_exercise_sheet(page):
 
 
 def test_after_an_exercise_sheet(page):
-    """The browser's own command prints answers again."""
+    """After an exercise sheet, the browser's own command prints the answers again."""
     page.open(LATE_LINK)
     page.js("print", "exercise")
     page.js("drawPaper")
@@ -106,7 +136,7 @@ def test_after_an_exercise_sheet(page):
 
 
 def test_a_link_asks_for_a_sheet(page):
-    """Enter prints it."""
+    """A link offers a sheet, and Enter prints it."""
     page.open(f"{LATE_LINK}&sheet=exercise")
     assert page.js("offered") == "exercise"
     page.js("stubPrint")

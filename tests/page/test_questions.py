@@ -1,4 +1,4 @@
-"""A fact that a question asks for is in neither view before its answer is shown."""
+"""No view shows the fact for which a question asks before its answer."""
 import re
 
 import pytest
@@ -32,14 +32,14 @@ def test_each_part_comes_with_the_answer(page):
 
 
 def test_where_questions_are(page):
-    """They are marked above the numbers of their moves, and on the slider."""
+    """Questions have marks above the numbers of their moves, and on the slider."""
     page.open("#lesson=mcs-late-link&move=16")
     asked = [move for name, move, _ in QUESTIONS if name == "mcs-late-link"]
     assert page.js("marked") == {"numbers": asked, "slider": asked}
 
 
 def test_who_holds_is_not_drawn(page):
-    """A question whether a reader is still inside: neither lane, picture nor code says it."""
+    """No lane, picture or code tells whether a reader is still inside, as a question asks."""
     page.resize(1366, 768)
     page.open("#lesson=simple-writer-after-readers&move=9")
     signs, beyond = page.js("readers")
@@ -69,8 +69,8 @@ lock ticket threads 2
     (3, "Who holds now?", ["caption"]), (4, "And now?", ["sentence", "facts"]),
     (5, "hide nonsense : Is this a question?", ["caption"])])
 def test_the_form_of_before_is_valid(page, move, question, hidden):
-    """A question that does not say what it hides hides caption and arrows. If it names what is no
-    part of the page, these words are the question's."""
+    """A question that does not name what it hides, as in older texts, hides caption and arrows.
+    Names that are no parts of the page belong to the question's own text."""
     page.open()
     page.show(OWN, move)
     shown = page.js("beside")
@@ -86,7 +86,7 @@ WAITS = "A question waits here: A shows its answer, another → goes on."
 
 @pytest.mark.parametrize("look, key", [("", "ArrowRight"), ("&hall", "PageDown")])
 def test_a_step_stops_once(page, look, key):
-    """At a question whose answer was not seen, and says what there is to do."""
+    """A step stops once at a question with an unseen answer, and a notice says how to go on."""
     page.open(f"#lesson=mcs-late-link&move=6{look}")
     page.press(key)
     assert page.shown()["place"] == 7 and page.js("waiting") == ["", 0]
@@ -101,7 +101,7 @@ def test_a_step_stops_once(page, look, key):
 
 
 def test_the_end_waits_for_the_answer(page):
-    """The lesson's point would say it, if the last move has a question."""
+    """If the last move has a question, the lesson's point waits for its answer."""
     page.open()
     page.show(f"#! learn Who comes first.\n{OWN}", 5)
     ended = ("count", "#now .last")

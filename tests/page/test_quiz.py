@@ -1,5 +1,5 @@
-"""The quiz: what is asked is not shown before, each move counts once, and no answer that is always
-the same earns a point."""
+"""The quiz shows no answer before it asks, counts each move once, and gives no points to somebody
+who always answers the same."""
 import re
 
 import pytest
@@ -8,7 +8,7 @@ from reports import LESSONS, moves_of
 
 LESSON = "fifo-reader-waits-behind-writer"
 TRUTH = {"outcome": 2, "holders": 3, "queue": 4}
-# Answers that need no thought: always the same, or what is now.
+# The outcomes, which a test also gives as answers without thought.
 ALWAYS = ["moved", "waits", "entered", "left"]
 
 
@@ -18,14 +18,14 @@ def begin(page, name):
 
 
 def test_all_right(page):
-    """Answered as the report has it, every answer is right; none is given before it is asked."""
+    """Every answer from the report is right, and the page shows none before its question."""
     moves = moves_of(LESSONS[LESSON])
     begin(page, LESSON)
     right = 0
     while (shown := page.js("asked"))["move"]:
         assert shown["place"] == shown["move"] - 1 and shown["future"] == 0, shown
         assert not shown["filled"], shown
-        # A call is not asked for, and no step is only called.
+        # The quiz asks for no outcome of a call, and no step has the outcome `called`.
         assert shown["choices"] == (ALWAYS if shown["kind"] == "outcome" else []), shown
         page.js("answer", moves[shown["move"] - 1][TRUTH[shown["kind"]]])
         right += 1
@@ -52,7 +52,7 @@ def test_a_wrong_answer_is_told_why(page):
 
 
 def test_a_wrong_answer_takes_a_point(page):
-    """So one wrong answer and two right ones are one point."""
+    """One wrong answer and two right answers make one point."""
     moves = moves_of(LESSONS[LESSON])
     begin(page, LESSON)
     page.js("answer", "waits" if page.js("asked")["kind"] == "outcome" else "w2")
@@ -64,7 +64,7 @@ def test_a_wrong_answer_takes_a_point(page):
 
 
 def test_a_wrong_queue_is_told_why(page):
-    """Not by the outcome, which says who holds."""
+    """The reason for a wrong queue is the rule of queues, not the outcome, which says who holds."""
     moves = moves_of(LESSONS["ticket-hand-over"])
     begin(page, "ticket-hand-over")
     while (shown := page.js("asked"))["kind"] != "queue":
@@ -74,8 +74,21 @@ def test_a_wrong_queue_is_told_why(page):
         "In the queue is who has taken a place there and has not left, the oldest first.")
 
 
+def test_what_the_slider_gives_away(page):
+    """During the quiz the slider has no mark of a move that enters, and afterwards it has each."""
+    page.open(f"#lesson={LESSON}&move=15")
+    entering = [move for move in moves_of(LESSONS[LESSON]) if move[2] == "entered"]
+    entered = ("count", "#slider-picture .tick.enters")
+    assert page.js(*entered) == len(entering) >= 3
+    page.go(0)
+    page.press("q", "f")
+    assert page.js("question")["position"] == "0 of 15" and page.js(*entered) == 0
+    page.press("q")
+    assert page.js(*entered) == len(entering)
+
+
 def test_it_is_read_aloud(page):
-    """Whether an answer was right is said first, and what was, before the move that was made."""
+    """A screen reader first hears whether the answer was right, then the move."""
     moves = moves_of(LESSONS[LESSON])
     begin(page, LESSON)
     shown = page.js("asked")
@@ -101,8 +114,8 @@ def test_chance_earns_nothing(page, outcome, threads):
 
 @pytest.mark.parametrize("look, box", [("", "#now"), ("&hall", "#current")])
 def test_what_there_is_to_do(page, look, box):
-    """Before the first question it is said how one gets to it, and after the last that there is
-    none left. While one is asked its form is all."""
+    """The quiz says before the first question how to get to it, and after the last that none is
+    left. During a question it shows only the form."""
     page.open(f"#lesson=ticket-hand-over&move=0{look}")
     page.press("q")
     assert page.text(f"{box} .quiz-how").startswith("Go on with →: before move 2 it is asked"), box

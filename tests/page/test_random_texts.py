@@ -1,5 +1,5 @@
-"""The page's report of random schedules and texts is the program's, byte for byte; and the states
-that the page reads off the records are those that the machine writes."""
+"""For random schedules and texts, the page's report equals the program's byte for byte, and the
+states that the page reads off the records equal those that the machine writes."""
 import random
 import re
 
@@ -17,7 +17,7 @@ HEADER = re.compile(r"^lock (\S+) threads \S+(?: bits (\S+))?$", re.MULTILINE)
 
 @pytest.fixture
 def draw(request):
-    """Draws so many texts, by the seed that is printed."""
+    """Draws `count` random texts by the printed seed."""
     chance = random.Random(int(request.config.getoption("hypothesis_seed")))
     return lambda count: [schedules.random_text(chance, LONGEST) for _ in range(count)]
 

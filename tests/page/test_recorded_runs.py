@@ -1,4 +1,4 @@
-"""Traces in the page: each move with what the recorded run found and what the lock has, and the
+"""For a trace, the page shows at each move the values of the recorded run and of the lock, and the
 step at which they differ. The values are worked out by hand from docs/LOCKS.md."""
 import json
 
@@ -9,7 +9,7 @@ from transcripts import transcripts
 
 LESSON = "#lesson=ticket-hand-over&move=3"
 
-# Of each lock a run, and what the lock has at each line that says more than its move.
+# A run of each lock, and the values of the lock at each line that has more than its move.
 AGREEING = {
     "ticket": ("lock ticket threads 2", [
         ("0 acquire", ""),
@@ -57,7 +57,7 @@ def text_of(head, moves):
 
 @pytest.mark.parametrize("lock", AGREEING)
 def test_equal_values(page, lock):
-    """Each line is beside what the lock has, and all of them are accepted."""
+    """Each line is beside the values of the lock, and all lines are accepted."""
     head, rows = AGREEING[lock]
     trace = text_of(head, [line for line, _ in rows])
     page.open(LESSON)
@@ -75,7 +75,7 @@ def moves_of(text):
     return text.split("; ")
 
 
-# A run whose last line is refused; both values; and the cause.
+# A run whose last line is refused, both values, and the cause.
 SECOND = ("0 acquire; 0 write next left 0; 0 swap tail found 0 left 1; 1 acquire; "
           "1 write next left 0; ")
 LINKED = "0 acquire; 0 write; 0 swap; 1 acquire; 1 write; 1 swap; "
@@ -153,7 +153,7 @@ DIFFERENT = {
 
 @pytest.mark.parametrize("name", DIFFERENT)
 def test_differences(page, name):
-    """The page opens at the step, crosses it out, and says both and the cause, also aloud."""
+    """The page opens at the wrong step, crosses it out, and says both values and the cause."""
     head, moves, wrong, code, said = DIFFERENT[name]
     trace = text_of(head, moves_of(moves))
     line = len(moves_of(moves)) + 1
@@ -173,7 +173,7 @@ def test_differences(page, name):
 
 
 def test_a_write_that_is_noted_too_late(page):
-    """The line in which it is; later lines are not stepped through."""
+    """The page names the line of the late write, and steps through no line after a refusal."""
     page.open(LESSON)
     page.js("paste", text_of("lock ticket threads 2", moves_of(
         "0 acquire; 0 add; 0 read; 0 release; 0 read; 1 acquire; 1 add; "
@@ -186,7 +186,7 @@ def test_a_write_that_is_noted_too_late(page):
 
 
 def test_two_steps_in_the_wrong_order(page):
-    """The other one is named by its line, if it is in the same call."""
+    """The page names the line of the other step, if it is in the same call."""
     page.open(LESSON)
     page.js("paste", text_of("lock mcs threads 2", moves_of(
         LINKED + "1 write next of 0 left 2; 0 release; 1 write locked left 1")))
@@ -195,7 +195,7 @@ def test_two_steps_in_the_wrong_order(page):
 
 
 def test_a_move_that_the_machine_refuses(page):
-    """It is shown as in a schedule, with its line. A difference before it comes first."""
+    """The page shows a refused move of a trace as one of a schedule. An earlier difference wins."""
     page.open(LESSON)
     page.js("paste", "lock mcs threads 2\n0 acquire\n0 swap tail found 0\n")
     shown = page.shown(refused=True, moves=1)
@@ -255,7 +255,7 @@ def test_a_text_is_written_on_where_it_is_no_trace(page):
 
 
 def test_it_stays_a_trace(page):
-    """In links and after a reload, while it is edited, and in Play; Undo brings it back."""
+    """A trace stays one in links, while it is edited, and in Play, and Undo brings it back."""
     page.open(LESSON)
     page.js("paste", WRONG)
     page.js("leave")
@@ -280,7 +280,7 @@ def test_it_stays_a_trace(page):
 
 
 def told():
-    """Each trace of a row of tests/rows, and what `locktrace check` says of it as JSON."""
+    """Each trace of a refusal in tests/rows, and the answer of `locktrace check` in JSON."""
     for name, row in transcripts().items():
         runs = [run for run in row.runs if run.words[:3] == ["check", "--format", "json"]]
         if name.startswith("refusals: ") and runs and len(row.files) == 1:
@@ -289,7 +289,7 @@ def told():
 
 
 def test_the_program_says_the_same(page):
-    """Which line is refused, for what, and both values."""
+    """The page refuses the line that the program refuses, with the same fault and values."""
     answers = list(told())
     assert len(answers) == 8
     page.open(LESSON)
@@ -298,14 +298,14 @@ def test_the_program_says_the_same(page):
         shown = page.shown(refused=True, held=trace)
         line, code = answer["line"], answer["code"]
         assert f"refused line {line} {code}" in shown["verdict"], answer
-        # What `Busy` and the count have here, the page says otherwise.
+        # The page words the values of `Busy` and of a count in another way.
         if code not in ("Busy", "CountNotAbove"):
             assert f"{answer['found']}" in page.text("#now mark.bad"), answer
             assert f"{answer['expected']}" in shown["now"], answer
 
 
 def test_the_program_refuses_the_same_line(page):
-    """The last one of each row."""
+    """The page refuses the last line of each row of advice.txt, as the program does."""
     rows = [row.values for row in test_advice.rows()]
     assert len(rows) == 61
     page.open(LESSON)
@@ -318,7 +318,7 @@ def test_the_program_refuses_the_same_line(page):
 
 @pytest.mark.parametrize("size", [(1440, 900), (1366, 768), (1024, 768), (390, 844)])
 def test_all_of_it_is_seen(page, size):
-    """At a move, and at the refused one."""
+    """Everything about a move is visible, at an accepted move and at the refused one."""
     page.resize(*size)
     page.open(LESSON)
     page.js("paste", NOTED)
@@ -329,7 +329,7 @@ def test_all_of_it_is_seen(page, size):
     assert page.js("wholeOf", ".say", "dd.recorded") == [1, 2]
 
 
-# As a recorder writes it.
+# A trace as a recorder writes it.
 NOTED = """# run 0000000000000009
 lock ticket threads 2 bits 8
 1 acquire
@@ -347,7 +347,7 @@ lock ticket threads 2 bits 8
 
 
 def test_lines_of_the_source(page):
-    """Where the recorder noted each move, and the write that decided a refused one."""
+    """The page names the source line of each move, and of the write that decided a refusal."""
     page.open(LESSON)
     page.js("paste", NOTED)
     shown = page.shown(refused=True, moves=3)
@@ -377,7 +377,7 @@ def test_lines_of_the_source(page):
 ], ids=["comments", "ended", "no end", "returns", "a return", "no header", "a log", "a zero",
         "too large", "nil", "a result", "a fault after it", "a fault"])
 def test_texts(page, text, said, count):
-    """Comments, faults and other texts stay what they are."""
+    """Comments, faults and texts that are no traces get their usual messages."""
     page.open(LESSON)
     page.press("e")
     page.js("paste", text)

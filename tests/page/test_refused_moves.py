@@ -1,10 +1,10 @@
-"""A refused move is a scene: in lessons and links, on paper, and in Play."""
+"""Lessons, links, paper and Play show a refused move as a scene of its own."""
 import pytest
 
 from tree import EXAMPLES
 
-# The lesson, how many moves are accepted, the report's last line, and what is said of it. Written
-# by hand from examples/ and docs/LOCKS.md.
+# The lesson, the number of accepted moves, the last line of the report, and parts of the message.
+# Written by hand from examples/ and docs/LOCKS.md.
 LESSONS = [
     ("already-holds", 2, "refused line 5 AlreadyHolds",
      ["Thread 0 holds the lock already", "Thread 0 holds the lock and reads.", "call “runlock”",
@@ -45,7 +45,7 @@ def check_scene(page, count, last, parts):
 
 @pytest.mark.parametrize("name, count, last, parts", LESSONS, ids=[row[0] for row in LESSONS])
 def test_lesson(page, name, count, last, parts):
-    """Stepped to the end by key; the address then names the scene, and a link opens it."""
+    """Keys step to the scene, the address then names it, and a link opens it."""
     page.open(f"#lesson=refused-{name}&move=0")
     assert "refused" not in page.shown()["now"]
     page.press(*["ArrowRight"] * (count + 1))
@@ -62,7 +62,7 @@ def test_lesson(page, name, count, last, parts):
 
 
 def test_the_word_that_decided_it(page):
-    """Marked is what the refused thread's last move did, also if another thread moved after it."""
+    """The page marks what the refused thread's last move did, even if another moved later."""
     page.open()
     page.show("lock ticket threads 2\n0 acquire\n0 add\n1 acquire\n1 add\n1 read\n0 write\n", 5)
     assert page.js("markedWords") == ["now_serving read"]
@@ -72,9 +72,15 @@ def test_the_word_that_decided_it(page):
 
 @pytest.mark.parametrize("name, word", [("no-such-thread", "1"), ("wrong-lock", "ticket")])
 def test_the_word_of_the_header(page, name, word):
-    """Marked is how many threads there are, or which lock it is."""
+    """The page marks the number of threads or the name of the lock, which decided the refusal."""
     page.open(f"#lesson=refused-{name}&move=1")
     assert page.js("texts", "#now [data-decided] mark") == [word]
+
+
+def test_a_lane_without_a_thread(page):
+    """The refused move has a lane of its own, which says that there is no such thread."""
+    page.open("#lesson=refused-no-such-thread&move=1")
+    assert page.text("#lanes g:has(> [data-refused]) > .note") == "no such thread"
 
 
 @pytest.mark.parametrize("name, code", [
@@ -93,20 +99,25 @@ def test_fault_on_paper(page, name, last, parts):
     number = int(last.split()[2])
     lines = (EXAMPLES / f"fault-{name}.schedule").read_text("ascii").split("\n")
     assert page.js("texts", "#paper tr.wrong") == [f"✕ {number} {lines[number - 1]}".strip()]
+    # Six lines before it and six after it, as far as there are any.
+    around = [at for at in range(1, len(lines) + 1) if abs(at - number) <= 6]
+    assert page.js("texts", "#paper .text-around td:first-child") == [
+        f"✕ {at}" if at == number else str(at) for at in around]
 
 
-# The line after that of move 8. Left are two names, the questions of moves 7 and 8 with their
-# answers, which are five lines, the header, and eight moves.
+# The line after move 8. Before it are two names, the questions of moves 7 and 8 with their answers,
+# which take five lines, the header, and eight moves.
 WRONG_LINE = 17
 
 
 def test_a_wrong_step_in_play(page):
-    """It is told why, by the word that was found; another choice or undo takes its place."""
+    """The page says why the step is wrong. Another choice replaces it, and undo brings it back."""
     page.open("#lesson=mcs-late-link&move=8")
     page.press("g", "w")
     page.js("choose", 0, "write")
     check_scene(page, 8, f"refused line {WRONG_LINE} WrongStep next cas",
-                ["The next step is “cas”", "found Ann.next = nil"])
+                ["The next step is “cas”", "found Ann.next = nil",
+                 "This is not the next step of Ann.", "Here Ann could make the step “cas”."])
     page.js("choose", 1, "release")
     assert f"refused line {WRONG_LINE} Busy" in page.text("#now")
     page.press("u")
@@ -116,7 +127,7 @@ def test_a_wrong_step_in_play(page):
 
 
 def test_a_digit_leaves_the_choice(page):
-    """A thread with more than one call is chosen by its digit, and its call by Tab."""
+    """For a thread with several calls, a digit chooses the thread, and Tab the call."""
     page.open("#lesson=fifo-reader-waits-behind-writer&move=0")
     page.press("g", "0", "Tab")
     assert page.js("focusedChoice") == {"thread": "0", "word": "wlock"}

@@ -1,4 +1,4 @@
-"""The questions of the lessons, which the lesson plans ask."""
+"""The questions and stories of the lessons keep to two rules."""
 import re
 
 import pytest
@@ -9,7 +9,7 @@ from tree import EXAMPLES
 
 @pytest.mark.parametrize("name", LESSONS)
 def test_one_question_at_a_time(name):
-    """A remark asks one thing, and a story calls threads as the page does."""
+    """Each question asks one thing, and a story uses the names that a lesson gives its threads."""
     text = (EXAMPLES / f"{name}.schedule").read_text("latin-1")
     asked = {}
     for move, line in re.findall(r"^#! ask (\d+) (.*)$", text, re.MULTILINE):

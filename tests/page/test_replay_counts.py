@@ -1,5 +1,5 @@
-"""How often the machine is asked. What the records tell is not played again: a step, a view, a
-picture, a printed sheet and Undo ask nothing, and a choice in Play has the machine play once.
+"""Counts how often the page asks the machine. It reads steps, views, pictures, printed sheets and
+Undo off the records without a replay, and a choice in Play takes one replay.
 """
 import pytest
 
@@ -9,7 +9,7 @@ LATE_LINK = "#lesson=mcs-late-link&move=7"
 SCHEDULE = "lock ticket threads 2\n0 acquire\n0 add\n"
 OTHER = "lock mcs threads 3\n2 acquire\n"
 UNDO, COMPARE, STEP_BACK, END = ("undo",), ("key", "c"), ("key", "ArrowLeft"), ("key", "End")
-# From each state to the next: what is done, and how often the machine is asked for it.
+# Acts one after another, and how often the page asks the machine for each.
 IN_PLAY = [
     ("the lesson's own next move", [("choose", 1, "swap")], 0),
     ("undo", [UNDO], 0),
@@ -27,7 +27,7 @@ IN_PLAY = [
     ("the same lesson", [("lesson", "mcs-late-link", 3)], 0),
     ("another one", [("lesson", "ticket-hand-over")], 1),
 ]
-# And none for a text that has been played, or that is cut short.
+# A text that was played before, or the front of one, takes no replay.
 IN_A_TEXT = [
     ("a new text", [("click", "#clear")], 1),
     ("another text", [("write", SCHEDULE)], 1),
@@ -39,7 +39,7 @@ IN_A_TEXT = [
     ("the same again", [("paste", OTHER)], 0),
     ("a paste that is no schedule", [("key", "g"), ("paste", "hello")], 1),
 ]
-# Each schedule of the two is played once; and once more if a guess on the other lock was wrong.
+# Each of the two schedules takes one replay, and a wrong guess on the other lock one more.
 WITH_THE_OTHER_LOCK = [
     ("the other lock", [COMPARE], 1),
     ("a step back", [STEP_BACK], 0),
@@ -62,7 +62,7 @@ def test_no_play_for_what_is_known(page):
     ("#lesson=simple-second-writer&move=7", "g", WITH_THE_OTHER_LOCK)],
     ids=["play", "text", "two locks"])
 def test_plays_of_acts(page, link, key, acts):
-    """The replays of a click, a key or typing, after the page has settled."""
+    """The number of replays after a click, a key or typing, when the page is at rest."""
     page.open(link)
     page.press(key)
     assert [(what, page.js("playsOf", act)) for what, act, _ in acts] == [
@@ -70,7 +70,7 @@ def test_plays_of_acts(page, link, key, acts):
 
 
 def test_back_and_forward(page):
-    """Back from a branch to the lesson, which is still known, and forward again."""
+    """Back to the lesson, which the page still knows, takes no replay, and forward takes one."""
     page.open(LATE_LINK)
     page.press("g")
     assert page.js("playsOf", [("choose", 0, "cas")]) == 1

@@ -1,5 +1,5 @@
-"""Exercise sheets as a class gets them: nothing on them says an answer, and there are places to
-write and draw in. As PDF they have one or two pages, which poppler reads."""
+"""Exercise sheets for a class show no answer, and have places for writing and drawing. As PDF they
+have one or two pages, whose text poppler reads."""
 import re
 import subprocess
 
@@ -13,13 +13,13 @@ MOST_PAGES = 2
 
 
 def remarks(name, what):
-    """The texts of a lesson's questions or answers, line by line."""
+    """The lines of a lesson's questions or answers."""
     text = (EXAMPLES / f"{name}.schedule").read_text("latin-1")
     return re.findall(rf"^#! {what} \d+ (?:hide [a-z ]+ : )?(.+)$", text, re.MULTILINE)
 
 
 def test_marks_and_places(page):
-    """Every mark is to be filled in, and so are words, holder and queue."""
+    """The sheet has blanks for every mark, for words, holder and queue."""
     page.open()
     for name in LESSONS:
         page.lesson(name)
@@ -29,13 +29,23 @@ def test_marks_and_places(page):
         assert shown["blanks"] == moves and shown["lines"] == 2, (name, shown)
         assert shown["discs"] == 0, "no thread has a line before the first move"
         assert shown["words"] >= 2 and shown["places"] >= 2, (name, shown)
+        # Arrows are between the places of the queue, of which one more is for the holder.
+        assert shown["places"] - shown["arrows"] == 2 * shown["pictures"], (name, shown)
+
+
+def test_the_mark_that_is_explained(page):
+    """The legend explains the blank as it is drawn in the lanes."""
+    page.open("#lesson=mcs-late-link&move=0")
+    page.js("sheet")
+    explained, drawn = page.js("blanks")
+    assert len(explained) == len(drawn) == 1 and explained == drawn, (explained, drawn)
 
 
 @pytest.mark.parametrize("name, move", [
     ("ticket-hand-over", 6), ("mcs-late-link", 9), ("simple-downgrade", 4),
     ("fifo-reader-waits-behind-writer", 6)])
 def test_it_is_the_same_at_each_move(page, name, move):
-    """No line of code is marked, and no thread stands there, at the move that is shown."""
+    """The sheet does not depend on the shown move: it marks no line of code and no thread."""
     page.open()
     page.lesson(name)
     assert page.js("sheetAt", move) == page.js("sheetAt", 0)
@@ -43,7 +53,7 @@ def test_it_is_the_same_at_each_move(page, name, move):
 
 @pytest.mark.parametrize("name", LESSONS)
 def test_as_a_pdf(page, name, tmp_path):
-    """Its pages name what is asked and say no answer; none of them is empty."""
+    """The pages of the PDF have the blanks and no answer, and no page is empty."""
     page.before("keepSheet")
     page.open(f"#lesson={name}&move=0")
     page.js("asExercise")
@@ -59,7 +69,7 @@ def test_as_a_pdf(page, name, tmp_path):
 
 
 def test_questions_of_the_first_moves(page):
-    """A question before the first move is on the sheet, and one at it and at the last."""
+    """The sheet has the questions before the first move, at it, and at the last move."""
     page.open()
     asked = "".join(f"#! ask {move} Number {move}?\n" for move in range(3))
     page.show(f"lock ticket threads 1\n{asked}0 acquire\n0 add\n")

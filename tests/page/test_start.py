@@ -1,4 +1,4 @@
-"""The start: what the page is, four cards with the lessons in their order, and where to go on."""
+"""The start says what the page is, and has four cards with lessons, and ways to go on."""
 import pytest
 
 from tree import EXAMPLES
@@ -8,7 +8,7 @@ REFUSED = ("refused", "fault")
 
 
 def test_without_a_link(page):
-    """Two sentences, the ticket lock first, and in each card its lessons, with what one learns."""
+    """The start has two sentences, the ticket lock first, and in each card its lessons in order."""
     page.open()
     assert page.js("isOpen") and page.js("chosen") == "ticket-hand-over"
     what = page.text("#lessons .what")
@@ -23,7 +23,7 @@ def test_without_a_link(page):
         for at, (name, said) in enumerate(card["lessons"], 1):
             assert said.startswith(str(at)) and " moves, about " in said, said
             assert name not in said, "no name of a file"
-    # Ten moves of 8 seconds, and three questions of 30.
+    # Ten moves of 8 seconds and three questions of 30 seconds make about 3 minutes.
     first = dict(cards[0]["lessons"])["ticket-hand-over"]
     assert first.endswith("10 moves, about 3 min"), first
     assert page.js("refusals") == [12, False]
@@ -31,13 +31,13 @@ def test_without_a_link(page):
 
 
 def test_a_link_opens_its_lesson(page):
-    """The window has its title."""
+    """A link opens its lesson without the start, and the window has the title of the lesson."""
     page.open("#lesson=mcs-late-link&move=3")
     assert not page.js("isOpen") and page.text("title") == "The late link - lockreplay"
 
 
 def test_the_first_lesson(page):
-    """Enter begins it, and it says in its own words what each move does."""
+    """Enter begins the first lesson, which explains the moves in words of its own."""
     page.open()
     page.press("Enter")
     assert page.js("lessonNow") == "ticket-hand-over"
@@ -49,31 +49,43 @@ def test_the_first_lesson(page):
         assert "fetch" not in said and "compare" not in said, (move, said)
 
 
+def test_behind_the_start(page):
+    """If the start is closed, the first lesson is shown, before its first move."""
+    page.open()
+    page.press("Escape")
+    assert not page.js("isOpen")
+    page.shown(lesson="ticket-hand-over", place=0)
+
+
 @pytest.mark.parametrize("language, said", [
     ("en", "Thread 0 is Bob, thread 1 is Ann."), ("de", "Thread 0 ist Bob, Thread 1 ist Ann.")])
 def test_who_is_which_thread(page, language, said):
-    """Before the first move, in the order of the lanes, also at the least of the screens."""
+    """Before the first move the page names the threads, even on the smallest screen."""
     page.resize(1024, 768)
     page.open(f"#lesson=ticket-hand-over&move=0&lang={language}")
     assert page.js("seen", "#now .names") == said
     page.lesson("simple-downgrade")
     assert page.js("count", "#now .names") == 0, "no names are given"
+    for most in (9, 10):
+        names = "".join(f"#! name {thread} N{thread}\n" for thread in range(most))
+        page.show(f"{names}lock ticket threads 10\n")
+        assert page.text("#now .names").count(" N") == (9 if most == 9 else 0), most
 
 
 def test_the_end_of_a_lesson(page):
-    """It says what was shown, leads to the next one by key, and is ticked off."""
+    """A lesson ends with its point, keys lead to the next one, and the start ticks it off."""
     page.open("#lesson=ticket-hand-over&move=10")
     last = page.text("#now .last")
     assert "What to keep: As at a bakery: take a number, wait" in last, last
     page.press("ArrowRight", "Enter")
     assert page.js("lessonNow") == "ticket-order-of-tickets"
-    # One that was only begun is not.
+    # A lesson that was only begun is not ticked off.
     page.press("ArrowRight", "o")
     assert page.js("ticked") == ["ticket-hand-over"]
 
 
 def test_the_end_of_a_schedule_of_ones_own(page):
-    """No lesson follows it, which a step more says."""
+    """No lesson follows, and one more step says so."""
     page.open("#lesson=ticket-hand-over&move=10")
     page.show("lock ticket threads 1\n0 acquire\n")
     page.press("ArrowRight")
@@ -83,7 +95,7 @@ def test_the_end_of_a_schedule_of_ones_own(page):
 
 
 def test_a_refused_move_ends_its_lesson(page):
-    """Which is ticked off with it, and not with the last move that is accepted."""
+    """The refused move ticks the lesson off, and the last accepted move does not."""
     page.open("#lesson=refused-busy&move=1")
     page.press("o")
     assert page.js("ticked") == []
@@ -101,7 +113,7 @@ def test_what_was_kept_is_near_the_top(page):
 
 
 def test_the_ways(page):
-    """Each opens what it names."""
+    """Each way opens what it names."""
     for way, opened in [("own", "#own"), ("play", "#play"), ("find", "#find"), ("plans", "#plans")]:
         page.open()
         page.click(f"[data-way={way}]")
@@ -109,7 +121,7 @@ def test_the_ways(page):
 
 
 def test_terms_are_explained(page):
-    """Where one points at them, in the words of the glossary."""
+    """A term explains itself under the pointer, in the words of the glossary."""
     page.resize(1366, 768)
     page.open("#lesson=ticket-hand-over&move=6")
     for term, meaning in [("holder", "entered a lock and not left it"),
@@ -119,15 +131,34 @@ def test_terms_are_explained(page):
         assert said and meaning in said and is_seen, (term, said)
 
 
+def test_a_term_at_the_foot_of_the_window(page):
+    """Where there is no room below a term, its explanation is above it."""
+    page.open("#lesson=ticket-hand-over&move=6")
+    assert page.js("isExplainedAbove", "queue")
+
+
 def test_terms_of_the_start_are_explained(page):
-    """Above its dialog."""
+    """The explanation of a term of the start is above the dialog."""
     page.open()
     said, is_seen = page.js("explained", "#lessons", "holder")
     assert said and "entered a lock and not left it" in said and is_seen, said
 
 
+def test_one_card_plays_at_a_time(page):
+    """A card plays while it has the focus or the pointer is on it, and no card is left playing."""
+    page.before("keepClocks")
+    page.open()
+    assert page.js("clocks") == [800], "the lesson to begin with has the focus"
+    for event, playing in [("pointerleave", []), ("pointerenter", [800]), ("focusout", [])]:
+        page.js("atCard", "mcs", event)
+        assert page.js("clocks") == playing, event
+    page.js("atCard", "mcs", "focusin")
+    page.press("Escape")
+    assert page.js("clocks") == []
+
+
 def test_a_card_plays_again(page):
-    """The one that has the focus; after its last move its lesson begins anew."""
+    """The card plays its lesson, and begins it anew after the last move."""
     page.before("hasten")
     page.open()
     for said in ["Ticket 1 has its turn; the next is 2.",

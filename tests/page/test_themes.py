@@ -1,4 +1,4 @@
-"""Both themes, patterns, names of threads, and what comes, drawn faintly."""
+"""Both themes, patterns, names of threads, and the faint drawing of later moves."""
 import pytest
 
 from contrast import contrast, luminance
@@ -44,7 +44,7 @@ def test_heads_have_room(page, names):
 
 
 def test_names_are_whole(page):
-    """A long name is whole if there is room for it, else when one points at it."""
+    """A long name is drawn whole if there is room for it."""
     page.open()
     shown = page.js("namesDrawn", f"{NAMES}lock mcs threads 2\n{MOVES}1 write\n1 write\n")
     assert shown["lanes"] == shown["heads"] == ["Wilhelmina", "Montgomery"], shown
@@ -65,7 +65,7 @@ def test_names_that_are_cut(page):
 
 
 def test_sentences_begin_so(page):
-    """Each sentence on a move begins with a capital letter, also with a thread that has no name."""
+    """A sentence on a move begins with a capital letter, even if the thread has no name."""
     page.open()
     page.js("showEnd", f"lock mcs threads 2\n{MOVES}0 release\n0 read\n0 cas\n0 read\n")
     assert page.text("#now .say") == (
@@ -76,7 +76,7 @@ def test_sentences_begin_so(page):
 @pytest.mark.parametrize("lesson, word", [
     ("mcs-late-link", "fails"), ("fifo-downgrade", "writes"), ("refused-not-holder", "refused")])
 def test_letters_of_what_comes(page, theme, lesson, word):
-    """They can be read in both themes, and what comes has this word."""
+    """Faint letters of later moves have enough contrast in both themes, and include this word."""
     page.open(f"#lesson={lesson}&move=0&theme={theme}")
     page.press("f")
     coming = page.js("coming")
@@ -86,7 +86,7 @@ def test_letters_of_what_comes(page, theme, lesson, word):
 
 
 def test_no_line_through_a_label(page):
-    """The label on dashes is drawn after them, and has an edge in the colour of the ground."""
+    """A label on dashes is drawn over them, with an edge in the colour of the ground."""
     page.open("#lesson=mcs-late-link&move=0")
     page.press("f")
     label = page.js("label")
@@ -98,30 +98,31 @@ def test_no_line_through_a_label(page):
 
 @pytest.mark.parametrize("width", range(1440, 1446))
 def test_ticks_of_what_was(page, width):
-    """A tick of the slider is there from its move on, at any width."""
+    """The slider shows a tick from its move on, at any width."""
     page.resize(width, 900)
     page.open("#lesson=mcs-late-link")
     assert page.js("ticks", [8, 9]) == [0, 1]
 
 
 def test_a_link_that_is_missing(page):
-    """Between two in the queue is a gap until the second one has linked itself."""
+    """The queue has a gap between two threads until the second has linked itself."""
     page.open("#lesson=mcs-late-link&move=12")
     assert page.js("texts", "#now [data-queue] .gap") == ["⇢"]
     assert page.js("count", "#memory-picture .link.missing") == 1
+    assert page.text("#memory-says .missing") == "Ann is followed by Bob, and only Bob knows."
     page.go(14)
     assert page.js("texts", "#now [data-queue] .gap") == ["→"]
-    assert page.js("count", "#memory-picture .link.missing") == 0
+    assert page.js("count", ":is(#memory-picture .link, #memory-says span).missing") == 0
 
 
 def test_the_wheel(page):
-    """Number 0 is at the top, and the others follow clockwise."""
+    """On the wheel 0 is at the top, and the other numbers follow clockwise."""
     page.open("#lesson=ticket-wraps-at-2-bits&move=0")
     places = page.js("places")
     middle = [sum(values) / 4 for values in zip(*places)]
     sides = [[(at > center) - (at < center) if abs(at - center) > 9 else 0
               for at, center in zip(place, middle)] for place in places]
-    # To the right and down is 1: above, right, below, left.
+    # Right and down count as 1. The places are above, right, below, left.
     assert sides == [[0, -1], [1, 0], [0, 1], [-1, 0]], places
 
 
@@ -129,8 +130,8 @@ TICKETS = "0 acquire\n0 add\n1 acquire\n1 add\n"
 
 
 def test_whose_ticket_it_is(page):
-    """On the wheel each thread is at its ticket; of wide words the tickets are in a row, in the
-    order of the queue, and the next one is the last."""
+    """On the wheel each thread is at its ticket. For wide words the tickets are in a row, in the
+    order of the queue, and the next ticket is the last."""
     page.open()
     page.show(f"lock ticket threads 2 bits 2\n{TICKETS}", 4)
     assert page.js("threadsAtPlaces") == [["0"], ["1"], [], []]
@@ -141,7 +142,7 @@ def test_whose_ticket_it_is(page):
 
 
 def test_a_write_is_a_change(page):
-    """Also of the value that the word had: a new record's link is cleared."""
+    """A write counts as a change even if it keeps the value, as when a thread clears its `next`."""
     page.open("#lesson=mcs-late-link&move=2")
     assert page.js("count", "#memory-picture .record[data-record='0'] .word.changed") == 1
     assert page.js("count", "#memory-picture .word.read") == 0
@@ -152,8 +153,8 @@ def test_a_write_is_a_change(page):
     "readers": ("lock rw-fifo threads 2 bits 2\n0 rlock\n0 section\n", "readReleases",
                 "readAcquires")})
 def test_the_hands(page, text, inner, outer):
-    """The outer hand has the count that went on, to the right; the inner one is still at 0. Beside
-    the sign of each is its word."""
+    """The outer hand points right, to the count that has advanced, and the inner hand still points
+    to 0. The sign of each hand has the name of its word."""
     page.open()
     page.show(text, 2)
     assert page.js("hands") == {"inner": [0, -1], "outer": [1, 0]}
@@ -161,7 +162,7 @@ def test_the_hands(page, text, inner, outer):
 
 
 def test_shapes_of_outcomes(page):
-    """A mark in the lanes and its sign in the legend have one shape."""
+    """A mark in the lanes has the shape of its sign in the legend."""
     page.open("#lesson=mcs-late-link&move=16")
     marks = {3: "path", 10: "circle", 15: "rect", 16: "path"}
     assert {move: page.js("shapeOf", f"#lanes [data-move='{move}'] .step")
@@ -171,7 +172,7 @@ def test_shapes_of_outcomes(page):
 
 
 def test_a_failed_poll_is_dashed(page):
-    """And the poll that found the link is not."""
+    """A failed poll is dashed, and the poll that found the link is not."""
     page.open("#lesson=mcs-late-link&move=16")
     assert [page.js("isDashed", f"#lanes [data-move='{move}'] .step") for move in (10, 14)] == [
         True, False]

@@ -1,11 +1,11 @@
-"""Undo is pressed: its buttons in Play and in Your own, its key, and Ctrl+Z."""
+"""Undo by its buttons in Play and in Your own, by its key, and by Ctrl+Z."""
 import pytest
 
 from tree import cases
 
 
 def buttons(page):
-    """How many buttons undo something."""
+    """How many buttons of Undo are enabled."""
     return page.js("count", ":is(#undo, #undo-own):enabled")
 
 
@@ -13,7 +13,7 @@ def buttons(page):
     "button": lambda page: page.click("#undo"), "key": lambda page: page.press("u"),
     "control": lambda page: page.press("Control+z")})
 def test_choices_are_undone(page, undo):
-    """The last choice first, and then the branch: the whole lesson is there again."""
+    """Undo takes back the last choice, and then the first, which brings the whole lesson back."""
     page.open("#lesson=mcs-late-link&move=7")
     page.press("g")
     lesson = page.shown(position="7 of 16")
@@ -31,7 +31,7 @@ def test_choices_are_undone(page, undo):
 
 @pytest.mark.parametrize("key", ["u", "Control+z"])
 def test_nothing_is_left_to_undo(page, key):
-    """A press more changes nothing."""
+    """If nothing is left to undo, the key changes nothing."""
     page.open("#lesson=mcs-late-link&move=7")
     page.press("g")
     lesson = page.shown()
@@ -40,7 +40,7 @@ def test_nothing_is_left_to_undo(page, key):
 
 
 def test_a_new_text_is_undone(page):
-    """In Your own, which has a button of its own."""
+    """The button of Your own undoes a new text."""
     page.open("#lesson=ticket-hand-over&move=5")
     page.press("e")
     lesson = page.shown()
@@ -63,7 +63,7 @@ def test_a_letter_in_the_text_is_no_undo(page):
 
 
 def test_edits_are_one_change(page):
-    """A text typed one letter after another is undone at once."""
+    """Undo takes back all letters of a typed text at once."""
     page.open("#lesson=ticket-hand-over&move=5")
     page.press("e")
     lesson = page.shown()

@@ -1,6 +1,6 @@
-"""Why each line is there: the changes of each line of each lock, with a shortest run of each.
+"""The dialog that says why each line of a lock is there has its changes, each with a shortest run.
 
-page/why has what `locktrace why LOCK --runs` writes, which tests/locktrace/test_why.py compares.
+page/why has the output of `locktrace why LOCK --runs`, as tests/locktrace/test_why.py checks.
 """
 import itertools
 import re
@@ -21,7 +21,7 @@ SIZES = [(390, 844), (1024, 768), (1366, 768)]
 
 
 def listing(lock):
-    """The lines of a lock's code, each with the name of its step, if it has one."""
+    """(line, name of its step or empty) for each line of a lock's code."""
     block = DOCUMENT.split(f"```{lock}\n")[1].split("\n```")[0]
     for line in block.splitlines():
         code, kind, phase = LINE.fullmatch(line).groups()
@@ -29,7 +29,7 @@ def listing(lock):
 
 
 def stops(lock):
-    """The numbers of lines that are shown together, and their step."""
+    """(numbers of lines, their step) for each group of lines that the dialog shows together."""
     lines = [(number, step) for number, (_, step) in enumerate(listing(lock), 1)]
     for _, group in itertools.groupby(lines, lambda line: line[1] or line[0]):
         numbers, steps = zip(*group)
@@ -49,7 +49,7 @@ def capital(text):
 
 
 def walk(page, lock):
-    """What is shown of each line, from the first to the last."""
+    """Steps through the dialog, and returns what it shows of each group of lines."""
     page.open()
     page.click(f"[data-why={lock}]")
     shown = [page.js("stop")]
@@ -62,8 +62,8 @@ def walk(page, lock):
 
 
 def check_harm(change):
-    """It is at the last move, or after it if a call can never end. A run that has the changed step
-    can be played; of a harmless change it is said why it is one."""
+    """The harm is at the last move, or after it if a call can never end. The reader can play a run
+    with the changed step, and the dialog says why a harmless change is harmless."""
     stuck = "can never end" in change["verdict"]
     harmless = change["verdict"].startswith("Harmless: ")
     assert change["harmed"] == ([] if stuck or harmless else [len(change["moves"])]), change
@@ -75,7 +75,7 @@ def check_harm(change):
 
 @pytest.mark.parametrize("lock", LOCKS)
 def test_each_change_is_at_its_line(page, lock):
-    """With its sentence and its moves, each of which has its code."""
+    """Each change is at its line, with its verdict and its moves, each with its line of code."""
     shown, code = walk(page, lock), {}
     for line, step in listing(lock):
         code[step] = f"{code[step]}; {line}" if step in code else line
@@ -95,8 +95,8 @@ def test_each_change_is_at_its_line(page, lock):
 
 
 def test_two_by_hand(page):
-    """Both threads draw ticket 0 if nothing is written, so that both find it in now_serving. A
-    writer that does not look at the readers needs a call and a section, as the reader before it."""
+    """Two changes, worked out by hand. Without the write both threads draw ticket 0, and find it in
+    now_serving. A writer that ignores readers enters by a call and a section beside a reader."""
     page.open("#lesson=ticket-hand-over&move=2")
     page.press("y")
     one = page.js("stop")
@@ -121,6 +121,19 @@ def test_two_by_hand(page):
         "changed": [4], "harmed": [4], "said": [], "plays": [True]}
 
 
+def test_long_runs_have_two_columns(page):
+    """Moves are in two columns if there are more than nine."""
+    page.open("#lesson=mcs-late-link&move=9")
+    page.press("y", "Home")
+    found = []
+    for _ in stops("mcs"):
+        found += page.js("columns")
+        page.press("ArrowRight")
+    counts = [count for count, _ in found]
+    assert min(counts) <= 9 < max(counts), counts
+    assert [columns for _, columns in found] == [1 + (count > 9) for count in counts], found
+
+
 def test_why_one_is_harmless(page):
     page.open("#lesson=ticket-hand-over&move=8")
     page.press("y")
@@ -131,7 +144,7 @@ def test_why_one_is_harmless(page):
 
 
 def test_keys(page):
-    """Y begins at the line of the move that is shown, and closes, as Escape does."""
+    """Y opens the dialog at the line of the shown move, and closes it, as Escape does."""
     page.open(f"{LATE_LINK}9")
     page.press("y")
     assert page.js("isOpen") and page.js("stop")["lines"] == [12]
@@ -149,7 +162,7 @@ def test_keys(page):
 
 
 def test_by_hand(page):
-    """A line that is clicked, on the page and in the dialog, and the buttons."""
+    """Clicks on lines of the page and of the dialog choose a line, and so do the buttons."""
     page.open(f"{LATE_LINK}9")
     page.click(".code-line[data-phase=SetLocked]")
     assert page.js("stop")["lines"] == [5]
@@ -172,7 +185,7 @@ def test_by_hand(page):
 @cases("way", {
     "key": lambda page: page.press("ArrowLeft"), "button": lambda page: page.click("#why-back")})
 def test_each_line_begins_at_its_top(page, way):
-    """However far the reader has scrolled at another line."""
+    """Each line begins at its top, however far the reader has scrolled at another line."""
     page.resize(390, 500)
     page.open(f"{LATE_LINK}9")
     page.press("y", "ArrowRight")
@@ -183,7 +196,7 @@ def test_each_line_begins_at_its_top(page, way):
 
 
 def test_a_run_is_played(page):
-    """By the lock as it is, in whose turns it goes right; and Y leads back to the change."""
+    """The unchanged lock plays the turns of the run unharmed, and Y leads back to the change."""
     page.open(f"{LATE_LINK}9")
     page.press("y")
     page.click("[data-play='0']")
@@ -205,8 +218,8 @@ def test_a_run_is_played(page):
 
 
 def test_a_run_that_the_lock_refuses(page):
-    """A compare-and-swap that always succeeds lets a thread call again. The lock as it is goes as
-    far as that call, which it refuses."""
+    """A compare-and-swap that always succeeds lets a thread call again. The unchanged lock plays
+    the run as far as that call, which it refuses."""
     page.open(f"{LATE_LINK}9")
     page.press("y")
     page.click("[data-play='2']")
@@ -221,7 +234,7 @@ def test_a_run_that_the_lock_refuses(page):
 
 
 def test_a_split_step(page):
-    """The lock as it is makes the step in the turn of its first half."""
+    """The unchanged lock makes a split step in the turn of its first half."""
     page.open("#lesson=ticket-hand-over&move=2")
     page.press("y")
     page.click("[data-play='1']")
@@ -233,7 +246,7 @@ def test_a_split_step(page):
 
 @pytest.mark.parametrize("lock", LOCKS)
 def test_every_run_is_played(page, lock):
-    """As far as the lock as it is goes, and it is said where the changed one differs."""
+    """The unchanged lock plays each run as far as it can, and the page marks the changed step."""
     page.open()
     for at, (_, step) in enumerate(stops(lock)):
         changes = [change for change in told(lock) if change["step"] == step]
@@ -251,7 +264,7 @@ def test_every_run_is_played(page, lock):
 
 
 def test_without_the_machine(page):
-    """The runs are there to read; the machine cannot play them."""
+    """Without the machine the dialog shows the runs, but its play buttons are disabled."""
     page.before("withoutMachine")
     page.open(f"{LATE_LINK}9")
     page.press("y")
@@ -260,7 +273,7 @@ def test_without_the_machine(page):
 
 @pytest.mark.parametrize("width, height", [(1024, 768), (1366, 768), (1920, 1080)])
 def test_in_a_hall(page, width, height):
-    """Letters are large, a clicker goes on, and what is said of a move is beside memory."""
+    """In hall mode letters are large, a clicker goes on, and a played run shows memory and move."""
     page.resize(width, height)
     page.open(f"{LATE_LINK}9&hall")
     page.press("y")
@@ -277,7 +290,7 @@ def test_in_a_hall(page, width, height):
 
 
 def test_in_german(page):
-    """No sentence of the program is left in English."""
+    """The dialog has the sentences of the program in German."""
     page.open("#lesson=mcs-late-link&move=9&lang=de")
     page.press("y")
     one = page.js("stop")
@@ -306,7 +319,7 @@ def test_german_sentences(page, lock):
 @pytest.mark.parametrize("width, height", SIZES)
 @pytest.mark.parametrize("language", ["en", "de"])
 def test_nothing_is_cut(page, width, height, language):
-    """On no line, neither above nor below."""
+    """The dialog cuts nothing at any line, at its top or scrolled down."""
     page.resize(width, height)
     for lock in LOCKS:
         page.open(f"#lang={language}")

@@ -1,5 +1,5 @@
-"""In the windows that readers have, the current line of code, the question and what a thread keeps
-in a variable of its own are in view.
+"""In the windows that readers have, the current line of code, the question and the variables of
+threads are in view.
 
 A laptop with large letters, a projector, a browser at 150 %, half a screen; and a phone.
 """
@@ -18,7 +18,7 @@ ASKED = [f"#lesson={lesson}&move={move}" for lesson, moves in [
     ("mcs-late-link", [7, 8, 9]), ("mcs-third-linked-before-second", [12]),
     ("ticket-hand-over", [5, 9]), ("simple-reader-passes-writer", [6]),
     ("fifo-reader-waits-behind-writer", [6])] for move in moves]
-# Bob's pred, up to his link, and Ann's succ; then those of three threads.
+# States with Bob's pred up to his link, with Ann's succ, and with variables of three threads.
 WITH_VARIABLES = [f"#lesson={lesson}&move={move}" for lesson, moves in [
     ("mcs-late-link", [8, 9, 10, 11, 12, 14]),
     ("mcs-third-linked-before-second", [6, 9, 12, 13])] for move in moves]
@@ -39,7 +39,7 @@ def test_the_variables_of_threads(page, width, height):
 
 
 def test_whose_variables(page):
-    """Bob finds his predecessor by the swap, and Ann her successor by the read."""
+    """The picture shows Bob's predecessor, which he found by the swap, and Ann's successor."""
     page.open("#lesson=mcs-late-link&move=12")
     assert page.js("texts", "#memory-picture .record .own + text") == ["pred = Ann"]
     page.go(14)
@@ -47,7 +47,7 @@ def test_whose_variables(page):
 
 
 def test_the_line_in_the_lowest_window(page):
-    """A phone on its side is too low for the page: the line is in view all the same."""
+    """A phone on its side is too low for the page, but the line is in view all the same."""
     page.resize(844, 390)
     for link in ASKED:
         page.open(link)
@@ -55,14 +55,14 @@ def test_the_line_in_the_lowest_window(page):
 
 
 def answered(name):
-    """The moves of a lesson whose question has an answer."""
+    """The moves of a lesson that have a question with an answer."""
     text = (EXAMPLES / f"{name}.schedule").read_text("latin-1")
     asked, answered = [set(map(int, re.findall(rf"^#! {word} (\d+) ", text, re.MULTILINE)))
                        for word in ("ask", "answer")]
     return sorted(asked & answered)
 
 
-# The moves, in each lesson that has a lock, whose question has an answer.
+# The moves that have a question with an answer, for each lesson without a refusal or fault.
 ASKED_IN = {name: answered(name) for name, report in LESSONS.items()
             if not report.startswith(("fault", "refused"))}
 

@@ -17,7 +17,7 @@ function heads(letters) {
     <= rect(one.querySelector('.standing')).left);
 }
 
-// Names of threads as they are drawn, and whole, as they are said where one points.
+// The names of threads as they are drawn, and whole, as in their titles.
 function namesDrawn(letters) {
   showEnd(letters);
   inMode('lessons');
@@ -38,7 +38,7 @@ function namesDrawn(letters) {
   };
 }
 
-// Later moves, drawn faintly. A colour over another, of which it takes a share.
+// Later moves are drawn faintly: `over` mixes a colour with its ground by a share.
 
 const numbers = (colour) => colour.match(/[\d.]+/g).slice(0, 3).map(Number);
 
@@ -56,7 +56,7 @@ function shareOf(node) {
   return share;
 }
 
-// The card, or the bar in which a text is.
+// The colour below a text: the card, or the bar that the text is in.
 function groundOf(node, card) {
   const at = rect(node);
   const isBelow = (one) => {
@@ -71,7 +71,7 @@ function groundOf(node, card) {
   return over(fill, card, Number(opacity));
 }
 
-// Each text of what comes: its colour as it is drawn, and what is below it.
+// Each text of later moves, its drawn colour, and the colour below it.
 function coming() {
   const card = styleOf('#time').backgroundColor;
   const shown = all('#lanes .future text, #lanes text.future').filter((one) => one.textContent);
@@ -95,13 +95,13 @@ function label() {
   };
 }
 
-// How many ticks of the slider are of moves that failed, at each of these moves.
+// The number of ticks for failed moves on the slider, at each of these moves.
 const ticks = (moves) => moves.map((move) => {
   go(move);
   return count('#slider-picture .tick.fails');
 });
 
-// The middle of each number on a wheel, in their order.
+// The middle of each number on a wheel, in numeric order.
 const places = () => all('#memory-picture .place circle').map(rect)
   .map(({ left, right, top, bottom }) => [(left + right) / 2, (top + bottom) / 2]);
 
@@ -112,7 +112,7 @@ const threadsAtPlaces = () => places().map(([x, y]) => all('#memory-picture .tok
     return Math.hypot((left + right) / 2 - x, (top + bottom) / 2 - y) < 60;
   }).map((one) => one.querySelector('text').textContent));
 
-// Where the hands of a wheel point to: to the right and down is 1.
+// The directions of the hands of a wheel. Right and down count as 1.
 const hands = () => Object.fromEntries(['inner', 'outer'].map((name) => {
   const path = all(`#memory-picture .hand.${name}`).map((one) => one.getAttribute('d'))
     .find((one) => one.includes('L'));
@@ -120,7 +120,7 @@ const hands = () => Object.fromEntries(['inner', 'outer'].map((name) => {
   return [name, [x - fromX, y - fromY].map((way) => (Math.abs(way) < 3 ? 0 : Math.sign(way)))];
 }));
 
-// What is written beside the sign of each hand.
+// The name beside the sign of each hand.
 const wordsOfHands = () => Object.fromEntries(all('#memory-picture .hand + text')
   .map((one) => [one.previousElementSibling.classList[1], one.textContent]));
 

@@ -3,8 +3,8 @@
 const isOpen = () => byId('why').open;
 const numbers = (selector) => all(selector).map((one) => Number(one.dataset.number));
 
-// The changes of the lines that are shown: how, the verdict, the moves, which of them are marked,
-// and what else is said.
+// The changes of the shown lines: how, the verdict, the moves with their code, the marked moves,
+// and further sentences.
 const changes = () => all('#why-changes section').map((one) => ({
   how: plain(one.querySelector('h3').textContent),
   verdict: plain(one.querySelector('.verdict').textContent),
@@ -17,12 +17,16 @@ const changes = () => all('#why-changes section').map((one) => ({
   plays: all('[data-play]', one).map((button) => !button.disabled),
 }));
 
+// The number of moves of each run, and of the columns in which they are.
+const columns = () => all('#why-changes ol').map((list) => [list.children.length,
+  new Set([...list.children].map((one) => Math.round(rect(one).left))).size]);
+
 const stop = () => ({
   lines: numbers('#why-code .here'), place: text('#why-place'), changes: changes(),
   nothing: texts('#why-changes > .verdict'),
 });
 
-// What does not fit on the screen, or into its box.
+// The elements that do not fit on the screen, or into their box.
 function wrong() {
   const dialog = byId('why');
   const box = rect(dialog);
@@ -37,7 +41,7 @@ function wrong() {
   ].map((one) => `${one.tagName} ${plain(one.textContent).slice(0, 40)}`);
 }
 
-// The same with the last line of what is scrolled in view.
+// The same after scrolling to the end, whose last line has to be in view.
 function wrongBelow() {
   const dialog = byId('why');
   dialog.scrollTop = dialog.scrollHeight;
@@ -45,7 +49,7 @@ function wrongBelow() {
   return [...wrong(), ...(last.bottom <= rect(dialog).bottom ? [] : ['the end is not reached'])];
 }
 
-// How far the dialog is scrolled, by the reader and at most.
+// How far the dialog is scrolled now, and after scrolling to its end.
 const scrolled = () => byId('why').scrollTop;
 function scrolledToEnd() {
   const dialog = byId('why');
@@ -53,7 +57,7 @@ function scrolledToEnd() {
   return scrolled();
 }
 
-// The least letters of the dialog as a share of the screen's height.
+// The smallest letters of the dialog, as a share of the screen's height.
 function leastLetters() {
   const scale = rect(document.body).width / document.body.offsetWidth;
   const sizes = all('#why *').filter((one) => one.checkVisibility() && one.textContent.trim())

@@ -1,4 +1,4 @@
-// What is out of view in a window.
+// Parts that are out of view in a window.
 
 const foot = () => rect(document.querySelector('footer'));
 
@@ -8,7 +8,7 @@ function isSeen(node, part) {
     && left >= -1 && right <= innerWidth + 1;
 }
 
-// Of the line of code, the question and the move's sentence, at each of these links.
+// The line of code, the question and the move's sentence, if out of view, at each of these links.
 const outOfView = (fragments) => fragments.flatMap((fragment) => {
   follow(fragment);
   const seen = all('.code-line.here, #now .say, #now .question > p, #now .question summary')
@@ -18,7 +18,7 @@ const outOfView = (fragments) => fragments.flatMap((fragment) => {
     ...seen.length > 2 ? [] : [`${fragment}: too little is there`]];
 });
 
-// Of the variables that threads have beside their records.
+// The variables of threads beside their records that are out of view, at each of these links.
 const variables = (fragments) => fragments.flatMap((fragment) => {
   follow(fragment);
   const { left, right } = rect(byId('memory-picture'));

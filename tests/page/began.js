@@ -1,0 +1,9 @@
+// Whether the page is there. A test asks repeatedly while the page loads.
+
+const isThere = () => document.readyState === 'complete' && Boolean(window.lockreplay);
+
+// A document is complete before the page begins, since the page waits for the fonts.
+function isAt(url) {
+  const hasBegun = url.startsWith('about:') ? document.readyState === 'complete' : isThere();
+  return hasBegun && location.href.split('#')[0] === url;
+}
