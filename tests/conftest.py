@@ -1,4 +1,4 @@
-"""Fixtures of every test: the programs that are built, and one line that counts the tests."""
+"""Fixtures that all tests share (the built programs), and the last line, which counts the tests."""
 import random
 
 import pytest
@@ -6,9 +6,10 @@ from hypothesis import HealthCheck, settings
 
 from tree import Program, built
 
-# Libraries whose assertions show their values
+# pytest rewrites the assertions of these modules too, so that a failure shows the values.
 pytest.register_assert_rewrite("dice", "installs", "recorders")
-# Examples take as long as a process. The seed is printed, and --hypothesis-seed repeats it.
+# An example starts a process, so it has no deadline. pytest prints the seed, and
+# --hypothesis-seed repeats a run.
 settings.register_profile("lockreplay", deadline=None, database=None, print_blob=True,
                           suppress_health_check=list(HealthCheck))
 settings.load_profile("lockreplay")
@@ -26,25 +27,25 @@ def locktrace():
 
 @pytest.fixture(scope="session")
 def library():
-    """The check of a trace, for C."""
+    """The static library with which a program in C checks a trace."""
     return built("library")
 
 
 @pytest.fixture(scope="session")
 def module():
-    """The machine of the page."""
+    """The WebAssembly module that the page runs."""
     return built("module")
 
 
 @pytest.fixture
 def replayer(lockreplay, tmp_path):
-    """`lockreplay` in a folder of its own, on bytes."""
+    """Runs `lockreplay` in an empty folder; inputs and outputs are bytes."""
     return Program(lockreplay, tmp_path, b"")
 
 
 @pytest.fixture
 def tracer(locktrace, tmp_path):
-    """`locktrace` in a folder of its own, on text."""
+    """Runs `locktrace` in an empty folder; inputs and outputs are text."""
     return Program(locktrace, tmp_path)
 
 
@@ -60,7 +61,7 @@ def pytest_addoption(parser):
 
 @pytest.hookimpl(tryfirst=True)
 def pytest_configure(config):
-    """One seed for all random tests, and for all workers of xdist, which are told the options."""
+    """Draws one seed for all random tests. The workers of xdist get it with the options."""
     if config.getoption("hypothesis_seed", None) is None:
         config.option.hypothesis_seed = str(random.SystemRandom().randrange(10**9))
 
@@ -70,7 +71,7 @@ def pytest_report_header(config):
 
 
 def pytest_terminal_summary(terminalreporter):
-    """How many random texts, orders and values were tried, and what was measured."""
+    """Prints how many random values each test tried, and what each test measured."""
     for report in terminalreporter.stats.get("passed", []):
         for name, said in report.user_properties:
             if name in ("tried", "measured"):
@@ -78,7 +79,7 @@ def pytest_terminal_summary(terminalreporter):
 
 
 def pytest_unconfigure(config):
-    """The last line, in the form that all test commands of this repository have."""
+    """Prints the last line in the form that all test commands of this repository use."""
     reporter = config.pluginmanager.get_plugin("terminalreporter")
     if reporter is None or hasattr(config, "workerinput") or config.option.collectonly:
         return

@@ -1,4 +1,4 @@
-"""Devices and memory that fail a process: the functions for `preexec_fn`, pipes and terminals."""
+"""Ways to make a process run out of memory, file space or readers; and a pseudo-terminal."""
 import contextlib
 import os
 import pty
@@ -9,24 +9,24 @@ from tree import TESTS, output
 
 
 def closing(*descriptors):
-    """Begins the process with these closed."""
+    """A `preexec_fn` that closes these descriptors before the process begins."""
     return lambda: [os.close(descriptor) for descriptor in descriptors]
 
 
 def little_memory(size):
-    """Limits the process to this many bytes of memory."""
+    """A `preexec_fn` that limits the address space of the process to `size` bytes."""
     return lambda: resource.setrlimit(resource.RLIMIT_AS, (size, size))
 
 
 def refusing_library(folder):
-    """The library of tests/refuse, which refuses a request for memory, made in a folder."""
+    """Builds tests/refuse/refuse.c, which refuses a request for memory, in a folder."""
     assert output("cc", "-O2", "-Wall", "-Wextra", "-shared", "-fPIC", "-o", folder / "refuse.so",
                   TESTS / "refuse" / "refuse.c") == ""
     return folder / "refuse.so"
 
 
 def short_files(size):
-    """Limits each file that the process writes to this size."""
+    """A `preexec_fn` that limits each file that the process writes to `size` bytes."""
     def limit():
         signal.signal(signal.SIGXFSZ, signal.SIG_IGN)
         resource.setrlimit(resource.RLIMIT_FSIZE, (size, size))
@@ -35,7 +35,7 @@ def short_files(size):
 
 @contextlib.contextmanager
 def left_pipe():
-    """The write end of a pipe that nobody reads."""
+    """The write end of a pipe whose read end is closed."""
     reader, writer = os.pipe()
     os.close(reader)
     try:
@@ -45,7 +45,7 @@ def left_pipe():
 
 
 class Terminal:
-    """A pseudo-terminal: `writer` is its end for a process."""
+    """A pseudo-terminal. A process gets `writer`, and the test reads the other end."""
 
     def __enter__(self):
         self.reader, self.writer = pty.openpty()
@@ -58,7 +58,7 @@ class Terminal:
         """Closes the writer, and reads all that was written to it."""
         os.close(self.writer)
         parts = []
-        with contextlib.suppress(OSError):  # how Linux reports the end
+        with contextlib.suppress(OSError):  # Linux reports the end as an error
             while part := os.read(self.reader, 4_096):
                 parts.append(part)
         return b"".join(parts)

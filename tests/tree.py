@@ -1,4 +1,4 @@
-"""The tree under test: its folders, what is built in it, and how its programs are run."""
+"""The tree under test: its folders, the files that a build makes, and how to run programs."""
 import os
 import subprocess
 from pathlib import Path
@@ -10,7 +10,7 @@ TESTS, EXAMPLES, ROWS = TOP / "tests", TOP / "examples", TOP / "tests" / "rows"
 VERSION = (TOP / "VERSION").read_text().strip()
 PATIENCE = 200  # seconds
 PIPE = subprocess.PIPE
-# Files that a build makes, and the command that makes each.
+# Each file that a build makes, and the command that makes it.
 BUILT = {
     "lockreplay": ("crates/lockreplay/out/lockreplay", "make programs"),
     "locktrace": ("crates/locktrace/out/locktrace", "make programs"),
@@ -21,7 +21,7 @@ BUILT = {
 
 
 def built(name):
-    """The path of what is built; fails the test if it is not there."""
+    """The path of a file in BUILT. The test fails if nobody has built the file."""
     path, command = BUILT[name]
     if not (TOP / path).exists():
         pytest.fail(f"{path} is not built: {command}", pytrace=False)
@@ -29,36 +29,36 @@ def built(name):
 
 
 def environment(**more):
-    """The environment without what a `make` that runs this test tells another `make`."""
+    """The environment without the variables by which an outer `make` would steer an inner one."""
     of_make = {"MAKELEVEL", "MAKEFLAGS", "MFLAGS"}
     return {**{name: text for name, text in os.environ.items() if name not in of_make}, **more}
 
 
 def ran(*words, **how):
-    """A command that has ended, with what it wrote as text."""
+    """Runs a command to its end, and keeps its outputs as text."""
     how = {"stdout": PIPE, "stderr": PIPE, "text": True, "timeout": PATIENCE, "check": False, **how}
     return subprocess.run([str(word) for word in words], **how)
 
 
 def output(*words, **how):
-    """The text that a command writes to either output, after its status if that is not 0."""
+    """The text that a command writes to both outputs. A status other than 0 comes before it."""
     done = ran(*words, **{"stderr": subprocess.STDOUT, **how})
     return done.stdout if done.returncode == 0 else f"status {done.returncode}: {done.stdout}"
 
 
 def cases(names, table):
-    """Parametrizes a test by a table: the values of each case by its name."""
+    """Parametrizes a test by a table from the name of each case to its values."""
     return pytest.mark.parametrize(names, list(table.values()), ids=list(table))
 
 
 class Program:
-    """A program that is run in a folder, on text or on bytes."""
+    """Runs a program in a folder, with inputs and outputs as text or as bytes."""
 
     def __init__(self, path, folder, none=""):
         self.path, self.folder, self.none = path, folder, none
 
     def run(self, *words, stdin=None, **how):
-        """Both outputs, and the status."""
+        """Runs the program: (standard output, standard error, status)."""
         stdin = self.none if stdin is None else stdin
         given = {"input": stdin} if isinstance(stdin, (str, bytes)) else {"stdin": stdin}
         how = {"stdout": PIPE, "stderr": PIPE, "cwd": self.folder, "timeout": PATIENCE, **how}
@@ -68,6 +68,9 @@ class Program:
         return done.stdout or self.none, done.stderr or self.none, done.returncode
 
     def write(self, **texts):
-        """Writes files into the folder."""
+        """Writes files into the folder. It removes an old file first, since a file system may write
+        a truncated one to the disk at once."""
         for name, text in texts.items():
-            (self.folder / name).write_bytes(text if isinstance(text, bytes) else text.encode())
+            path = self.folder / name
+            path.unlink(missing_ok=True)
+            path.write_bytes(text if isinstance(text, bytes) else text.encode())

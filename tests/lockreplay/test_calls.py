@@ -1,7 +1,7 @@
-"""The program's own functions, which the tests in `calls.rattle` call.
+"""Runs the tests of `calls.rattle`, which call functions inside the program.
 
-`rt try` runs these in a copy of the crates, with no proof. In the crate itself they would have
-`rt ci` prove the whole program a second time, and a file `.rt` has to be in a crate.
+`rt try` runs these tests in a copy of the crates, without proofs. In the crate itself they would
+make `rt ci` prove the whole program a second time, and no file `.rt` may lie outside a crate.
 """
 import shutil
 import subprocess

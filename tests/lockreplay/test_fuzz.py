@@ -1,10 +1,10 @@
-"""`lockreplay` beside the oracle, byte for byte: on the stored texts, and on random ones.
+"""`lockreplay` and the oracle give the same bytes, on the stored texts and on random ones.
 
-Small random texts are drawn by hypothesis, which shrinks one that differs. For --fuzz-seconds,
-rounds of longer ones are replayed: the whole round as a batch with 2 workers, those that are
-accepted as another, and a few one by one. In each round one text is at a limit of size. A text
-whose report differs is shortened, and both are stored in found/. After the fix, add it to the
-corpus under a name that says what is special about it.
+Hypothesis draws small random texts, and shrinks a text whose report differs. For --fuzz-seconds the
+fuzzer draws rounds of longer texts, one of which is at a limit of size. It replays each round as a
+batch with 2 workers, the accepted texts of the round as a second batch, and a few texts one by one.
+It shortens a text whose report differs, and stores the whole and the shortened text in found/.
+After the fix, add the shortened text to the corpus under a name that says what is special about it.
 """
 import random
 import time
@@ -27,13 +27,12 @@ SMALL_TEXTS = st.lists(drawn(lambda dice: schedules.random_text(dice, SMALL), 60
 
 
 def due(reports):
-    """Output, error and status."""
+    """The output, error and status that are due for a batch with these reports."""
     return oracle.batch_of(reports), b"", 0 if all(map(oracle.is_accepted, reports)) else 1
 
 
 def batch(replayer, texts, workers=2):
-    for number, text in enumerate(texts):
-        (replayer.folder / str(number)).write_bytes(text)
+    replayer.write(**{str(number): text for number, text in enumerate(texts)})
     return replayer.run("batch", "--workers", workers, *range(len(texts)))
 
 
@@ -62,7 +61,7 @@ def test_small_texts(replayer, request):
 
 
 def shortened(pieces, differs):
-    """Drops runs of pieces as long as the rest still differs."""
+    """Drops pieces, ever shorter runs of them, as long as the remaining ones still differ."""
     until = time.monotonic() + SHORTENING
     size = len(pieces) // 2
     while size and time.monotonic() < until:
@@ -84,7 +83,7 @@ def store(name, text):
 
 
 def fail_at(replayer, texts, reports, name):
-    """Stores what differs in a failed round: a text, or texts that are right one by one."""
+    """Stores the text that differs, or a short batch that differs if each text alone is right."""
     for number, text in enumerate(texts):
         if not is_right(replayer, text):
             whole = store(f"{name}-{number}.whole", text)

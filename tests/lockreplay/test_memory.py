@@ -1,6 +1,6 @@
-"""`lockreplay` where memory is short, or where each request for memory is refused in turn.
+"""`lockreplay` when memory is short, and when one request for memory after another is refused.
 
-Whatever is refused, the answer is that of ample memory, or nothing but the line about memory.
+The program gives the same answer as with ample memory, or nothing but its out-of-memory line.
 """
 import subprocess
 
@@ -17,7 +17,7 @@ SPINS = most_moves()
 LIMITS = (3, 4, 5, 6, 8, 12, 16, 24, 32, 48, 64, 80, 96, 128, 160, 256, 512)  # in MB
 
 
-# A batch is not tried within 3 MB, which are too few to start with 65,536 names.
+# 3 MB are too few to start the program with 65,536 names, so no batch runs within them.
 @cases("words, text, report, limits", {
     "replay": (["replay"], SPINS.text, SPINS.report, LIMITS),
     "1 worker": (["batch", "--workers", "1", *["spinning"] * 12], b"",
@@ -28,7 +28,7 @@ LIMITS = (3, 4, 5, 6, 8, 12, 16, 24, 32, 48, 64, 80, 96, 128, 160, 256, 512)  # 
                      batch_of([EMPTY_REPORT] * 65_536), LIMITS[1:]),
 })
 def test_little_memory(replayer, words, text, report, limits):
-    """Memory is short under one limit, and ample under another."""
+    """Some limits leave too little memory, and some enough; no other answer occurs."""
     replayer.write(empty=EMPTY, spinning=SPINS.text)
     statuses = set()
     for megabytes in limits:
@@ -39,7 +39,7 @@ def test_little_memory(replayer, words, text, report, limits):
 
 
 def test_long_schedules_that_are_refused_at_once(replayer):
-    """The texts have 721 MB and fit into 1 GB; the longest report of each would have 14 MB."""
+    """The texts have 721 MB and fit into 1 GB. The longest report of each, 14 MB, would not."""
     replayer.write(refused=b"lock ticket threads 64\n0 read\n" + b"63 acquire\n" * 65_535)
     due = batch_of([b"refused line 2 NoCall\n"] * 1_000)
     assert replayer.run("batch", "--workers", "8", *["refused"] * 1_000,
@@ -51,7 +51,7 @@ BAD_LINE = (b"lock rw-fifo threads 64\n0 go\n" + MOVES)[:len(MOVES)]
 
 
 def needed(replayer, text, fault):
-    """The least limit in KB under which the fault of a text is reported."""
+    """The least limit in KB under which the program reports the fault of a text."""
     for limit in range(2_048, 65_536, 64):
         done = replayer.run("replay", stdin=text, preexec_fn=little_memory(limit << 10))
         if done == (fault, b"", 1):
@@ -62,7 +62,7 @@ def needed(replayer, text, fault):
 
 @pytest.fixture(scope="module")
 def needed_by_a_late_fault(lockreplay, tmp_path_factory):
-    """A bad line after the header is found once there is memory for moves."""
+    """The limit for a bad line after the header, which is found once there is memory for moves."""
     return needed(Program(lockreplay, tmp_path_factory.mktemp("late"), b""), BAD_LINE,
                   b"fault line 2 BadLine\n")
 
@@ -79,14 +79,14 @@ def test_fault_of_a_header_needs_no_memory_for_moves(replayer, needed_by_a_late_
 
 
 class Refusing:
-    """Runs the program in a folder under refuse.c, which refuses one request for memory."""
+    """Runs the program with refuse.c preloaded, which refuses one request for memory."""
 
     def __init__(self, program, folder):
         self.program, self.folder = program, folder
         self.library = refusing_library(folder)
 
     def run(self, number, words, text):
-        """The answer, whether the request of this number was refused, and how many were made."""
+        """The answer, whether request `number` was refused, and how many requests were made."""
         log = self.folder / "log"
         log.unlink(missing_ok=True)
         done = subprocess.run([self.program, *words], input=text, capture_output=True, check=False,
@@ -98,7 +98,7 @@ class Refusing:
                 int(requests.split()[1]))
 
     def refuse_each(self, words, text, is_due, first=1):
-        """Refuses the requests from the `first` on, until a run makes fewer."""
+        """Refuses request `first`, then the next one, until a run makes fewer requests."""
         memory_was_short = False
         for number in range(first, 100_000):
             answer, refused, _ = self.run(number, words, text)
@@ -149,7 +149,7 @@ def test_requests_of_command_lines(refusing, words, text, is_due):
 
 @pytest.fixture(scope="module")
 def made_before(refusing):
-    """How many requests are made before a schedule is read: the same for every row."""
+    """How many requests the program makes before it reads a schedule: as many for every row."""
     return {"replay": refusing.run(100_000, ["replay"], b"")[2],
             "batch": refusing.run(100_000, ["batch", "--workers", "1", "missing"], b"")[2]}
 
@@ -157,7 +157,7 @@ def made_before(refusing):
 @pytest.mark.parametrize("command", ["replay", "batch"])
 @pytest.mark.parametrize("row", rows(), ids=lambda row: row.name)
 def test_requests_of_rows(refusing, made_before, row, command):
-    """Each row from standard input, and as a batch of one file."""
+    """Each row is replayed from standard input, and as a batch of one file."""
     words, text, before = ["replay"], row.text, b""
     if command == "batch":
         (refusing.folder / "row").write_bytes(row.text)

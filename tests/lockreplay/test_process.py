@@ -1,7 +1,7 @@
-"""`lockreplay` as a process: output, error and status, where devices, words or files fail it.
+"""`lockreplay` as a process: its output, error and status when devices, arguments or files fail.
 
-Expected texts are written by hand from what the program promises; only the first words of the
-parser's own texts are compared.
+Expected texts are written by hand from the documented behaviour. Of a message that the parser of
+arguments words itself, only the first words are compared.
 """
 import os
 import shutil
@@ -29,7 +29,7 @@ REFUSED = b"lock ticket threads 2\n0 release\n"
 REFUSED_REPORT = b"refused line 2 NotHolder\n"
 NO_HEADER = b"fault line 1 NoHeader\n"
 SPINS = most_moves()  # a thread that spins to the limit of moves, after one that never enters
-CROWD = crowd()  # the longest report but for the numerals
+CROWD = crowd()  # the longest report, except that its numerals could be longer
 
 FILES = {"empty": EMPTY, "handed_on": HANDED_ON, "refused": REFUSED, "none": b"",
          "spinning": SPINS.text, "--workers": EMPTY}
@@ -44,7 +44,7 @@ def cannot_read(number):
 
 @pytest.fixture(scope="module")
 def program(lockreplay, tmp_path_factory):
-    """The program in a folder with texts, and with names that are no files."""
+    """The program in a folder with texts, and with names that are not those of readable files."""
     program = Program(lockreplay, tmp_path_factory.mktemp("files"), b"")
     program.write(**FILES)
     (program.folder / "folder").mkdir()
@@ -88,7 +88,7 @@ def test_closed_input(program):
     assert program.run(*BATCH, "empty", "handed_on", **closed) == (due, b"", 0)
 
 
-# Words, input, and a report whose write fails.
+# The arguments, the input, and the report that the program cannot write.
 WRITES = {
     "replay": (["replay"], SPINS.text, SPINS.report),
     "batch": ([*BATCH, "spinning", "empty"], b"", batch_of([SPINS.report, EMPTY_REPORT])),
@@ -109,7 +109,7 @@ class TestOutput:
 
     @pytest.mark.parametrize("handling", [signal.SIG_DFL, signal.SIG_IGN])
     def test_reader_that_left(self, program, words, text, report, handling):
-        """SIGPIPE ends a process that does nothing about it."""
+        """The program reports the failed write. SIGPIPE would by default end it without a word."""
         with left_pipe() as pipe:
             assert program.run(*words, stdin=text, stdout=pipe, preexec_fn=lambda: signal.signal(
                 signal.SIGPIPE, handling)) == (b"", OUTPUT, 3)
@@ -122,7 +122,7 @@ class TestOutput:
 @pytest.mark.parametrize("size", [1, 1_000, 65_536, 65_537, -1])
 @pytest.mark.parametrize("name", ["replay", "batch"])
 def test_file_that_is_full(program, tmp_path, name, size):
-    """The file keeps the beginning of the report that it has room for."""
+    """The file keeps as much of the report as it has room for."""
     words, text, report = WRITES[name]
     room = size % len(report)
     with open(tmp_path / "short", "wb") as short:
@@ -136,7 +136,7 @@ def test_file_that_is_full(program, tmp_path, name, size):
     "a report of 14 MB": (["replay"], CROWD.text, CROWD.report, 65_536),
 })
 def test_reader_that_leaves(program, words, text, report, size):
-    """The reader takes some bytes of the report, and leaves."""
+    """The reader takes `size` bytes of the report, and closes its end."""
     reader, writer = os.pipe()
     taken = bytearray()
 
@@ -234,7 +234,7 @@ def test_first_and_last_file_that_cannot_be_read(program):
 
 
 def opened_once_read(fifo, process):
-    """The FIFO's write end, once the program has opened the other; None if it never does."""
+    """The FIFO's write end, once the program has opened the read end; None if it ends first."""
     while process.poll() is None:
         try:
             return os.open(fifo, os.O_WRONLY | os.O_NONBLOCK)

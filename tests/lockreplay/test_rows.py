@@ -1,4 +1,4 @@
-"""`lockreplay` replays every worked row: report, and status 0 if and only if all is accepted."""
+"""`lockreplay` gives each worked row's report, and status 0 if and only if it accepts all."""
 import pytest
 
 from worked_rows import rows, short_rows

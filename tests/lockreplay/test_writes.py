@@ -1,8 +1,8 @@
-"""How `lockreplay` writes: a batch in few writes, and a long report when a write fails.
+"""`lockreplay` writes a batch in few writes, and the front of a report before a write that fails.
 
-A batch writes to a socket that keeps each write as a message, so writes can be counted. Reports are
-as long as the program's buffer (65,536 bytes), a byte more or less, and three times that; the
-expected text is made here from the report of each schedule.
+A batch writes to a socket that keeps each write as a message, so the test can count the writes.
+Reports are a little shorter than the program's buffer (65,536 bytes), as long, a byte longer, and
+three times as long. The test puts the expected text together from the report of each schedule.
 """
 import socket
 import threading
@@ -25,14 +25,14 @@ ENTERED = (b"1 0 acquire called hold - queue -\n2 0 add moved hold - queue 0\n"
 
 
 def polling(threads):
-    """A schedule in which the polls of these threads fail, one after another, and its report."""
+    """A schedule in which these threads make failed polls, one after another, and its report."""
     text = b"lock ticket threads 11\n" + ENTER + b"".join(b"%d read\n" % t for t in threads)
     lines = (b"%d %d read waits hold - queue 0,1,10\n" % (k, t) for k, t in enumerate(threads, 7))
     return text, ENTERED + b"".join(lines) + b"end %d\n" % (6 + len(threads))
 
 
 def of_length(length):
-    """A schedule whose report has this size: thread 10 polls where one more byte is wanted."""
+    """A schedule whose report has `length` bytes: a poll by thread 10 adds a byte to one by 1."""
     count = max(0, length - 300) // 41
     while len(polling([1] * (count + 1))[1]) <= length:
         count += 1
@@ -67,11 +67,12 @@ def test_batch_in_few_writes(replayer, texts, most_writes):
     assert len(writes) <= most_writes
 
 
-# Room that ends within each of the first 200 writes, within later ones, and before the end
+# The file has no more room in the middle of each of the first 200 writes, of two later ones, and
+# before the last byte.
 @pytest.mark.parametrize("size", [
     *(k * WAITING + WAITING // 2 for k in [*range(200), 204, 208]), len(CROWD.report) - 1])
 def test_file_that_is_full(replayer, tmp_path, size):
-    """A file gets as much of a report of 14 MB as it has room for."""
+    """The file gets as much of a report of 14 MB as it has room for."""
     assert len(CROWD.report) > 209 * WAITING
     with open(tmp_path / "short", "wb") as short:
         done = replayer.run("replay", stdin=CROWD.text, stdout=short, preexec_fn=short_files(size))

@@ -1,7 +1,8 @@
 """Random choices for generators that draw from a `random.Random`, as hypothesis makes them.
 
-Hypothesis draws bytes, and every choice of a generator takes the next of them. After the last byte
-all are 0, for the first of each choice. So a value that fails shrinks with its bytes.
+Hypothesis draws bytes, and each choice of a generator takes the next ones. After the last byte
+every byte is 0, which takes the first of the possible choices. So a failing value shrinks with its
+bytes.
 """
 import random
 import zlib
@@ -27,14 +28,15 @@ class Dice(random.Random):
         return self.getrandbits(16) / (1 << 16)
 
     def sample(self, population, k):
-        """`Random` would draw again until the item is a new one, for ever after the last byte."""
+        """Draws no item twice. `Random` would redraw until it has a new one: for ever, once all
+        bytes are 0."""
         rest = list(population)
         return [rest.pop(self.randrange(len(rest))) for _ in range(k)]
 
 
 def drawn(generator, most=1_200):
-    """The values of a generator by at most `most` bytes, drawn in chunks that shrink by
-    themselves."""
+    """The values that a generator makes from at most `most` bytes. Hypothesis draws the bytes in
+    chunks, each of which it can drop or shrink by itself."""
     chunk = st.binary(min_size=CHUNK, max_size=CHUNK)
     return st.integers(0, most // CHUNK).flatmap(
         lambda count: st.lists(chunk, min_size=count, max_size=count)).map(
@@ -42,9 +44,9 @@ def drawn(generator, most=1_200):
 
 
 def try_random(request, strategy, check, count, at_once=1):
-    """Checks `count` random values, or a tenth with --quick, and reports how many. If `at_once`
-    are tried together, the strategy makes lists of that many on average. Each test has a seed of
-    its own, which follows from the one that is printed."""
+    """Checks `count` random values, or a tenth of them with --quick, and reports the number. With
+    `at_once`, the strategy makes lists of that many values on average. Each test derives a seed of
+    its own from the printed seed."""
     tried, count = [], count // (10 if request.config.getoption("quick") else 1)
 
     @settings(max_examples=count // at_once)

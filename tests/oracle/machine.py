@@ -1,9 +1,9 @@
-"""A lock in use: its words, the call that each thread is in the middle of, who holds and who waits.
+"""A lock in use: its words, the pending call of each thread, the holders and the queue.
 
-The words alone decide how a call goes on, by the code in locks/. Holders and queue are kept beside
-them, by the outcome of each call. The two have to agree whenever a thread enters: it is the head of
-the queue, if there is one, and no writer is inside beside it. Else the machine stops with
-`AssertionError`.
+The words alone decide how a call goes on, by the code in locks/. The outcomes of calls update the
+holders and the queue. The two have to agree whenever a thread enters: the thread is the head of the
+queue, if there is one, and it is alone inside or all threads inside are readers. Otherwise the
+machine raises `AssertionError`.
 """
 from typing import NamedTuple
 
@@ -13,11 +13,11 @@ from locks.steps import WAITS, Words
 
 
 class Made(NamedTuple):
-    """A step that was made. A section is on all words, so it names none."""
+    """A step that a thread has made. A section acts on all words, so it names none."""
     kind: str
     word: object
     found: int  # the word's value before the step
-    left: int  # and after it
+    left: int  # the value after it
     outcome: str
 
 
@@ -29,14 +29,14 @@ class Machine:
         self.call = [None] * threads  # the word of the pending call
         self.step = [None] * threads  # the step that is due in it
         self.due = [None] * threads  # the kind of that step
-        self.answers = [()] * threads  # what its steps answered so far
+        self.answers = [()] * threads  # the answers of its steps so far
         self.code = [None] * threads  # its generator; None in a copy
-        self.held = {}  # threads that hold, and the call by which each does
+        self.held = {}  # each holder, and the call by which it holds
         self.queue = []  # oldest first
-        self.shown = "hold - queue -"  # holders and queue in a report; None if to be made anew
+        self.shown = "hold - queue -"  # holders and queue in a report; None after they changed
 
     def copy(self):
-        """The same state. Generators cannot be copied: `_start_code` makes them again."""
+        """A copy of the state. Python copies no generators, so `_start_code` makes them again."""
         other = Machine.__new__(Machine)
         other.lock, other.threads, other.words = self.lock, self.threads, self.words.copy()
         other.call, other.step, other.due = self.call[:], self.step[:], self.due[:]
@@ -45,11 +45,11 @@ class Machine:
         return other
 
     def giving_back(self, thread):
-        """The calls by which the thread may give back what it holds."""
+        """The calls by which a holder may give the lock back."""
         return HOLDING[self.held[thread]].ended_by if thread in self.held else ()
 
     def calls(self, thread):
-        """The calls that a thread may make now, if it is in none."""
+        """The calls that a thread may begin, if it has no pending call."""
         return self.giving_back(thread) or self.lock.taking
 
     def refusal(self, thread, word):
@@ -70,7 +70,7 @@ class Machine:
         return "NoCall" if due is None else f"WrongStep next {due}"
 
     def play(self, thread, word):
-        """Makes a move that is not refused; its outcome."""
+        """Makes a move for which there is no refusal, and returns its outcome."""
         step = self.step[thread]
         if step is None:
             self.call[thread] = word
@@ -127,7 +127,7 @@ class Machine:
         assert len(self.held) == 1 or self.sign() == HOLDING[call].sign == "r", "another is inside"
 
     def sign(self):
-        """How a report marks those who hold."""
+        """The letter by which a report marks the holders."""
         return HOLDING[next(iter(self.held.values()))].sign if self.held else "-"
 
     def state(self):

@@ -7,11 +7,11 @@
 It takes the command lines of `lockreplay` and must print the same bytes and end with the same
 status (0: every move accepted, 1: some report ends with a refusal or a fault).
 
-It was written from the published algorithms, and in another way than the program, on purpose. The
+It follows the published algorithms, and works in another way than the program on purpose. The
 program's machines have a phase for each place in a call, a table of steps by phase, and a history
-from which holders and queue follow. Here a call is code as the books print it, a generator that
-stops before each atomic step (locks/), and holders and queue are kept by the outcomes of calls
-(machine.py). So if the two agree, the result was found in two ways.
+from which holders and queue follow. Here a call is the code that the books print, as a generator
+that stops before each atomic step (locks/), and the outcomes of calls update holders and queue
+(machine.py). So a result on which both agree was found in two ways.
 
 Sources: ticket lock and MCS lock, Mellor-Crummey and Scott, ACM TOCS 9(1), 1991; read-write locks
 after Herlihy and Shavit, The Art of Multiprocessor Programming, chapter 8. The texts of schedules
@@ -33,7 +33,7 @@ LONGEST_MOVE = len("255 ") + max(map(len, WORDS))
 
 
 class Fault(Exception):
-    """Why a text is no schedule."""
+    """The reason why a text is no schedule."""
 
 
 def decimal(word, least, most):
@@ -63,7 +63,7 @@ def header_of(line, number):
 
 @lru_cache(maxsize=20_000)
 def move_of(line):
-    """The thread and the word of a move, or None. The same few lines come again and again."""
+    """The thread and the word of a move, or None. Cached, since schedules repeat a few lines."""
     words = line.split(b" ")
     thread = decimal(words[0], 0, 255)
     word = words[-1].decode("latin-1")

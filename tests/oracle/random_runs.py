@@ -1,8 +1,7 @@
-"""Random runs of the locks for tests of traces and logs, as the second replayer's machine makes
-them.
+"""Random runs of the locks for tests of traces and logs, made by the oracle's machine.
 
-A run's moves are pairs of a thread and the line of its log. Polls that find again what they found
-before are in a log once.
+A run's moves are pairs of a thread and the line of its log. A log leaves out each poll that finds
+what the last poll found.
 """
 from itertools import islice
 from typing import NamedTuple
@@ -33,7 +32,7 @@ class Run(NamedTuple):
 
 
 def line_of(machine, thread, count):
-    """Makes the step that is due, and returns its line. A section is the one of this count."""
+    """Makes the step that is due, and returns its line. `count` is the count of a section."""
     made = machine.make(thread)
     if made.kind == "section":
         return f"section {count} {made.outcome}"
@@ -46,15 +45,15 @@ def line_of(machine, thread, count):
 
 
 def is_in_vain(line, last):
-    """Whether a poll found again what the same poll found just before."""
+    """Whether a poll found what the thread's last move, the same poll, found."""
     return line == last and line.startswith("read") or \
         line.endswith("waits") and last.endswith("waits")
 
 
 def turns(dice, threads):
     """Yields, without end, whose turn it is and whether the thread may take the lock then. Some
-    threads are slow, and in some runs a thread goes on for a while, or rests before it takes the
-    lock again. So some runs have a queue that does not end, and some have many queues."""
+    threads are slow. In some runs a thread makes several moves in a row, or rests before it takes
+    the lock again. So the queue never empties in some runs, and empties often in others."""
     pace = [dice.choice([1, 4, 20]) for _ in range(threads)]
     longest, rest = dice.choice([1, 1, 4, 12]), dice.choice([0, 0, 0.7, 0.95])
     while True:
@@ -88,7 +87,7 @@ def has_value(line):
 
 
 def changed_value(dice, line, sums, values):
-    """The line with one of the sums added to one of its numbers, modulo `values`."""
+    """Adds one of the `sums` to one of the numbers in a line, modulo `values`."""
     words = line.split(" ")
     at = dice.choice([i for i, word in enumerate(words) if word.isdigit()])
     words[at] = str((int(words[at]) + dice.choice(sums)) % values)

@@ -1,8 +1,8 @@
-"""Random schedules and random texts, drawn from one generator of numbers.
+"""Random schedules and random texts, drawn from one random number generator.
 
-Most moves are the due step or a call that is allowed, as the machine of machine.py has them; so
-schedules reach deep into each lock. Some end in a refused move, some in a line that is no move,
-and some texts are changed byte by byte.
+Most moves are the due step or an allowed call, which machine.py knows, so schedules reach deep into
+each lock. Some schedules have a refused move or a line that is no move near their end, and some
+texts have bytes changed.
 """
 import oracle
 from locks import LOCKS
@@ -46,7 +46,7 @@ def allowed_move(chance, machine, thread):
 
 
 def moves(chance, name, threads, count):
-    """At most `count` moves: threads in bursts, few at a time or all, none refused."""
+    """Yields `count` moves, none refused, by some or all threads, some of which move in bursts."""
     machine = Machine(name, threads)
     few = chance.sample(range(threads), min(threads, chance.choice([1, 2, 3, 5, 64])))
     stay = chance.choice([0.0, 0.3, 0.6, 0.9])
@@ -60,7 +60,7 @@ def moves(chance, name, threads, count):
 
 
 def stray_move(chance, name, threads, played):
-    """A move that is well formed, allowed or not: of a thread that moved before, mostly."""
+    """A well-formed move, allowed or not, mostly by a thread that has moved before."""
     lock = LOCKS[name]
     thread = chance.choice(played)[0] if played else chance.randrange(threads)
     if chance.random() < 0.1:
@@ -70,7 +70,7 @@ def stray_move(chance, name, threads, played):
 
 
 def odd_line(chance):
-    """A line that is no move, or looks like none. One that begins with CR is not skipped."""
+    """A line that is no move. A line that begins with CR is no comment and no empty line."""
     if chance.random() < 0.1:
         return chance.choice(["\r", "\r\r", "\r# 0 acquire", "\r0 acquire"])
     if chance.random() < 0.5:
@@ -80,7 +80,7 @@ def odd_line(chance):
 
 
 def sprinkle(chance, lines):
-    """Puts empty lines and comments among the lines, at times very many."""
+    """Inserts empty lines and comments among the lines, at most 40."""
     for _ in range(chance.choice([0, 0, 1, 3, 40])):
         line = chance.choice(["", "#", "# 0 acquire", "#" * chance.randint(1, 200), "#\0\xff\r"])
         lines.insert(chance.randint(0, len(lines)), line)
@@ -126,7 +126,7 @@ def changed_text(chance, text):
 
 
 def most_moves(chance, beyond):
-    """A schedule of the most moves, of so many more, or of the most and a line that is no move."""
+    """A schedule with `beyond` moves over the limit, or with all moves and a line that is none."""
     name, threads, line = header(chance)
     ends_oddly = chance.random() < 0.5
     played = moves(chance, name, threads, oracle.MOST_MOVES + (0 if ends_oddly else beyond))
@@ -157,7 +157,7 @@ def random_bytes(chance):
 
 
 def random_text(chance, longest):
-    """One text: a schedule mostly, else a changed schedule or plain bytes."""
+    """A text: mostly a schedule, else a changed schedule or random bytes."""
     kind = chance.random()
     if kind < 0.75:
         return random_schedule(chance, longest)

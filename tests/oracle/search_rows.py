@@ -1,5 +1,5 @@
-"""The tables of searches: spaces.txt, kinds.txt and sketches.txt of tests/rows. Their heads say how
-they are written.
+"""Reads the tables of searches: spaces.txt, kinds.txt and sketches.txt of tests/rows. The head of
+each table describes its format.
 """
 from pathlib import Path
 from typing import NamedTuple
@@ -11,7 +11,7 @@ ROWS = Path(__file__).resolve().parents[1] / "rows"
 class Space(NamedTuple):
     lock: str
     threads: int
-    rounds: int | str  # a number of them, or ANY
+    rounds: int | str  # a number, or ANY
     bits: int
 
     def __str__(self):
@@ -21,15 +21,15 @@ class Space(NamedTuple):
 class Counts(NamedTuple):
     states: int
     transitions: int
-    depth: int  # the longest of the shortest runs to the states
+    depth: int  # the length of a shortest run to the farthest state
 
 
 class Sketch(NamedTuple):
     space: Space
     lines: list
     length: int  # None if no run has the lines
-    states: int  # None if a run has them
-    run: list  # (thread, word) of each move, of a shortest run
+    states: int  # None if a run has the lines
+    run: list  # (thread, word) of each move of a shortest run
 
     def __str__(self):
         return f"{self.space}: {'; '.join(self.lines)}"
@@ -42,7 +42,7 @@ class Sketch(NamedTuple):
 
 
 def rows(name):
-    """The text of each row. A line that begins with a space goes on with the one above it."""
+    """The parts of each row. A line that begins with two spaces continues the row above it."""
     text = (ROWS / f"{name}.txt").read_text().replace("\n  ", " | ")
     for line in text.splitlines():
         if line and not line.startswith("//"):
@@ -55,7 +55,7 @@ def space(written):
 
 
 def run(written):
-    """The moves of a run: those of one thread are written one after the other."""
+    """The moves of a run: a table writes a thread once before the moves that it makes in a row."""
     for part in written.split("; "):
         thread, *words = part.split()
         yield from ((int(thread), word) for word in words)
@@ -69,7 +69,7 @@ def spaces():
 
 
 def kinds(lock):
-    """The kinds of a lock's transitions, each with its length."""
+    """The kinds of a lock's transitions, each with the length of a shortest run that takes it."""
     return {tuple(kind.split()): int(length) for name, kind, _, length, *_ in rows("kinds")
             if name == lock}
 
@@ -85,7 +85,7 @@ def sketches():
 
 
 def names():
-    """The name of each kind, by the lock."""
+    """A map from each lock to the names of its kinds of transition."""
     named = {}
     for lock, kind, name, *_ in rows("kinds"):
         named.setdefault(lock, {})[tuple(kind.split())] = name

@@ -1,5 +1,5 @@
-"""The oracle on every worked row, so that these are not judged by the program alone; and whether
-the stored texts are what their names say, and reach every answer."""
+"""The oracle gives the report of every worked row, so that not the program alone judges them. The
+stored texts are what their names say, and together reach every answer."""
 import pytest
 
 import corpus

@@ -1,7 +1,7 @@
-"""The tables of searches beside a search over the oracle (spaces.py).
+"""The tables of searches have what a search over the oracle (spaces.py) finds.
 
-bench/count.py compares the rows of spaces.txt with SPIN's search, and tests/locktrace all of them
-with that of `locktrace`.
+bench/count.py compares the rows of spaces.txt with SPIN's search, and tests/locktrace compares all
+tables with the search of `locktrace`.
 """
 import pytest
 
@@ -21,7 +21,7 @@ def test_counts(row, counts, kinds):
     each for each in search_rows.spaces() if each[0].rounds != search_rows.ANY
     and each[0].bits == 64], ids=str)
 def test_lock_as_it_is(row, counts, _):
-    """The search over changed locks, if nothing is changed."""
+    """The search over changed locks finds the same counts if no step is changed."""
     space = Searched(row.lock, row.threads, row.rounds)
     transitions = sum(map(len, space.sources.values()))
     assert (len(space.lengths), transitions, max(space.lengths.values())) == counts
@@ -34,7 +34,7 @@ def test_kinds(lock):
 
 @pytest.mark.parametrize("sketch", list(search_rows.sketches()), ids=str)
 def test_sketch(sketch):
-    """The run of a row is one of the space, and no run that has the lines is shorter."""
+    """The space has the run of a row, and no shorter run has the lines."""
     space = searched(sketch.space)
     found = space.find(sketch.lines)
     if sketch.length is None:

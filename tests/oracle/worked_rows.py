@@ -7,8 +7,8 @@ They are in three kinds of files:
     tests/rows/TABLE.txt                     a text and its report on one line; the head of
                                              texts.txt says how they are written
 
-The two texts of examples/ that are too large to lie there are printed by examples/limits.sh. Rows
-that a rule makes are in no file: `mcs_queue_of_64`, `most_moves`, and the many of `short_rows`.
+examples/limits.sh prints the two texts that are too large to lie in examples/. Functions make the
+rows that are in no file: `mcs_queue_of_64`, `most_moves`, and the many of `short_rows`.
 """
 import pathlib
 import re
@@ -18,12 +18,12 @@ from typing import NamedTuple
 TOP = pathlib.Path(__file__).resolve().parents[2]
 EXAMPLES, ROWS = TOP / "examples", TOP / "tests" / "rows"
 TABLES = ["texts", "refusals", "limits"]
-EARLIER = b"..\n"  # stands for the lines of a report that a row does not have
+EARLIER = b"..\n"  # stands for the first lines of a report, which a row leaves out
 ESCAPES = {"|": "\n", r"\r": "\r", r"\0": "\0"}
 
 
 class Row(NamedTuple):
-    """A text, as pieces of bytes that are each repeated so many times, and its report."""
+    """A text with its report. A piece of the text is some bytes, and how often they repeat."""
     name: str
     pieces: list
     report: bytes
@@ -38,7 +38,7 @@ class Row(NamedTuple):
         return report == self.report
 
     def status(self):
-        """The exit status of a replay: 0 where every move was accepted."""
+        """The exit status of a replay: 0 if it accepts every move."""
         return 0 if self.report.splitlines()[-1].startswith(b"end ") else 1
 
 
@@ -59,7 +59,7 @@ def too_large(name):
 
 
 def plain(written):
-    """The bytes that a table writes with escapes."""
+    """The bytes for which a table writes escapes."""
     return re.sub(r"\||\\(?:[r0]|x([0-9a-f]{2}))", lambda found: ESCAPES.get(found[0]) or chr(
         int(found[1], 16)), written).encode("latin-1")
 
@@ -70,7 +70,7 @@ def pieces_of(written):
 
 
 def lines_of(path):
-    """The place and the two parts of each line of a table. `//` begins a comment."""
+    """The place of each line of a table, and the parts around ` => `. `//` begins a comment."""
     for number, line in enumerate(path.read_text().splitlines(), 1):
         if line and not line.startswith("//"):
             first, arrow, second = line.partition(" => ")
@@ -90,7 +90,7 @@ def table(name):
 def narrowest(row):
     """The row in the narrowest words, if it is a schedule that names no width.
 
-    With fewer threads than a word has values no width shows in a report.
+    A report does not depend on the width while words have more values than there are threads.
     """
     header = re.search(rb"^lock \S+ threads (\d+)$", row.text, re.MULTILINE)
     if header is None or row.report.splitlines()[-1].startswith(b"fault "):
@@ -101,7 +101,7 @@ def narrowest(row):
 
 
 def mcs_queue_of_64():
-    """Every thread swaps itself in and none links: the queue is in the order of the swaps."""
+    """Every thread swaps the tail, and none links itself: the queue has the order of the swaps."""
     text, report, queue, number = ["lock mcs threads 64"], [], [], 0
     for thread in range(64):
         for word in ("acquire", "write", "swap"):
@@ -118,7 +118,7 @@ def mcs_queue_of_64():
 
 
 def most_moves():
-    """65,536 moves: two threads in the queue, of which the second polls."""
+    """65,536 moves: two threads join the queue, and the second polls to the limit of moves."""
     text = b"lock ticket threads 2\n0 acquire\n0 add\n1 acquire\n1 add\n"
     report = ["1 0 acquire called hold - queue -", "2 0 add moved hold - queue 0",
               "3 1 acquire called hold - queue 0", "4 1 add moved hold - queue 0,1"]
@@ -128,7 +128,7 @@ def most_moves():
 
 
 def crowd():
-    """64 threads in the queue of a ticket lock, of which the last polls to the limit of moves."""
+    """64 threads join the queue of a ticket lock, and the last polls to the limit of moves."""
     text, report, queue = ["lock ticket threads 64"], [], "-"
     for thread in range(64):
         number = 2 * thread + 1
@@ -160,7 +160,7 @@ def hand_over():
 
 
 def cuts():
-    """The schedule of a hand-over, cut after each byte. No move's word is the front of another."""
+    """The schedule of a hand-over, cut after each byte. A word that is cut is no other word."""
     lines, report = hand_over()
     text, header = b"".join(lines), len(lines[0])
     for k in range(len(text) + 1):
@@ -181,7 +181,7 @@ def cuts():
 
 
 def last_bytes():
-    """A move and one byte after it, which ends the line or makes another word of it."""
+    """A move and one byte after it: LF ends the line, and any other byte spoils the word."""
     for byte in range(256):
         due = b"fault line 2 BadLine\n"
         if byte == 10:
@@ -191,6 +191,6 @@ def last_bytes():
 
 
 def short_rows():
-    """Rows in which nothing but the text's end differs."""
+    """Rows whose texts differ only at the end."""
     yield from cuts()
     yield from last_bytes()

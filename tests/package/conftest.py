@@ -1,4 +1,4 @@
-"""Installed and packaged trees, made once for all tests of this folder. Only root runs them."""
+"""Makes the installed and packaged trees once for all tests here, which only root runs."""
 import os
 import tempfile
 from pathlib import Path
@@ -24,20 +24,20 @@ def only_root():
 
 @pytest.fixture(scope="session")
 def shared(tmp_path_factory):
-    """A folder of all workers of pytest."""
+    """A folder that all workers of pytest share."""
     return folder_of(tmp_path_factory.getbasetemp()) / "package"
 
 
 @pytest.fixture
 def large():
-    """A folder that may take gigabytes."""
+    """An empty folder with room for gigabytes."""
     with tempfile.TemporaryDirectory(dir=LARGE) as folder:
         yield Path(folder)
 
 
 @pytest.fixture(scope="session")
 def made(shared):
-    """The file that a target of the Makefile writes, once."""
+    """Makes a target of the Makefile once, and returns the file that it writes."""
     def make_once(target):
         name = shared / f"{target}.name"
         once(name, lambda: name.write_text(make(target).splitlines()[-1]))
@@ -48,7 +48,7 @@ def made(shared):
 
 @pytest.fixture(scope="session")
 def trees(shared, made):
-    """The tree of `make install`, the tarball and the package, unpacked."""
+    """The tree of `make install`, and the unpacked trees of the tarball and the package."""
     def fill():
         assert make("install-built", f"DESTDIR={shared}/installed", "PREFIX=/usr/local") == ""
         (shared / "tarball").mkdir(mode=0o755)

@@ -1,9 +1,9 @@
-"""Makes what is installed and packaged, and Debian roots in which commands run."""
+"""Runs `make`, makes Debian roots, and runs commands in them."""
 import os
 
 from tree import TOP, environment, output, ran
 
-# Where folders of gigabytes are made: in Debian 13 /tmp is memory.
+# The place of folders that take gigabytes: not /tmp, which is in memory in Debian 13.
 LARGE = os.environ.get("TMPDIR") or "/var/tmp"
 TOOLS = TOP / "tests" / "tools"
 MANUALS = ["lockreplay.1", "locktrace.1", "lockreplay-schedule.5", "locktrace-trace.5"]
@@ -16,7 +16,7 @@ def make(*words, **how):
 
 
 class Tree:
-    """A tree of programs and documents: the folder of `bin`, and the root that it lies in."""
+    """A tree of programs and documents: `tree` is the folder of `bin`, somewhere below `root`."""
 
     def __init__(self, name, root, below):
         self.name, self.root, self.tree = name, root, root / below
@@ -27,13 +27,13 @@ class Tree:
 
 
 def make_root(suite, root, *packages):
-    """Makes a minimal Debian with some packages."""
+    """Makes a minimal Debian of a suite in `root`, with some packages."""
     assert output(TOOLS / "root.sh", suite, root, *packages, timeout=600) == ""
     return root
 
 
 def in_root(root, *words, see=(), **how):
-    """A command in a Debian root, which sees some folders of this machine."""
+    """Runs a command in a Debian root, which sees the folders `see` of this machine."""
     seen = [word for path in see for word in ("--see", path)]
     return ran(TOOLS / "in_root.sh", *seen, root, *words,
                **{"timeout": 3_600, "errors": "replace", **how})

@@ -1,9 +1,8 @@
-"""The completions of bash, zsh and fish, by pressing Tab in the real shells.
+"""Presses Tab in a real bash, zsh and fish, which find the completions by their own rules.
 
-Each case is a line, and what is on it when Tab was pressed after it: the same in all three shells,
-which find the completion in an installed tree by their own rules. The line is then written to a
-file by a key that is bound to that. A completion's function may work and not be found by the shell,
-so it is not called by itself.
+Each case is a line as typed, and the line after Tab, which is the same in all three shells. A key
+bound in the shell then writes the line to a file. The tests do not call a completion function by
+itself, since it may work although no shell finds it.
 """
 import os
 import pty
@@ -43,6 +42,10 @@ CASES = [
     ("locktrace check --format j", "locktrace check --format json "),
     ("locktrace check --color ne", "locktrace check --color never "),
     ("locktrace check --qu", "locktrace check --quiet "),
+    ("locktrace check --pa", "locktrace check --page "),
+    ("locktrace check --page hand", "locktrace check --page handed-on.schedule "),
+    ("locktrace check --fr", "locktrace check --from "),
+    ("locktrace check --from hand", "locktrace check --from handed-on.schedule "),
     ("locktrace check hand", "locktrace check handed-on.schedule "),
     ("locktrace check --summary a.schedule hand",
      "locktrace check --summary a.schedule handed-on.schedule "),
@@ -93,7 +96,8 @@ CASES = [
     ("locktrace help sp", "locktrace help space "),
 ]
 
-# The first file that each shell reads. Control-T then writes the line as it is.
+# The command of each shell, and the lines that it gets first. They bind Control-T to a function
+# that writes the current line to a file.
 SHELLS = {
     "bash": (["bash", "--norc", "--noprofile", "-i"], """
         . /usr/share/bash-completion/bash_completion
@@ -114,7 +118,8 @@ SHELLS = {
         bind \\cu 'commandline ""'
     """),
 }
-# If it is not there, fish begins to fill it from all manual pages, and goes on after its end.
+# Without this folder fish starts to generate completions from all manual pages, in a process that
+# outlives the shell.
 GENERATED = ".local/share/fish/generated_completions"
 PATIENCE = 20  # seconds
 CLEAR, LINE = "\x15", "\x14"
@@ -139,7 +144,7 @@ class Shell:
         os.write(self.terminal, keys.encode())
 
     def wait_for(self, file, last):
-        """The text of a file, when its last byte is there. What the shell shows is thrown away."""
+        """Waits until a file ends with `last`, and returns its text. Drops what the shell shows."""
         until = time.monotonic() + PATIENCE
         while time.monotonic() < until:
             if select.select([self.terminal], [], [], 0.02)[0]:

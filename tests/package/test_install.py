@@ -1,6 +1,6 @@
-"""`make install` fills a folder, and `make uninstall` takes all of it away again.
+"""`make install` installs every file, and `make uninstall` removes all of them.
 
-If a part is missing, nothing is installed.
+If a part is missing, `make install` installs nothing.
 """
 import re
 import shutil
@@ -29,7 +29,7 @@ def files(folder):
 
 
 def due_files():
-    """Where each file has to be. A list of modules may be empty, and is not installed then."""
+    """The path of each file to install. Empty files, such as lists of no modules, are left out."""
     found = {path for pattern in DOCUMENTS.split() for path in TOP.glob(pattern)}
     return {"bin/lockreplay", "bin/locktrace", "lib/liblk_trace_c.a", "lib/pkgconfig/locktrace.pc",
             "share/pkgconfig/lockreplay-record.pc", "include/locktrace.h",
@@ -51,7 +51,7 @@ def test_files(installed):
 
 
 def test_uninstall(tmp_path):
-    """Another's file stays."""
+    """`make uninstall` leaves the file of somebody else."""
     (tmp_path / "usr/local/bin").mkdir(parents=True)
     (tmp_path / "usr/local/bin/other").write_text("another's\n")
     for target in ("install-built", "uninstall"):
@@ -65,7 +65,7 @@ def test_version(installed, word):
 
 
 def test_licences(installed):
-    """A file that is copied alone names its licence, and the texts are there."""
+    """A file that people copy by itself names its licence, and the licence texts are installed."""
     documents = installed / "share" / "doc" / "lockreplay"
     alone = [*installed.glob("include/**/*.h"), *documents.glob("examples/recording/*.[ch]"),
              *documents.glob("examples/**/*.sh"), *documents.glob("examples/bindings/*"),
@@ -76,14 +76,15 @@ def test_licences(installed):
         "/usr/share/common-licenses/Apache-2.0").read_text()
     notices = dict(re.findall(r"^(\S+) [^\n]*\n-+\n\n(.*?)(?:\n\n\n|\Z)",
                               (documents / "THIRD-PARTY").read_text(), re.MULTILINE | re.DOTALL))
-    for crate in ("clap", "strsim", "thiserror", "itoa", "memchr", "arrayvec", "fast-float2"):
+    for crate in ("clap", "base64", "strsim", "thiserror", "itoa", "memchr", "arrayvec",
+                  "fast-float2"):
         assert "Permission is hereby granted" in notices[crate]
 
 
 @pytest.mark.parametrize("part", [*BUILDS, "record/locktrace.h", "packaging/man/locktrace.1"])
 @pytest.mark.parametrize("is_empty", [False, True])
 def test_missing_part(tmp_path, part, is_empty):
-    """If one is missing, or was left empty by a build, it is named and nothing is installed."""
+    """If a part is missing or empty, install.sh names it and installs nothing."""
     copy, root = tmp_path / "copy", tmp_path / "nothing"
     for pattern in [*DOCUMENTS.split(), "packaging/**/*", *BUILDS]:
         for file in filter(Path.is_file, TOP.glob(pattern)):
@@ -99,6 +100,6 @@ def test_missing_part(tmp_path, part, is_empty):
 
 @pytest.mark.parametrize("target", ["install", "dist", "deb", "install-built"])
 def test_stale_parts(target):
-    """`make` would build each part, if a source is newer than all that was built of it."""
+    """A newer source makes each target build all parts, but `install-built` builds none."""
     told = make("--dry-run", "--what-if=crates/lk_words/src/lib.rt", target)
     assert [command in told for command in BUILDS.values()] == [target != "install-built"] * 4

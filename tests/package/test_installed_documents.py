@@ -1,11 +1,10 @@
 """Installed documents name only what is installed: their links, and paths in backticks.
 
-A link has to lead to an installed file. So has a path in backticks, from the top of the documents,
-from the document or as the end of another; or it is of a folder or file that docs/INSTALL.md says
-is in the repository alone; or a command of a document writes it. A word in capitals stands for any
-part of a path. A document with a block that such a folder or file is needed for, or `make` or `rt`,
-says that something is run in the repository. The definitions that a reader has to believe are all
-there.
+A link has to lead to an installed file. A path in backticks may start at the top of the documents
+or at the document, or be the end of a longer path. It has to be installed, or written by a command
+of a document, or one that docs/INSTALL.md lists as in the repository alone. A word in capitals
+stands for any part of a path. A document has to say "run in the repository" if a block needs the
+repository for a file, `make` or `rt`. All definitions that a reader has to believe are installed.
 """
 import fnmatch
 import os
@@ -17,7 +16,7 @@ from document_blocks import blocks_of, without_blocks
 from document_names import WRITTEN, files_of
 from tree import TOP
 
-# INSTALL.md's list of what is not installed: the backticks from these words to the paragraph's end
+# From these words to the end of the paragraph, INSTALL.md lists in backticks what is not installed
 NOT_INSTALLED = re.compile(r"In the repository alone are (.*?)\n\n", re.DOTALL)
 PATH = re.compile(r"[\w.{}*-]+(/[\w.{},*-]+)+/?$|[\w-]+\.(md|h|txt|html)$")
 OF_REPOSITORY = re.compile(r"(?:^|[;&|(])\s*(?:make|rt)\b", re.MULTILINE)
@@ -26,7 +25,7 @@ NAMED = re.compile(r"(?<!`)`([^`\n]+)`(?!`)|\]\(([^)\s]+)\)")
 
 
 def not_installed(documents):
-    """The folders and files that are not installed, as the documents themselves say."""
+    """The folders and files that docs/INSTALL.md lists as not installed."""
     text = (documents / "docs" / "INSTALL.md").read_text()
     return {f"/{name}/" for name in re.findall(r"`([^`]+)`", NOT_INSTALLED.search(text).group(1))}
 
@@ -40,7 +39,7 @@ def found(path, near, files):
 
 
 def is_installed(path, near, installed):
-    """Whether a path is of what is installed, or of what a document's command writes."""
+    """Whether a path names an installed file, or a file that a document's command writes."""
     return any(fnmatch.fnmatchcase(path, way) for way in WRITTEN) or bool(
         found(path, near, installed))
 
@@ -54,7 +53,7 @@ def is_known(path, near, installed, repository, elsewhere):
 
 
 def needs_repository(block, near, installed, repository, elsewhere):
-    """Whether a block has a command of `make` or `rt`, or a file of the repository alone."""
+    """Whether a block runs `make` or `rt`, or names a file that only the repository has."""
     if block.language not in ("sh", "console"):
         return False
     lines = block.lines
@@ -68,7 +67,8 @@ def needs_repository(block, near, installed, repository, elsewhere):
 
 
 def missing_in(document, documents, lists):
-    """Each link and path of a document that leads to nothing."""
+    """The links and paths of a document that lead to nothing, and the blocks that do not say where
+    they run."""
     near = os.path.relpath(document.parent, documents)
     text = "\n".join(line for _, line in without_blocks(document.read_text().splitlines()))
     for block in blocks_of(document.read_text().splitlines()):
@@ -102,7 +102,7 @@ def test_document(documents, lists, name):
 
 
 def test_definitions(documents):
-    """Each file of definitions is where documents say it is."""
+    """The installed documents have each file of definitions."""
     specs = [path for path in sorted(TOP.glob("crates/*/specs/**/*.antt"))
              if path.read_text().startswith("-- Definitions")]
     assert len(specs) > 50

@@ -1,4 +1,4 @@
-"""Manual pages have no fault that mandoc finds, show the version, and name each word of the command
+"""mandoc finds no fault in a manual page, which shows the version and has each word of the command
 line.
 """
 import os
@@ -15,11 +15,11 @@ HELP_LINE = r"^ +(?:-\w, )?(?:--)?([a-z]+)(?: <[^>]*>)?(?:  |$)"  # `  -j, --job
 
 @pytest.mark.parametrize("page", MANUALS)
 def test_manual_page(installed, tmp_path, page):
-    """No message of mandoc, found by man, with the version, and no warning of groff."""
+    """mandoc says nothing about the page; `man` finds it, shows the version, and has no warning."""
     manual = shutil.copytree(installed / "share" / "man", tmp_path / "man")
     name, section = page.rsplit(".", 1)
     assert output("makewhatis", manual) == ""
-    # all of `mandoc -Tlint` but the conventions of OpenBSD's and NetBSD's base systems
+    # -Wstyle leaves out only the conventions of the base systems of OpenBSD and NetBSD.
     assert output("mandoc", "-Tlint", "-Wstyle", "-M", manual,
                   manual / f"man{section}" / page) == ""
     shown = output("man", "-M", manual, "--warnings", section, name, env={
@@ -31,10 +31,10 @@ def test_manual_page(installed, tmp_path, page):
     "lockreplay": ("lockreplay", "replay batch", "replay batch help workers"),
     "locktrace": ("locktrace", "check explain order schedule find tour space why cover",
                   "check explain order schedule find tour space why cover help version format "
-                  "color summary quiet jobs moves names rounds bits limit runs require"),
+                  "color summary quiet jobs page from moves names rounds bits limit runs require"),
 })
 def test_words(installed, name, commands, due):
-    """A program's help offers the expected words, and the program's page has each of them."""
+    """A program's help has exactly the expected words, and its manual page has each of them."""
     page = (installed / f"share/man/man1/{name}.1").read_text()
     helps = "".join(output(installed / "bin" / name, *command, "--help")
                     for command in ([], *([it] for it in commands.split())))

@@ -1,8 +1,7 @@
-"""Runs what the installed documents show, on a Debian that has the package alone.
+"""Runs the commands of the installed documents on a Debian that has the package and a C compiler.
 
-In a minimal Debian 12 with a C compiler and the package, the installed documents are copied, and in
-the copy everything is run that each of DOCUMENTS shows. The guide's lock is then built in a folder
-where there is nothing else.
+Each of DOCUMENTS runs in its own copy of the installed documents, in a minimal Debian 12 and in 13.
+The lock of the guide is also built in a folder that has nothing else.
 """
 import re
 import subprocess
@@ -14,16 +13,16 @@ from documents import Room, faults_of_block
 from installs import in_root, make_root
 
 INSTALLED = "usr/share/doc/lockreplay"
-DOCUMENTS = ("docs/GUIDE.md", "docs/FORMATS.md", "examples/recording/README.md")
+DOCUMENTS = ("README.md", "docs/GUIDE.md", "docs/FORMATS.md", "examples/recording/README.md")
 ALONE = """mkdir -p /root/alone/logs && cd /root/alone && cat > try.c &&
 gcc -O2 -Wall -Wextra -Werror -pthread -DLR_MODE=SEED try.c -o try && ./try 3 1000 17 logs &&
 locktrace check logs/run.trace"""
 
 
-@pytest.fixture(scope="module")
-def debian(made, tmp_path_factory):
+@pytest.fixture(scope="module", params=["bookworm", "trixie"])
+def debian(request, made, tmp_path_factory):
     """A minimal Debian in a folder, with the package installed."""
-    root = make_root("bookworm", tmp_path_factory.mktemp("debian") / "root",
+    root = make_root(request.param, tmp_path_factory.mktemp("debian") / "root",
                      "gcc", "libc6-dev")
     (root / "lockreplay.deb").write_bytes(made("deb").read_bytes())
     assert in_root(root, "dpkg", "--install", "/lockreplay.deb").returncode == 0
@@ -55,7 +54,7 @@ def test_document(debian, document):
 
 @pytest.mark.xdist_group("debian")
 def test_lock_of_the_guide(debian):
-    """As it is printed there, with the installed header."""
+    """The lock builds and runs as the guide prints it, with the installed header."""
     guide = (debian / INSTALLED / "docs" / "GUIDE.md").read_text()
     text = re.search(r"```c\n(.*?)```", guide, re.DOTALL).group(1)
     done = in_root(debian, "sh", "-c", ALONE, input=text)

@@ -1,4 +1,4 @@
-"""Tarball, package and release: what they say of themselves, and the same bytes each time."""
+"""Tarball, package and release: their metadata, and the same bytes each time they are made."""
 import re
 import shutil
 
@@ -28,7 +28,7 @@ def test_lintian(made):
 @pytest.mark.parametrize("target", ["dist", "deb"])
 @pytest.mark.xdist_group("artifacts")
 def test_made_again(made, tmp_path, target):
-    """The same bytes with another folder for files, under another umask, and later."""
+    """Another folder for temporary files, umask, time zone or SOURCE_DATE_EPOCH changes no byte."""
     before = made(target).read_bytes()
     make(target, umask=0o077, env=environment(TMPDIR=str(tmp_path), TZ="Asia/Tokyo",
                                               SOURCE_DATE_EPOCH="1"))
@@ -36,7 +36,7 @@ def test_made_again(made, tmp_path, target):
 
 
 def test_no_day(tmp_path):
-    """Without its day in CHANGELOG.md a version is not packed."""
+    """dist.sh packs no version whose day CHANGELOG.md does not have."""
     shutil.copytree(TOP / "packaging", tmp_path / "packaging")
     (tmp_path / "VERSION").write_text("9.9.9\n")
     shutil.copy(TOP / "CHANGELOG.md", tmp_path)
@@ -45,7 +45,7 @@ def test_no_day(tmp_path):
 
 
 class Release:
-    """A clone of this tree as it is now, with what was built, in which a release is made."""
+    """A new repository with the files of this tree and the built programs, for making a release."""
 
     def __init__(self, folder):
         self.tree = folder
@@ -73,7 +73,7 @@ class Release:
                 if file.suffix != ".log"}
 
     def refused(self, file, text):
-        """The answer of a release while a file has other text."""
+        """The answer of a release while a file begins with more text."""
         kept = (self.tree / file).read_text()
         (self.tree / file).write_text(text + kept)
         told = self.make()
@@ -82,8 +82,8 @@ class Release:
 
 
 def test_release(tmp_path):
-    """Its five files, with their sums, are the same bytes twice. What is not committed or not
-    released is refused."""
+    """A release has five files, with correct sums, and the same bytes when made again. Changes that
+    are not committed, or listed as unreleased, stop it."""
     release = Release(tmp_path / "tree")
     assert len(release.make().splitlines()) == 4
     files = release.files()

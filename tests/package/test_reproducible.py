@@ -1,9 +1,9 @@
-"""Tarball, package, programs, library and module: the same bytes on other machines.
+"""Tarball, package, programs, library and module have the same bytes on other machines.
 
-Tarball and package are made in a minimal Debian 12 and a minimal Debian 13, each from two trees:
-one without git, and a shallow clone that another user owns, there with another umask and time zone
-and on one processor. Then what was built is deleted, and built over the kept proofs in the Debian
-12. All of it is compared with what is here, byte for byte. Nothing is proved that was proved here.
+A minimal Debian 12 and a minimal Debian 13 make the tarball and the package, each from two trees:
+a tree without git, and a shallow clone that another user owns, with another umask and time zone and
+on one processor. Debian 12 also builds programs, library and module anew over the kept proofs, so
+nothing is proved again. Every file has to equal the one here, byte for byte.
 """
 import shutil
 from pathlib import Path
@@ -15,14 +15,14 @@ from tree import BUILT, TOP, output
 
 PACKAGES = ("binutils", "debhelper", "dpkg-dev", "git", "make", "python3")
 PACKAGED = [BUILT[name][0] for name in ("lockreplay", "locktrace", "library")]
-# How commands run in the tree without git, and in the clone.
+# The front of each command in the tree without git, and in the clone.
 TREES = {"srv/plain": "", "home/another/shallow":
          "umask 077 && TZ=Asia/Tokyo SOURCE_DATE_EPOCH=1 taskset --cpu-list 0 "}
 pytestmark = pytest.mark.slow
 
 
 def copy_files(tree, more):
-    """The files of this tree, as they are now, and some that git does not list."""
+    """Copies the files of this tree, as they are now, and the files `more`, which git ignores."""
     listed = output("git", "ls-files", "--cached", "--others", "--exclude-standard", cwd=TOP)
     for name in (*listed.splitlines(), *more):
         if (TOP / name).is_file():
@@ -37,7 +37,7 @@ def debian(request, large):
 
 @pytest.fixture
 def run():
-    """The output of a shell command in a tree of a root, which sees the kit."""
+    """Runs a shell command in a tree of a root, which sees the kit, and returns its output."""
     kit = Path(shutil.which("rt")).resolve().parent.parent
 
     def in_tree(root, tree, command):
@@ -63,7 +63,7 @@ def test_artifacts(debian, run, made, tree):
 
 @pytest.mark.parametrize("debian", ["bookworm"], indirect=True)
 def test_build(debian, run):
-    """Builds, but not proofs, are deleted and made again."""
+    """Debian builds deleted files again from the proofs that were kept."""
     tree, built = debian / "srv" / "built", [*PACKAGED, BUILT["module"][0]]
     copy_files(tree, ())
     shutil.rmtree(tree / "crates")

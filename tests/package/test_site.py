@@ -1,6 +1,6 @@
-"""The site that `make site` writes: its links and anchors, what it loads, its search, its themes.
+"""The site that `make site` writes: its links, anchors, loaded files, search and themes.
 
-It is read from disk, as by somebody who was sent the folder.
+The tests read it from disk, like a reader who received the folder.
 """
 import re
 from html.parser import HTMLParser
@@ -11,7 +11,7 @@ from installs import make
 from recorders import once
 from tree import EXAMPLES, output
 
-# The links that a browser loads by itself: all but those that a reader follows.
+# The attributes from which a browser loads files by itself. A reader follows all other links.
 LOADING = {("script", "src"), ("img", "src"), ("link", "href"), ("iframe", "src"),
            ("source", "srcset"), ("object", "data")}
 CHROMIUM = ("chromium", "--headless", "--no-sandbox", "--disable-gpu", "--virtual-time-budget=9000")
@@ -25,7 +25,7 @@ PLAIN = "const [, file] = process.argv; new vm.Script(fs.readFileSync(file, 'utf
 
 
 class Document(HTMLParser):
-    """The anchors of a document, and where its elements lead."""
+    """The anchors of a document, and the addresses in its elements."""
 
     def __init__(self, path):
         super().__init__()
@@ -96,7 +96,7 @@ def test_one_click(documents, site):
 
 
 def test_search(site):
-    """A word that one document has, and a word that none has, in a browser that reads from disk."""
+    """The search finds the document with a word, and says when none has it, without a server."""
     address = f"file://{site}/search.html?q="
     found = output(*CHROMIUM, "--dump-dom", f"{address}planted", stderr=None)
     assert 'href="docs/PLANTED.html' in found.partition('id="search-results"')[2]
@@ -105,7 +105,7 @@ def test_search(site):
 
 
 def test_scripts_are_plain(site):
-    """A module, or what it imports, is not loaded from disk. Furo's script switches the themes."""
+    """No script is a module, which no browser loads from disk. Furo's switches the themes."""
     scripts = sorted(site.rglob("*.js"))
     assert site / "_static" / "scripts" / "furo.js" in scripts
     for script in scripts:
@@ -114,7 +114,7 @@ def test_scripts_are_plain(site):
 
 @pytest.mark.parametrize("system, same", [("0", "dark"), ("1", "light")], ids=["dark", "light"])
 def test_themes(site, tmp_path, system, same):
-    """Without a choice of the reader the colours are those that the system asks for."""
+    """Until the reader chooses a theme, the colours are those that the system prefers."""
     (tmp_path / "themes.html").write_text(THEMES.format(site=site))
     shown = output(*CHROMIUM, f"--blink-settings=preferredColorScheme={system}", "--dump-dom",
                    f"file://{tmp_path}/themes.html", stderr=None)

@@ -1,7 +1,7 @@
-"""A lock of somebody who has two files of this repository and gcc alone, in a bare Debian.
+"""A user who has only gcc and two files of this repository finds a wrong step by two commands.
 
-Two commands name the step that is wrong, and its line. The lock is the guide's, with the mistake
-that the guide plants first.
+In a bare Debian, the commands build and explore the guide's lock with the first mistake that the
+guide plants. They name the wrong step and its line.
 """
 import re
 import shutil
@@ -13,7 +13,7 @@ from tree import TOP
 
 FILES = ("lockreplay_record.h", "locktrace.c")
 BUILD = "cd /alone && gcc -pthread -DLR_MODE=EXPLORE lock.c locktrace.c -o lock"
-FOUND = ("4 runs with up to 1 preemption, not all of them, the last one is refused\n"
+FOUND = ("4 runs with up to 1 preemption, the last one is refused\n"
          "refused at line 10 of the trace, lock.c:13: '1 add next_ticket found 0': FoundOther: ")
 
 

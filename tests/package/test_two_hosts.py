@@ -1,8 +1,11 @@
 """Many schedules and traces over two hosts, by the commands of docs/FORMATS.md for GNU parallel.
 
-A host is an sshd of its own on a port of the loopback device; nothing of the machine's own ssh is
-read. In the middle of a run one host goes away. The same command, given again when it is back, does
-the rest: each result is what the program writes here.
+Each host is an sshd on a port of the loopback device, and reads no settings of the machine's ssh.
+One host goes away in the middle of a run. When it is back, the same command does the remaining
+jobs. Each result has to equal the output of the program here.
+
+The output of a job comes through the connection that also brings its status. A file that `parallel`
+fetches after a job can be lost with its host, and `parallel` takes the job as done.
 """
 import os
 import re
@@ -50,20 +53,20 @@ class Host:
             time.sleep(0.1)
 
     def go(self):
-        os.killpg(self.process.pid, signal.SIGKILL)  # with all its logins
+        os.killpg(self.process.pid, signal.SIGKILL)  # the server and its logins
         self.process.wait()
 
 
 @pytest.mark.parametrize("command", COMMANDS, ids=lambda command: shlex.split(command)[13])
 def test_two_hosts(lockreplay, locktrace, tmp_path, request, command):
-    result, log, job, pattern = (shlex.split(command)[at] for at in (6, 10, 11, 13))
+    result, log, job, pattern = (shlex.split(command)[at] for at in (7, 10, 11, 13))
     stems = sorted(corpus.TEXTS)[:FILES]
     for stem in stems:
         (tmp_path / f"{stem}{pattern[1:]}").write_bytes(corpus.TEXTS[stem])
     for program in (lockreplay, locktrace):
         (tmp_path / program.name).symlink_to(program)
     output("ssh-keygen", "-q", "-t", "ed25519", "-N", "", "-f", tmp_path / "key")
-    os.makedirs("/run/sshd", exist_ok=True)  # where sshd keeps what it has no rights to
+    os.makedirs("/run/sshd", exist_ok=True)  # the folder of sshd's privilege separation
     hosts = [Host(tmp_path), Host(tmp_path)]
     (tmp_path / "hosts").write_text("".join(f"2/127.0.0.1:{host.port}\n" for host in hosts))
     how = {"cwd": tmp_path, "env": environment(PATH=f"{tmp_path}:{os.environ['PATH']}",
@@ -84,6 +87,5 @@ def test_two_hosts(lockreplay, locktrace, tmp_path, request, command):
     ran("sh", "-c", command, **how)
     assert len({job[1] for job in jobs()}) == 2
     for stem in stems:
-        found = (tmp_path / result.replace("{.}", stem)).read_bytes()
-        ran("sh", "-c", job.replace("{.}", stem).replace("{}", f"{stem}{pattern[1:]}"), **how)
-        assert found == (tmp_path / result.replace("{.}", stem)).read_bytes()
+        own = ran("sh", "-c", job.replace("{}", f"{stem}{pattern[1:]}"), text=False, **how)
+        assert (tmp_path / result.replace("{.}", stem)).read_bytes() == own.stdout

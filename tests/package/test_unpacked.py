@@ -1,8 +1,8 @@
-"""The installed tree, the tarball and the Debian package run with nothing else.
+"""The installed tree, the tarball and the Debian package need nothing but the C library.
 
-Programs run with an empty environment under `chroot`, where the tree and the C library are all
-there is. Expected texts were made by hand. Programs in C and Python are built on headers and
-library, as a user would build them.
+Programs run with an empty environment under `chroot`, in a root that has only the tree and the C
+library. Expected texts were made by hand. C and Python use the headers and the library as a user
+would.
 """
 import re
 import shutil
@@ -14,7 +14,7 @@ import pytest
 from traces import GOOD, LOGS, OTHER, OTHER_LINE, SCHEDULE
 from tree import VERSION, cases, environment, output
 
-DEBIAN_12 = (2, 36)  # its version of glibc
+DEBIAN_12 = (2, 36)  # the version of its glibc
 PROGRAMS = ("lockreplay", "locktrace")
 FOLDERS = ("share", "lib", "lib/x86_64-linux-gnu")
 WARNINGS = ["-O2", "-Wall", "-Wextra", "-Werror"]
@@ -22,7 +22,7 @@ WARNINGS = ["-O2", "-Wall", "-Wextra", "-Werror"]
 
 @pytest.fixture
 def run(tree, tmp_path):
-    """Runs a program of the tree in a root that has the tree and the C library."""
+    """Runs a program of the tree in a root that has only the tree and the C library."""
     root = tmp_path / "root"
     shutil.copytree(tree.tree, root, symlinks=True)
     for library in {file for name in PROGRAMS
@@ -43,7 +43,8 @@ def status_of(report):
 
 
 def test_examples_are_replayed(tree, run):
-    """Each by itself, and those that lie there as a batch; limits.sh prints those that do not."""
+    """Each example is replayed by itself, and the stored ones as a batch. limits.sh prints the
+    others."""
     reports = sorted(tree.documents.glob("examples/*.report"))
     stored = [report for report in reports if report.with_suffix(".schedule").exists()]
     assert (len(stored) >= 28, len(reports) - len(stored)) == (True, 2)
@@ -94,7 +95,7 @@ def test_order(run):
 
 @pytest.mark.parametrize("name", PROGRAMS)
 def test_libraries(tree, name):
-    """The programs need the C library alone, and no version later than Debian 12's."""
+    """The programs need only the C library, in the version of Debian 12 or an earlier one."""
     program = tree.program(name)
     asked = re.findall(r"NEEDED.*\[(.*)\]", output("readelf", "--dynamic", program))
     assert asked == ["libc.so.6"]
@@ -104,7 +105,7 @@ def test_libraries(tree, name):
 
 @pytest.fixture
 def asked(tree):
-    """The answers of pkg-config on the packages of the tree."""
+    """Asks pkg-config about the packages of the tree."""
     path = ":".join(f"{tree.tree}/{folder}/pkgconfig" for folder in FOLDERS)
     return lambda *words: output("pkg-config", *words,
                                  env=environment(PKG_CONFIG_PATH=path)).split()
@@ -134,7 +135,7 @@ int main(void)
     "checking": ("locktrace", CHECKS, []),
 })
 def test_program_of_a_few_lines(asked, tmp_path, name, text, flags):
-    """It is built from a folder of its own, and run."""
+    """A short program builds outside the tree with the flags of pkg-config, and runs."""
     assert asked("--modversion", name) == [VERSION]
     (tmp_path / "it.c").write_text(text)
     assert output("cc", *WARNINGS, *flags, "it.c", *asked("--cflags", "--libs", name), "-o", "it",
@@ -153,7 +154,7 @@ def test_recorded_lock(tree, asked, tmp_path):
 
 
 def test_tour_is_followed(tree, asked, tmp_path):
-    """A tour is written, and a lock of the examples follows it. Without one a sentence says so."""
+    """A lock of the examples follows a tour. Without a tour the script says how to write one."""
     [libraries] = asked("--variable=libdir", "locktrace")
     words = [tree.documents / "examples/recording/conform.sh", f"{libraries}/liblk_trace_c.a",
              "ticket", tmp_path]
@@ -168,7 +169,7 @@ ACCEPTED = "lock ticket threads 1\n0 acquire\n0 add next_ticket found 0\n"
 
 
 def test_binding_for_python(tree, asked, tmp_path):
-    """With the shared library that its first comment says how to make."""
+    """The binding works with the shared library that the command in its head makes."""
     binding = tree.documents / "examples/bindings/locktrace.py"
     [command] = [line for line in binding.read_text().splitlines()
                  if line.startswith("    cc -shared")]

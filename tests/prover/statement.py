@@ -1,11 +1,11 @@
 #!/usr/bin/env python3
-"""Counts the lines of definitions that a reader must believe to read the main theorem.
+"""Counts the lines of the definitions that a reader of the main theorem must believe.
 
     tests/prover/statement.py [NAME]
 
-From `MainTheorem.EveryRunIsAsPromised`, or from another definition given as FILE.NAME, it follows
-each name to its definition in the specs of lk_locks or lk_words, or to the enum or struct of their
-code that it is, and prints for each file the definitions that are reached, with their lines. Blank
+It starts at `MainTheorem.EveryRunIsAsPromised`, or at another definition given as FILE.NAME, and
+follows each name to its definition in the specs of lk_locks or lk_words, or to the enum or struct
+in their code. It prints for each file the definitions that it reaches, with their lines. Blank
 lines, comments, attributes and `use` lines do not count.
 """
 
@@ -17,7 +17,7 @@ CRATES = Path(__file__).resolve().parents[2] / "crates"
 THEOREM = "MainTheorem.EveryRunIsAsPromised"
 
 IMPORT = re.compile(r"use Rattle\.(?:lk_locks|lk_words)\.specs\.([\w.]+?)(?:\.\{(.*)\})?$")
-# a type of the code, its variants, or what the prover knows of it
+# An import of a type of the code, of its variants, or of what the prover knows about it.
 DECLARED = re.compile(r"use Rattle\.\w+\.specs\.(?:declared|contracts)\.([\w.]+)\."
                       r"(?!TheVariants)(\w+)(?:\.TheVariants)?(?:\.\{(.*)\}| as (\w+))$")
 TYPE = re.compile(r"pub (?:enum|struct) (\w+)")
@@ -26,7 +26,7 @@ NAME = re.compile(r"(?<![\w.])([A-Za-z_]\w*)(?:\.([A-Za-z_]\w*))?")
 
 
 class Definitions:
-    """The definitions of one file: their lines, and what each imported name stands for."""
+    """The definitions of one file: their lines, and the meaning of each imported name."""
 
     def __init__(self, module, lines):
         self.module = module
@@ -60,11 +60,11 @@ class Definitions:
             self.names.update((name.strip(), module) for name in names.split(","))
 
     def passed_on(self, name):
-        """The type of the code, if it is one that this file names."""
+        """The type of the code that a name stands for, if this file imports it."""
         return [self.types[name]] if name in self.types else []
 
     def named_in(self, definition):
-        """Each (file, name) that the definition's text may speak of."""
+        """Each (file, name) to which the text of a definition may refer."""
         for first, second in NAME.findall("\n".join(self.lines[definition])):
             if second and first in self.modules:
                 yield self.modules[first], second
@@ -77,7 +77,7 @@ class Definitions:
 
 
 class Types:
-    """The enums and structs of one file of code, which may hold one another."""
+    """The enums and structs of one file of code, which may contain one another."""
 
     def __init__(self, module, lines):
         self.module = module
@@ -112,7 +112,7 @@ def read_all():
 
 
 def reached(files, root):
-    """The definitions reached from one, itself included."""
+    """The definitions that `root` reaches, itself included."""
     seen, waiting = set(), [root]
     while waiting:
         module, name = waiting.pop()

@@ -3,8 +3,8 @@
 
     static_library.py CRATE TARGET FILE
 
-Writes FILE, below the crate's folder. TARGET is the kit's name of a processor and a system. JOBS
-processors are used, all if it is not set. `rt lib` builds the libraries first.
+It writes FILE below the crate's folder. TARGET is the kit's name for a processor and a system. The
+build uses JOBS processors, or all if the variable is not set. `rt lib` builds the libraries first.
 """
 import os
 import subprocess

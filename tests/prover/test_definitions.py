@@ -1,8 +1,8 @@
 """The list of definitions in docs/PROOF.md names the files of crates/*/specs.
 
-A file of specs/ says in its first line whether it is "Definitions", which a reader has to believe,
-or "Invariants", which nobody has to. Each file of definitions has to be named under "What a reader
-must believe", in the item of its crate, and no other name may be in backticks there.
+The first line of a file of specs/ says whether it has "Definitions", which a reader has to believe,
+or "Invariants", which nobody has to believe. Under "What a reader must believe", the item of a
+crate has to name each file of definitions in backticks, and nothing else.
 """
 import re
 
@@ -14,7 +14,7 @@ PART = re.compile(r"\(`crates/(\w+)/specs`\)")
 
 
 def kinds_of(crate):
-    """The kind of each file in a crate's specs, by the file's name."""
+    """A map from each file in a crate's specs to its kind."""
     found = {}
     for path in sorted((TOP / "crates" / crate / "specs").rglob("*.antt")):
         if path.stem not in ("Lib", "invariants") and "invariants" not in path.parts:
@@ -24,7 +24,7 @@ def kinds_of(crate):
 
 
 def parts_of(document):
-    """The item of each crate's list, in the section about what to believe."""
+    """A map from each crate to its item in the section about what to believe."""
     section = document.split("\n## What a reader must believe\n")[1].split("\n## ")[0]
     pieces = PART.split(section)
     items = (re.split(r"\n- |\n\n", piece)[0] for piece in pieces[2::2])

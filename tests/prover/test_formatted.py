@@ -1,4 +1,4 @@
-"""`rt fmt` changes no file of the crates: `rt ci` refuses one, and `rt check` does not look."""
+"""`rt fmt` changes no file of the crates. `rt ci` refuses such a file, but `rt check` does not."""
 import shutil
 
 import pytest

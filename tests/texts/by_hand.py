@@ -1,5 +1,5 @@
-"""Words that stay written by hand: in a sentence, beside what is said of each, or in a crate, whose
-proofs are of its text. They are compared with the catalogue.
+"""Compares the words of the catalogue with files that `make generate` does not fill: sentences,
+lists that explain each word, and crates, whose proofs depend on their text.
 """
 from catalogue import (ANSWERS, CALLS, DIFFERS, FAULTS, HOLDERS, LOCKS, MESSAGES, MOVES, OF,
                        OF_TEXTS, OUTCOMES, PARTS, PLACES, REFUSED, RELEASE, RESULTS, STEPS, VERSION,
@@ -14,7 +14,7 @@ def either(words):
     return f"{', '.join(others)} or {last}"
 
 
-# Texts that files have, wherever their lines break.
+# Texts that these files must contain, wherever their lines break.
 SAID = {
     "record/src/lockreplay_record.h": [f"call) {either(CALLS)}", f"The lock is {either(LOCKS)};"],
     "record/rust/Cargo.lock": [f'name = "lockreplay-record" version = "{VERSION}"'],
@@ -26,8 +26,8 @@ SAID = {
         f"FIRST_STEP = {MOVES[STEPS['Read']]};",
         "ANSWER = {{ accepted: {}, refused: {}, fault: {}, short: {} }};".format(*ANSWERS)],
 }
-# A file, two patterns, and the words that a third one finds between them. The order of a list is
-# compared too.
+# A file, two patterns, a third pattern, and the words that it has to find between their matches.
+# The order counts for a list, and not for a set.
 ALL, ITEM, KEY = (r"\A", r"\Z"), r"^\.It Li (\w+)", r"(\w+): ['`]"
 LISTS = (
     ("VERSION", *ALL, ".+", [RELEASE]),
@@ -58,7 +58,7 @@ LISTS = (
 
 
 def faults():
-    """Texts that a file lacks, or names otherwise."""
+    """A message for each text that a file lacks, and each list with other words than are due."""
     for path, texts in SAID.items():
         said = " ".join(read(path).split())
         yield from (f"{path}: it does not say {text}" for text in texts if text not in said)

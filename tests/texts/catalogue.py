@@ -1,7 +1,8 @@
-"""The words, names and numbers of locks, moves and faults, each read where it is written once.
+"""The words, names and numbers of locks, moves and faults, read from their sources.
 
-Words are those of the parsers' tables, names those that the crates print, numbers those of the
-definitions that the proofs use. A table has a word for each variant of an enum, in its order.
+The words come from the tables of the parsers, the names from the crates that print them, and the
+numbers from the definitions that the proofs use. A table has a word for each variant of an enum, in
+the order of the variants.
 """
 import re
 from pathlib import Path
@@ -11,7 +12,7 @@ ENUMS, WORDS_OF = "crates/lk_locks/src/kinds.rt", "crates/lk_lines/src/vocabular
 TRACE = "crates/lk_trace/src"
 SPECS = ("crates/lk_trace/specs/Codes.antt", "crates/lk_trace_c/specs/Numbers.antt",
          "crates/lk_search/specs/Phases.antt", "crates/lk_page/specs/*.antt")
-# the tables of the kinds of transition
+# The tables of the kinds of transition.
 KINDS = ("crates/lk_catalogue/src/*.rt", "crates/lk_search/src/kinds/*.rt")
 
 
@@ -34,7 +35,7 @@ def between(text, before, after):
 
 
 def words(enum, *paths):
-    """The word of each variant, by a table of the parsers or the arms of a match."""
+    """A map from each variant of an enum to its word in a parser's table or the arms of a match."""
     text = read(*paths)
     word = dict(found(rf'\b{enum}::(\w+)[^"\n]*"([\w-]+)', text))
     variants = found(r"^    (\w+)", between(text, rf"enum {enum} \{{", r"^\}"))
@@ -42,7 +43,7 @@ def words(enum, *paths):
 
 
 def numbers(definition):
-    """The number of each word, in the order of numbers, by the equations of a definition."""
+    """A map from each word to its number in the equations of a definition, in numeric order."""
     equation = rf"^{definition} \(?(?:Call |Step )?(\w+).*? = \(?(\d+)(?:, \w+\))?$"
     return {WORDS.get(variant, variant): int(number) for variant, number
             in sorted(found(equation, read(*SPECS)), key=lambda it: int(it[1]))}
@@ -62,12 +63,12 @@ LOCKS, CALLS, STEPS, OUTCOMES = (words(enum, ENUMS, WORDS_OF)
 WORDS = {**LOCKS, **CALLS, **STEPS, **OUTCOMES,
          **words("Refusal", ENUMS, "crates/lk_locks/src/refusals.rt"),
          **words("Difference", f"{TRACE}/difference.rt"), **words("TextFault", f"{TRACE}/trace.rt")}
-del OUTCOMES["Called"]  # of a call
-# the message of each fault of a trace, without its name
+del OUTCOMES["Called"]  # the outcome of a call, which no line has
+# The message of each fault of a trace, without the name of the fault.
 MESSAGES = {WORDS[variant]: text for text, variant in found(
     r'#\[error\("(.*?) \(\{name\}\)".*\n    (\w+)', read(f"{TRACE}/trace.rt"))}
-# Parts that may follow the word of a lock in a trace, after `of` and its thread; and words of locks
-# that a trace names, which come before these parts. A monitor's are in no trace.
+# PARTS may follow the word of a lock in a trace, after `of` and a thread. PLACES are the words of
+# locks that a trace names, before these parts; no trace names the words of a monitor.
 DUE = read(f"{TRACE}/due.rt")
 OPEN, (OF, *PARTS) = (found(r'"(\w+)"', between(DUE, before, r"\];\n"))
                       for before in ("OPEN: [^=]*", "PARTS: [^=]*"))
@@ -79,7 +80,7 @@ DIFFERS, OF_TEXTS, OF_SIZE = map(numbers, ("difference_number", "fault_number", 
 FAULTS = {**OF_TEXTS, **OF_SIZE}
 PHASES, LOCK_CODES, HOLDERS = map(numbers, ("phase_code", "lock_code", "holding_code"))
 EXPECTED = {name.lower(): number for name, number in numbers("expected_code").items()}
-# Answers of the page's module; the bits of a record's thread; and the number for no word.
+# The answers of the page's module, the bits of a record's thread, and the number for no word.
 ANSWERS = [*numbers("answer_of").values(), *(int(found(rf"\({name} ≡ (\d+)\)", read(path))[0])
            for name, path in (("answer", "crates/lk_page/specs/Written.antt"),
                               ("result", "crates/lk_page/src/lib.rt")))]
@@ -91,5 +92,5 @@ LIMITS = {name: int(number.replace("_", "")) for name, number in found(
     r"^pub const (MOST_\w+): usize = ([\d_]+);", read("crates/lk_replay/src/schedule.rt"))}
 TRANSITIONS = list(dict.fromkeys(found(r'^    "([^"\n]+)":', read(*KINDS))))
 VERSION = read("VERSION").strip()
-# the newest release, and its day
+# The newest release, and its day.
 RELEASE, DAY = found(r"^## \[(\d+\.\d+\.\d+)\] - (.*)$", read("CHANGELOG.md"))[0]

@@ -1,4 +1,4 @@
-"""The fenced blocks of a document, and the marks above them; documents.py says what they mean."""
+"""Finds the fenced blocks of a document and the marks above them, which documents.py explains."""
 import re
 from dataclasses import dataclass, field
 
@@ -19,7 +19,7 @@ class Block:
     lines: list[str] = field(default_factory=list)
 
     def commands(self):
-        """Each command with the lines that are due for it; `\\` at an end continues a command."""
+        """Each command with its expected output. A `\\` at the end of a line continues it."""
         found = []
         for line in self.lines:
             if found and found[-1][0].endswith("\\") and not found[-1][1]:
@@ -34,7 +34,7 @@ class Block:
 
 
 def marks_above(lines, fence):
-    """The marks in the lines right above a fence, which is counted from 0."""
+    """The marks in the lines right above a fence, the line with index `fence`."""
     marks = {}
     while fence > 0 and (mark := MARK.fullmatch(lines[fence - 1].strip())):
         marks[mark.group(1)] = mark.group(2)
@@ -43,7 +43,7 @@ def marks_above(lines, fence):
 
 
 def blocks_of(lines):
-    """The blocks in their order."""
+    """The blocks of a document in order."""
     block, fence = None, ""
     for number, line in enumerate(lines):
         opens = FENCE.fullmatch(line)
@@ -60,7 +60,7 @@ def blocks_of(lines):
 
 
 def without_blocks(lines):
-    """The lines with their numbers from 1, fenced blocks left out."""
+    """The lines outside fenced blocks, with their numbers from 1."""
     fence = ""
     for number, line in enumerate(lines, 1):
         opens = FENCE.fullmatch(line)

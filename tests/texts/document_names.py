@@ -1,4 +1,4 @@
-"""Whether what a document names is there: links, files, targets of `make`, names of the sources.
+"""Checks that a document names only existing links, files, targets of `make` and names of sources.
 
 A name in backticks that looks like a file has to be one; a word in capitals stands for any part of
 it. `A::b` has to be public. A word with an underscore, or with a capital inside, has to be defined
@@ -15,7 +15,7 @@ TEXTS = (".rt", ".rattle", ".rs", ".antt", ".py", ".js", ".mjs", ".c", ".h", ".s
          ".css", ".schedule", ".report", ".txt", "Makefile", "control")
 FILE = re.compile(r"[\w./*-]+\.(md|py|rt|rattle|antt|sh|c|h|js|mjs|html|schedule|report|txt|edit|"
                   r"patch|png|log|trace)")
-# Definitions of a name, in Rattle, in its definitions, and in the other languages.
+# Patterns of a definition: in Rattle, in its specifications, and in the other languages.
 DEFINED = [re.compile(pattern, re.MULTILINE) for pattern in (
     r"^\s*(?:export )?(?:pub(?:\(\w+\))? )?(?:unsafe )?(?:extern \"C\" )?"
     r"(?:fn|struct|enum|trait|type|mod|const|static|class|function|let) (?:mut )?(\w+)",
@@ -30,10 +30,10 @@ DEFINED = [re.compile(pattern, re.MULTILINE) for pattern in (
     r"^[\w ]+?\**(\w+)\(",
 )]
 PUBLIC = re.compile(r"^\s*pub (?:fn|struct|enum|trait|type|mod|const) (\w+)", re.MULTILINE)
-# A trait's functions and an enum's variants are public if the trait or the enum is.
+# The functions of a public trait and the variants of a public enum are public.
 INSIDE = re.compile(r"^pub (?:trait|enum) .*?^\}", re.MULTILINE | re.DOTALL)
 INNER = re.compile(r"^    (?:fn (\w+)|([A-Z]\w*)[(,{ ])", re.MULTILINE)
-# Names in documents from outside the repository: the kit, the C library, other programs.
+# Names from outside the repository: from the kit, the C library and other programs.
 OUTSIDE = set("""
     ArrayVec AllocError BufWriter Vec String Mutex Global Display SIGPIPE WebAssembly include_str
     include_bytes thiserror arrayvec atomic_table memchr itoa clap fetch_and_store qnode QNode
@@ -41,10 +41,11 @@ OUTSIDE = set("""
     futex parallel ssh rsync hosts Host Exitval RT_JOBS SimpleReadWriteLock FifoReadWriteLock
     mkdir libck tas
 """.split())
-# Files that the commands of a document write, and what a build does.
+# Files that the commands of a document write, or a build.
 WRITTEN = (
-    "logs/*", "ordered/*", "try.c", "./try", "jobs.log", "hosts.log", "run.trace", "run.schedule",
-    "*.example", "*/out/*", "record/locktrace.h", "/dev/*", "{}*", "examples/fault-too-*", "*.c",
+    "logs/*", "ordered/*", "run.html", "try.c", "./try", "jobs.log", "hosts.log", "run.trace",
+    "run.schedule", "*.example", "*/out/*", "record/locktrace.h", "/dev/*", "{}*",
+    "examples/fault-too-*", "*.c",
 )
 
 
@@ -92,7 +93,7 @@ class Names:
                 self.public.update(name for found in INNER.findall(block) for name in found if name)
 
     def is_file(self, name, document):
-        """Whether some file has the name, from the top, from the document, or as its end."""
+        """Whether a file has this path from the top or the document, or a path with this end."""
         pattern = re.sub(r"\b[A-Z]{2,}\b|\b[A-Z]\b", "*", name.rstrip("/"))
         pattern = re.sub(r"^(\.\./)+", "", pattern)
         here = os.path.relpath(document.parent, self.top)
@@ -102,7 +103,7 @@ class Names:
             or any(fnmatch.fnmatchcase(name, way) for way in WRITTEN)
 
     def is_command(self, words):
-        """Whether a command of `make` has its target, variables, and the crate and mutant named."""
+        """Whether the targets, variables, crate and mutant of a `make` command exist."""
         given = dict(word.split("=", 1) for word in words if "=" in word)
         chosen = {word for word in words if "=" not in word}
         mutant, crate = given.get("MISTAKE", "NAME"), given.get("CRATE", "NAME")
@@ -116,7 +117,7 @@ class Names:
                    for part in re.findall(r"\w+", name))
 
     def is_there(self, name, document):
-        """Whether what is in backticks is there, as far as it is a name."""
+        """Whether the name in backticks exists. Text that is no name always passes."""
         words = name.split()
         if "make" in words[:2]:
             return self.is_command(words[words.index("make") + 1:])
@@ -144,7 +145,7 @@ class Names:
         return None
 
     def missing_in(self, document, lines):
-        """Each line's number, and what it names that is not there."""
+        """(line number, fault) for each name or link that leads to nothing."""
         text = "\n".join(line for _, line in without_blocks(lines))
         numbers = [number for number, _ in without_blocks(lines)]
         for match in re.finditer(r"(?<!`)`([^`\n]+)`(?!`)|\]\(([^)\s]+)\)", text):

@@ -1,18 +1,18 @@
 """Runs the commands of a document, and says what is wrong with it.
 
-A fenced block that begins with ```console has lines `$ command`, each with the output that is due
-for it below; a line `...` stands for any lines. A block ```sh is a script, which has to end with
-status 0. Both run in a folder in which the repository's folders are seen, one for each document, so
-that a later block finds what an earlier one wrote. A comment above the fence says more:
+A fenced block that begins with ```console has lines `$ command`, each with its expected output
+below; a line `...` stands for any lines. A block ```sh is a script, which has to end with status 0.
+Each document has a folder with links to the repository's folders, in which all its blocks run, so a
+later block finds the files of an earlier one. A comment above the fence says more:
 
     <!-- not run: REASON -->    the block cannot be run in a test
     <!-- with: PART -->         it is run if PART is built
     <!-- file: NAME -->         the block is the file NAME, and is saved before the next one is run
     <!-- quoted: FILE -->       the block is lines of the file, one after another
 
-A shell's block of another language is a fault, and so is a command that is indented and not fenced,
-and one that leaves the reader in another folder: `(cd FOLDER && ..)` does not. document_names.py
-looks at links, and at names in backticks.
+A block of commands in another language than sh or console is a fault. So is an indented command
+without a fence, and a command that leaves the reader in another folder, which `(cd FOLDER && ..)`
+does not. document_names.py checks links and names in backticks.
 """
 import os
 import re
@@ -30,7 +30,7 @@ END = "status of this command:"
 
 
 def is_met(due, found):
-    """Whether the lines found are those that are due, where `...` stands for any lines."""
+    """Whether the lines found are those due. A line `...` stands for any lines."""
     pattern = "".join("(?:.*\n)*?" if line == "..." else re.escape(f"{line}\n") for line in due)
     return re.fullmatch(pattern, "".join(f"{line}\n" for line in found)) is not None
 
@@ -47,7 +47,7 @@ class Room:
         for made in (tools, out):
             made.mkdir(parents=True)
         show(TOP, self.path, {".git", "crates"})
-        # Links to folders, into which `find` does not go: so `make` sees no source that is newer.
+        # `find` does not follow links to folders, so `make` sees no source newer than the programs.
         show(TOP / "crates", self.path / "crates", {"lockreplay"})
         show(TOP / "crates" / "lockreplay", out.parent, {"out"})
         (tools / "lockreplay").symlink_to(program)
@@ -59,7 +59,7 @@ class Room:
         self.environment = environment(LC_ALL="C.UTF-8", PATH=f"{tools}:{os.environ['PATH']}")
 
     def run(self, commands):
-        """The lines that each of the commands prints in one shell, and its status."""
+        """Runs commands in one shell: the lines that each prints, and its status."""
         ends = "\n".join(f"{it}\n_ended=$?; printf '\\n{END} %d\\n' $_ended; (exit $_ended)"
                          for it in commands)
         script = self.path.parent / "script"
@@ -69,7 +69,7 @@ class Room:
         return [(text.splitlines(), int(status)) for text, status in zip(parts[::2], parts[1::2])]
 
     def printed(self, script):
-        """The output of a script that is run in the folder."""
+        """Runs a script in the folder, and returns its output."""
         return subprocess.run(["bash", script], cwd=self.path, env=self.environment, text=True,
                               stdin=subprocess.DEVNULL, stdout=subprocess.PIPE, check=False,
                               stderr=subprocess.STDOUT, timeout=self.seconds,
@@ -77,7 +77,7 @@ class Room:
 
 
 def show(source, shown, hidden):
-    """Puts a link to each entry of a folder into another."""
+    """Puts links to the entries of a folder into another folder."""
     for entry in source.iterdir():
         if entry.name not in hidden:
             (shown / entry.name).symlink_to(entry)
@@ -104,7 +104,7 @@ def is_quote(block):
 
 
 def faults_of_block(block, room):
-    """Runs a block, or saves it."""
+    """Runs or saves a block, and yields its faults."""
     is_run = block.language in ("sh", "console")
     if is_run and any(map(LEAVES.match, block.lines)):
         yield "it leaves the reader in another folder"

@@ -1,11 +1,11 @@
 #!/usr/bin/env python3
-"""Fills the marked regions of the files that have words, names and numbers of the catalogue.
+"""Fills the marked regions of files with words, names and numbers of the catalogue.
 
     tests/texts/generate.py            writes what differs
     tests/texts/generate.py --check    says what differs, and ends with 1 if something does
 
-A region is between two comments of the file's language, `generated: LISTS` and `end`. It is never
-edited. What is written by hand in several places (by_hand.py) is compared.
+A region is between two comments of the file's language, `generated: LISTS` and `end`. Nobody edits
+it by hand. by_hand.py compares words that people write in several places.
 """
 import re
 import sys
@@ -23,19 +23,19 @@ REGION = re.compile(
 
 
 class Words(list):
-    """Words that a form joins: `{all:, }`."""
+    """Words that a form joins by a separator, as in `{all:, }`."""
 
     def __format__(self, between):
         return between.join(self)
 
 
 def word(text, **more):
-    """The parts of a word that a form may have."""
+    """The fields of a word that a form may name."""
     return {"word": text, "WORD": re.sub("(?<=[a-z])(?=[A-Z])", "_", text).upper(), **more}
 
 
 def indexed(numbers):
-    """Words in the order of their numbers from 0 on. An empty one only takes a place."""
+    """The words in the order of their numbers from 0 on, or "" for a number without a word."""
     words = {number: text for text, number in numbers.items()}
     return [words.get(number, "") for number in range(max(words) + 1)]
 
@@ -55,7 +55,7 @@ LISTS = {
     **{name: [word(text, number=number) for text, number in numbers.items()] for name, numbers in {
         "numbers of moves": MOVES, "numbers of outcomes": RESULTS,
         "numbers of faults": {**REFUSED, **DIFFERS, **OF_TEXTS},
-        # The module takes no memory, so it has no number for this.
+        # The module requests no memory, so it has no number for this fault.
         "faults of texts": {**FAULTS, "OutOfMemory": max(FAULTS.values()) + 1},
         "constants": {**{BIT_NAMES[name]: bit for name, bit in BITS.items()}, "NO_WORD": NO_WORD,
                       **LIMITS},
@@ -80,10 +80,12 @@ LISTS = {
             "lock": LOCK_CODES, "move": MOVES, "outcome": RESULTS, "refusal": REFUSED,
             "fault": FAULTS, "phase": PHASES, "expected": EXPECTED}.items())],
 }
-# The regions of each file in their order: which lists, and the form of a word. As many words as fit
-# are on a line, or one if the form ends with it. A form of all words is filled once.
+# The regions of each file in order: the lists, and the form of a word. A line takes as many words
+# as fit, or one word if the form ends with a line feed. A form that joins all words is filled once.
 PLAN = "| {word} | {link} | {said} |\n"
 ARM, NUMBER = '::{variant} => "{word}",\n', "LT_{WORD} = {number},"
+UNKNOWN = ('#define LR_NO_{}_OF(it) \\\n'
+           '    LR_ERROR(GCC error "{} is {{others:, }} or {{last}}")')
 MANUAL, ALL = ".Li {others: , }\nor\n.Li {last} .", ".Li {all: , }"
 REGIONS = {
     "record/locktrace.h": (
@@ -96,6 +98,11 @@ REGIONS = {
     "record/src/moves.h": (
         ("calls", "LR_CALL_{word},"), ("steps", "LR_STEP_{word},"), ("places", "LR_PLACE_{word},"),
         ("parts", "LR_PART_{word},"), ("outcomes", "LR_OUTCOME_{word},")),
+    "record/src/words.h": (
+        ("calls", "#define LR_IS_CALL_{word} ,\n"), ("calls", UNKNOWN.format("CALL", "a call")),
+        ("places", "#define LR_IS_WORD_{word} ,\n"), ("places", UNKNOWN.format("WORD", "a word")),
+        ("outcomes", "#define LR_IS_OUTCOME_{word} ,\n"),
+        ("outcomes", UNKNOWN.format("OUTCOME", "an outcome"))),
     "record/src/run.h": (("calls, steps", '"{word}",'),),
     "record/src/texts.h": (("places", '" {word}",'), ("parts, outcomes", '" {word}",')),
     "record/src/published.h": (("outcomes by number", '"{word}",'),),
@@ -135,7 +142,7 @@ REGIONS = {
 
 
 def due_in(lists, form, margin):
-    """The text of a region."""
+    """The text that is due in a region."""
     words = [each for name in lists.split(", ") for each in LISTS[name]]
     if "{all" in form or "{last}" in form:
         *others, last = every = [each["word"] for each in words]
@@ -149,7 +156,7 @@ def due_in(lists, form, margin):
 
 
 def filled(path, region, lists, form):
-    """A region with its text, which clang-format leaves as it is."""
+    """A region with its text. Marks in C keep clang-format from changing it."""
     text, margin = due_in(lists, form, region[2]), region[2]
     if path.endswith((".c", ".h")):
         text = f"{margin}/* clang-format off */\n{text}{margin}/* clang-format on */\n"
@@ -157,7 +164,7 @@ def filled(path, region, lists, form):
 
 
 def faults_in(path, is_check):
-    """The faults of a file. Its regions are compared if this is a check, and else filled."""
+    """The faults of a file. A check compares its regions; otherwise they are filled."""
     text, forms = (TOP / path).read_text(encoding="utf-8"), iter(REGIONS[path])
     marked, due = [it["lists"] for it in REGION.finditer(text)], [it[0] for it in REGIONS[path]]
     if marked != due:

@@ -1,5 +1,5 @@
-"""The lesson plans of examples/plans.json as rows of docs/GUIDE.md. A step without a question of
-its own has that of its lesson at its move, as on the page."""
+"""The lesson plans of examples/plans.json as rows of docs/GUIDE.md. A step without a question takes
+the question of its lesson at its move, as on the page."""
 import json
 import re
 from urllib.parse import quote_plus
@@ -12,14 +12,14 @@ PLANS = json.loads((EXAMPLES / "plans.json").read_text(encoding="utf-8"))
 
 
 def remark(lesson, what, move):
-    """A question or an answer of a lesson. What has several lines is one text."""
+    """A question or an answer of a lesson, with its lines joined into one."""
     text = (EXAMPLES / f"{lesson}.schedule").read_text(encoding="latin-1")
     lines = re.findall(rf"^#! {what} {move} (?:hide [a-z ]+ : )?(.+)$", text, re.MULTILINE)
     return " ".join(lines)
 
 
 def fragment(step):
-    """The end of a link to a step's place, as the page reads it."""
+    """The fragment of a link to a step's place, in the form that the page reads."""
     play = f"&play={quote_plus(step['play'])}" if "play" in step else ""
     show = f"&show={step['show']}" if "show" in step else ""
     compare = "&compare" if step.get("compare") else ""
@@ -27,15 +27,14 @@ def fragment(step):
 
 
 def said(step):
-    """What is said and asked at a step, and the answer."""
+    """The sentence, the question and the answer of a step."""
     ask, answer = (step.get(what) or remark(step["lesson"], what, step["move"])
                    for what in ("ask", "answer"))
     return " ".join(filter(None, [step.get("say"), ask, answer and f"({answer})"]))
 
 
 def rows(plan):
-    """(minutes, link, what is said) of each step and of the homework, below the table's
-    head."""
+    """The head of the table, then (minutes, link, text) of each step and of the homework."""
     yield "Minutes", "Show", "Say and ask (answer)"
     yield "---", "---", "---"
     begins = 0

@@ -1,9 +1,10 @@
-"""Texts that are written twice agree.
+"""Texts that are written in two places agree.
 
-The code of docs/LOCKS.md is no copy: each line names a phase and the kind of its step, as the
-definitions `operation` and `after_call` of crates/lk_locks do. Operations of the ticket lock have
-names, in `laws`. The read-write locks share the file of their calls; the phases of each are those
-of its `step`, and take a section. Each model of bench/spin has a label for each phase.
+The code of docs/LOCKS.md is no literal copy: each line names a phase and the kind of its step, and
+the definitions `operation` and `after_call` of crates/lk_locks have to name the same. `laws` names
+the operations of the ticket lock. The read-write locks share the file of their calls; the phases of
+each are those of its `step`, and all take a section. Each model of bench/spin has a label for each
+phase.
 """
 import re
 
@@ -21,7 +22,8 @@ def definitions_of(lock):
 
 
 def lines_defined(lock):
-    """The (kind, phase) of each step by the definitions. A call's word stands for a phase."""
+    """The (kind, phase) of each step in the definitions. For a call, its word takes the place of
+    the phase."""
     own = definitions_of(lock)
     text = own if "after_call" in own else read(f"{SPECS}/read_write.antt")
     named = dict(found(rf"^(\w+)(?: \w+)* = ({'|'.join(KINDS)})\b", text))
@@ -38,7 +40,7 @@ def lines_written(lock):
 
 
 def words_written(lock):
-    """The number of each word that has one of its own, in the table above the lock's code."""
+    """The words with a fixed number, in the table above the lock's code, and their numbers."""
     above = read("docs/LOCKS.md").split(f"\n```{lock}\n")[0].rsplit("\n## ", 1)[1]
     return {re.sub("[A-Z]", lambda big: f"_{big[0].lower()}", name): number
             for number, name in found(r"^\| (\d+) \| `(\w+)` \|$", above)}

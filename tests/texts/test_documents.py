@@ -1,6 +1,6 @@
-"""Every command of the documents prints what they show, and what they name is there.
+"""Every command of the documents prints the output that they show, and every name in them exists.
 
-Small documents show that each kind of fault is found, and nothing else is.
+Small documents show that the check finds each kind of fault, and has no false alarm.
 """
 import pytest
 

@@ -1,4 +1,4 @@
-"""The count of definitions in the README is right."""
+"""The README has the right count of lines and definitions that a reader must believe."""
 import re
 
 from tree import TESTS, TOP, output

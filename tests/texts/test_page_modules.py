@@ -1,6 +1,6 @@
-"""The page's modules keep to their folders, whose order page/README.md gives.
+"""The page's modules import only from their folder and those before it in page/README.md.
 
-A pattern here finds a way to write that the modules do not use; it knows no scopes.
+The patterns find code by its form alone: they know no scopes.
 """
 import re
 
@@ -11,18 +11,18 @@ from tree import TOP
 SOURCES = TOP / "page" / "src"
 MODULES = {path.relative_to(SOURCES).as_posix(): path.read_text()
            for path in sorted(SOURCES.rglob("*.js"))}
-# The folders in the order of the table, those first that know least.
+# The folders in the order of the table. A folder knows only those before it.
 FOLDERS = re.findall(r"(?m)^\| `(\w+)` \| \w", (TOP / "page" / "README.md").read_text().split(
     "## What is where")[1].split("## ")[0])
 IMPORT = re.compile(r"(?m)^(?:import|\}).* from '([^']+)';$")
-# Values that the page remembers and gives to functions that draw.
+# Values that the page keeps, and passes to functions that draw.
 REMEMBERED = "page|session|quiz|comparing|playing|stepping|lecture|modes|editing|address|looks|run"
 CHANGES = re.compile(rf"\b(?:{REMEMBERED})(?:\.\w+)*\.\w+ (?:[-+|&?*]{{0,2}})= "
                      rf"|\bObject\.assign\((?:{REMEMBERED})\b"
                      rf"|\b(?:{REMEMBERED})(?:\.\w+)*\.(?:go|set|open|derive|load|clear|toggle)\(")
 
 TEXT = re.compile(r"'(?!\.)[^'\n]*'|`[^`]*`")
-# Names that are written like those of code.
+# Proper names with a capital inside, which look like names of code.
 PROPER = {"LaTeX", "TikZ", "WebAssembly", "readAcquires", "readReleases"}
 
 
@@ -56,12 +56,13 @@ def test_drawing_changes_nothing():
 
 
 def test_no_action_is_a_click():
-    """But on the link with which a browser saves, and the field with which it opens files."""
+    """No code calls click(), except for the link by which a browser saves a file, and the field by
+    which it opens one."""
     assert [module for module, text in MODULES.items() if ".click(" in text] == ["lib/files.js"]
 
 
 def test_texts_name_no_code():
-    """A name that is changed all over the modules changes no sentence."""
+    """No text has a name of code, so renaming in all modules changes no sentence."""
     said = [re.sub(r"\$?\{[^}]*\}", "", text) for module, source in MODULES.items()
             if folder(module) == "texts" for text in TEXT.findall(source)]
     words = {word for text in said for word in re.findall(r"\w*[a-zäöüß][A-ZÄÖÜ]\w*", text)}

@@ -1,4 +1,4 @@
-"""The rules of layout: a tool that Debian has finds what breaks them, if there is one.
+"""The rules of layout. Where Debian has a tool for a rule, the tool checks it.
 
 flake8 reads Python (tox.ini has its rules), shellcheck shell, rustfmt Rust, clang-format C
 (.clang-format), tsc the types of the page and of the scripts for Node. For the rest:
@@ -6,9 +6,9 @@ flake8 reads Python (tox.ini has its rules), shellcheck shell, rustfmt Rust, cla
 - A line has at most 100 columns. Rows of tables and lines of links in documents may be longer, and
   in a proof the path of a module.
 - A file of code has at most 400 lines, and the body of a function at most 40.
-- A file opens with what it is: a comment or a docstring. Lists of modules, and the answers and
-  invariants of one function's proof, are named by their place.
-- JavaScript calls none of the later methods that Node 18, which Debian 12 has, lacks.
+- A file opens with a comment or a docstring that says what the file is. The path says this for
+  lists of modules, and for the answers and invariants in the proof of one function.
+- JavaScript calls no method that Node 18 lacks, the version of Debian 12.
 """
 import ast
 import fnmatch
@@ -22,17 +22,17 @@ FILES = [TOP / name for name in output("git", "ls-files", "-co", "--exclude-stan
                                        cwd=TOP).splitlines() if (TOP / name).is_file()]
 KINDS = (".rt", ".rs", ".antt", ".py", ".js", ".mjs", ".c", ".h", ".pml", ".sh", ".md")
 COLUMNS, LINES, BODY = 100, 400, 40
-# Files made of others, which are checked instead.
+# These files are joined from parts, which are checked instead.
 MADE = {TOP / "record" / name for name in ("lockreplay_record.h", "locktrace.c")}
 
-# The opening of a file of each kind, after a line `#!`.
+# How a file of each kind opens, after a line `#!`.
 HEADS = {
     ".rt": ("//!", "//"), ".antt": ("--",), ".py": ('"""',), ".sh": ("#",), ".md": ("# ",),
     ".js": ("//", "/*"), ".mjs": ("//", "/*"), ".c": ("/*", "//"), ".h": ("/*", "//"),
     ".pml": ("/*",), ".rs": ("//!",),
 }
 NAMED_BY_PLACE = ["*/Lib.antt", "*/Answers.antt", "*/Invariants.antt", "*/Proof.antt"]
-# How a function begins: its indent is the first group.
+# How a function begins. The first group is its indent, the second its name.
 FUNCTION = {
     ".rt": re.compile(r"( *)(?:pub(?:\(\w+\))? )?(?:const |unsafe )*fn (\w+)"),
     ".js": re.compile(r"( *)(?:export |async |static |function )*\*? ?(\w+)\([^;]*\) \{$"),
@@ -45,7 +45,7 @@ TOO_NEW = re.compile(r"\.(to(?:Reversed|Sorted|Spliced|WellFormed)|isWellFormed|
                      r"|withResolvers)\(")
 NO_FUNCTION = {"if", "for", "while", "switch", "catch"}
 # Lines that cannot be broken: rows of tables and links in documents, and in a proof the path of a
-# module, which the language takes on one line.
+# module, which the language requires on one line.
 UNBROKEN = {
     ".md": re.compile(r"\s*\||\[[^\]]*\]: |!\["),
     ".antt": re.compile(r"use \S+( as \w+)?$|use \S+\.\{\S+\}$"),
@@ -53,7 +53,7 @@ UNBROKEN = {
 
 
 def long_lines(path, lines):
-    """Lines of too many columns, where no tool finds them."""
+    """Lines with too many columns, in files for which no tool finds them."""
     unbroken = UNBROKEN.get(path.suffix)
     for number, line in enumerate(lines, 1):
         if path.suffix not in (".py", ".c", ".h") and len(line) > COLUMNS and not (
@@ -68,7 +68,7 @@ def long_file(path, lines):
 
 
 def opening(lines, first, indent):
-    """The line whose brace opens the body of the function that begins at a line, if it has one."""
+    """The line whose brace opens the body of the function at line `first`, if it has a body."""
     for at in range(first, len(lines)):
         line = lines[at].rstrip()
         is_head = at == first or line.startswith(f"{indent})")
@@ -80,7 +80,7 @@ def opening(lines, first, indent):
 
 
 def bodies_in_braces(lines, pattern):
-    """The same of bodies in braces, the last of which has the function's indent."""
+    """(line, name, length) of each body in braces. The closing brace has the function's indent."""
     for first, line in enumerate(lines):
         found = pattern.match(line)
         opens = opening(lines, first, found.group(1)) if found else None
@@ -92,7 +92,7 @@ def bodies_in_braces(lines, pattern):
 
 
 def bodies_in_python(lines):
-    """The same of Python."""
+    """(line, name, length) of each function's body in Python."""
     for node in ast.walk(ast.parse("\n".join(lines))):
         if isinstance(node, (ast.FunctionDef, ast.AsyncFunctionDef)):
             yield node.lineno, node.name, node.end_lineno - node.body[0].lineno + 1
@@ -111,7 +111,7 @@ def long_bodies(path, lines):
 
 
 def missing_head(path, lines):
-    """A file that does not open with what it is."""
+    """A file that does not open with a comment or a docstring."""
     text = [line for line in lines[:4] if line.strip() and not line.startswith("#!")]
     place = str(path.relative_to(TOP))
     if any(fnmatch.fnmatch(place, pattern) for pattern in NAMED_BY_PLACE):
@@ -152,7 +152,7 @@ def test_tool(kinds, words):
 
 
 def test_types():
-    """Of the scripts for Node, and of the page with all that its first module needs."""
+    """tsc checks the types of the scripts for Node, and of the page from its first module on."""
     files = (path.relative_to(TOP) for path in FILES if path.name.endswith((".mjs", ".d.ts")))
     assert output("tsc", "--noEmit", "--allowJs", "--checkJs", "--target", "es2022",
                   "--module", "es2022", "--moduleResolution", "node", "--lib",

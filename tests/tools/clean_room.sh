@@ -2,17 +2,17 @@
 # Runs the README's two commands on a clean machine: tests/tools/clean_room.sh [--prove]
 #
 # The machine is a minimal Debian 12 with make, git, Python 3 and ca-certificates, which sees the
-# kit and has the committed tree. Shown is, with all set-up:
+# kit and has the committed tree. The script runs, with all set-up:
 #
 #   - `make demo`, with nothing built;
-#   - `make programs` over what this tree keeps of its proofs: the programs are linked anew;
-#   - what `make test` does first: it installs what its tests need of Debian;
-#   - each part of what `make test` does after the proofs.
+#   - `make programs` over the kept proofs of this tree, which links the programs anew;
+#   - the first step of `make test`, which installs the Debian packages that its tests need;
+#   - each part of `make test` after the proofs.
 #
-# `rt check` keeps proofs, and `make test` does not: the status is 2 if those of a library are not
-# there. With --prove none are kept, so all that these need is proved from nothing, which takes an
-# hour. The proofs of `make test` itself are not made there. The first step that fails ends the
-# whole; nothing stays on the machine but what tests/tools/root.sh keeps. Only root may do this.
+# `rt check` keeps proofs, and `make test` does not. The script ends with 2 if the kept proofs of a
+# library are missing. With --prove it copies no proofs, so the machine proves all that these steps
+# need, which takes an hour. It does not make the proofs of `make test` itself. The first step that
+# fails ends the script. Only the archives of tests/tools/root.sh stay. Only root may run it.
 set -euo pipefail
 cd "$(dirname "$0")/../.."
 readonly TREE=/root/lockreplay
@@ -21,7 +21,7 @@ case $* in
 *) echo "usage: tests/tools/clean_room.sh [--prove]" >&2 && exit 2 ;;
 esac
 
-# without_proofs: the libraries of crates.txt of which nothing is kept
+# without_proofs: the libraries of crates.txt that have no kept proofs
 without_proofs() {
     for name in $(sed 's/^[^:]*://' crates.txt | tr ' ' '\n' | sort -u); do
         [ ! -d "crates/$name" ] || [ -e "crates/$name/out/rlib/stamp" ] || echo "$name"
@@ -74,6 +74,7 @@ step() {
 
 make_room() {
     tests/tools/root.sh bookworm "$root" make git python3 ca-certificates
+    echo 127.0.0.1 localhost > "$root/etc/hosts" # as an installed Debian has, for chromedriver
     ln -s "$kit/bin/rt" "$root/usr/local/bin/rt"
     git clone --quiet . "$root$TREE"
 }

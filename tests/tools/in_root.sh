@@ -4,8 +4,8 @@
 #     tests/tools/in_root.sh [--see PATH]... FOLDER COMMAND...
 #
 # The command sees each PATH at its place, and cannot write there. It begins in / with an
-# environment of its own. Mounts and processes are in namespaces that end with the command, so
-# nothing is left of them however it ends. Its status is the command's. Only root may do this.
+# environment of its own. Its mounts and processes are in namespaces that end with the command, so
+# none of them remains. The script ends with the status of the command. Only root may run it.
 set -euo pipefail
 readonly KEPT=${XDG_CACHE_HOME:-$HOME/.cache}/lockreplay/packages
 seen=()
@@ -24,11 +24,11 @@ fi
 folder=$(readlink -f "$1")
 shift
 
-# Runs in the namespaces.
+# Enters the root and runs the command. This runs inside the namespaces.
 enter() {
     local root=$1 count=$2
     shift 2
-    # A mount of its own, as unshare wants it of / if the command makes another root in this one.
+    # The root has to be a mount: unshare needs that if the command makes another root inside it.
     mount --bind "$root" "$root"
     mount -t proc proc "$root/proc"
     mount --rbind /dev "$root/dev"
@@ -49,6 +49,6 @@ keep_packages() {
 }
 trap keep_packages EXIT
 
-# If this script is ended by a signal, so is what it runs.
+# A signal that ends this script ends the command too.
 setpriv --pdeathsig KILL unshare --mount --pid --fork --kill-child -- \
     bash -euc "$(declare -f enter); enter \"\$@\"" in_root "$folder" "${#seen[@]}" "${seen[@]}" "$@"

@@ -1,10 +1,10 @@
 #!/usr/bin/env bash
-# Installs what is missing of the Debian packages that tests need.
+# Installs the missing Debian packages that tests need.
 #
-#     tests/tools/needs.sh            those of `make test`: Build-Depends of debian/control
-#     tests/tools/needs.sh release    those of `make release-checks`: debian/tests/control has them
+#     tests/tools/needs.sh            for `make test`: Build-Depends of debian/control
+#     tests/tools/needs.sh release    for `make release-checks`: Depends of debian/tests/control
 #
-# If root does not run it, it says what root would have to run, and the status is 1.
+# If another user than root runs it, it prints the command for root, and ends with status 1.
 set -euo pipefail
 cd "$(dirname "$0")/../.."
 export LC_ALL=C DEBIAN_FRONTEND=noninteractive

@@ -1,9 +1,9 @@
 #!/usr/bin/env bash
 # Runs targets of the Makefile one after the other: tests/tools/parts.sh TARGET...
 #
-# Ends with a table of how long each took, in time and as seconds of one processor, and how many
-# passed. The first that fails ends the whole. Processes that nobody waits for, as some of a
-# browser's, are not in the seconds of one processor.
+# The script ends with a table of the wall time and the processor time of each target, and counts
+# those that passed. The first target that fails ends the script. The processor time leaves out
+# processes for which nobody waits, such as some of a browser.
 set -euo pipefail
 cd "$(dirname "$0")/../.."
 room=$(mktemp -d)
@@ -18,13 +18,13 @@ end() {
 : > "$room/table"
 trap end EXIT
 
-# make_part TARGET: makes it, and writes its row of the table. The shell that calls this is of the
-# part alone, so the times of its commands are those of the part.
+# make_part TARGET: makes the target, and writes its row of the table. Each part has a shell of its
+# own, so the times of the shell's commands are those of the part.
 make_part() {
     local status=0 spent
     SECONDS=0
     "${MAKE:-make}" --no-print-directory "$1" || status=$?
-    # No pipe can read them: the shell of a pipe has none.
+    # A pipe could not read the times, since it would run `times` in another shell.
     times > "$room/times"
     spent=$(awk -F '[ms ]+' 'NR == 2 { print int(60 * $1 + $2 + 60 * $3 + $4) }' "$room/times")
     printf '%7d  %16d  %s\n' "$SECONDS" "$spent" "$1" >> "$room/table"

@@ -1,11 +1,11 @@
 #!/usr/bin/env bash
-# Makes a minimal Debian root: what dpkg and apt need, and the packages that are named.
+# Makes a minimal Debian root, which has what dpkg and apt need, and the named packages.
 #
 #     tests/tools/root.sh SUITE FOLDER [PACKAGE...]
 #
-# An archive of the root is kept, and so are the packages that in_root.sh finds fetched in a
-# root: so a second one takes seconds and fetches little. Delete the folder KEPT to begin anew. Only
-# root may do this.
+# The folder KEPT has an archive of each root, and in_root.sh puts the packages there that a root
+# fetched. So a second root takes seconds and fetches little. Delete KEPT to begin anew. Only the
+# superuser may run this.
 set -euo pipefail
 if [ $# -lt 2 ]; then
     echo "usage: tests/tools/root.sh SUITE FOLDER [PACKAGE...]" >&2
@@ -27,7 +27,7 @@ if [ -n "$(ls -A "$FOLDER")" ]; then
     exit 1
 fi
 
-# Under another name until it is whole, since several may be made at once.
+# The archive has another name until it is whole, since several scripts may make it at once.
 make_archive() {
     local made=$ARCHIVE.$$.tar said=$ARCHIVE.$$.said
     if ! mmdebstrap --variant=minbase ${1:+"--include=$1"} "$SUITE" "$made" 2> "$said"; then

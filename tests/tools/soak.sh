@@ -1,14 +1,14 @@
 #!/usr/bin/env bash
-# Looks for mistakes for a long time: tests/tools/soak.sh SECONDS
+# Tests with random inputs for a long time: tests/tools/soak.sh SECONDS
 #
-# First the long runs once, with other random texts, orders and values each time; then the fuzzer,
-# for what is left of the time, a minute at least. The first that fails ends the whole.
+# The script first makes the long runs once, with new random texts, orders and values each time.
+# Then it runs the fuzzer for the rest of the time, at least a minute. The first failure ends all.
 set -euo pipefail
 cd "$(dirname "$0")/../.."
 seconds=${1:?usage: tests/tools/soak.sh SECONDS}
 begun=$SECONDS
 
-# Read as a whole before it runs, so that an edit of this file does not reach a run.
+# bash reads the whole function before it runs, so an edit of this file changes no run.
 soak() {
     make --no-print-directory test-programs
     /usr/bin/python3 -m pytest tests/page/test_random_texts.py

@@ -1,5 +1,5 @@
-"""The locks, each in a file of its own: its calls as the books print them. A lock's algorithm
-is here and nowhere else in Python; the oracle, the fuzzer and the tests take it from here.
+"""The locks, one in each file: the code of its calls as the books print it. No other Python code
+has a lock's algorithm; the oracle, the fuzzer and the tests take it from here.
 """
 from locks import mcs, rw_fifo, rw_simple, ticket
 

@@ -3,11 +3,11 @@ from typing import NamedTuple
 
 
 class Holding(NamedTuple):
-    sign: str  # of such a holder in a report
-    ended_by: tuple  # the calls that give it back
+    sign: str  # how a report marks such a holder
+    ended_by: tuple  # the calls that give the lock back
 
 
-# By the call through which a thread holds the lock.
+# How a thread holds the lock after each of these calls.
 HOLDING = {
     "acquire": Holding("", ("release",)),
     "rlock": Holding("r", ("runlock",)),
@@ -21,9 +21,9 @@ STEPS = {"read", "write", "swap", "cas", "add", "section"}
 
 
 class Lock:
-    """`calls` are generators, the code of each call, and `steps` the kinds of step that they make.
-    `words` are the names of the lock's words, and `record` those of the words that each thread has.
-    The holder of a queue lock is the head of its queue; else a thread that enters leaves it."""
+    """`calls` are generators, one for the code of each call; `steps` are the kinds of their steps.
+    `words` names the words of the lock, and `record` the words that each thread has. In a queue
+    lock the holder is the head of the queue; in other locks a thread leaves the queue to enter."""
 
     def __init__(self, name, calls, steps, words, record=(), is_holder_in_line=False):
         self.name, self.steps, self.words, self.record = name, steps, words, record

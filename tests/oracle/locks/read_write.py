@@ -1,4 +1,4 @@
-"""Shared by the two read-write locks, after Herlihy and Shavit, The Art of Multiprocessor
+"""The code that both read-write locks share, after Herlihy and Shavit, The Art of Multiprocessor
 Programming, chapter 8: a monitor's flag, which is set while a writer is inside or announced.
 
 Different here: a thread waits for the flag before it counts itself or sets the flag. `downgrade`,
@@ -16,7 +16,7 @@ def clear_flag(words):
 
 
 def calls(count_in, count_out, wlock):
-    """The calls of a lock, by how it counts a reader in and out, and how its writers enter."""
+    """The calls of a lock that counts readers in and out, and lets writers enter, in this way."""
     def rlock(me):
         yield section(count_in, when=has_no_writer)
 

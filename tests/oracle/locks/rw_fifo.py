@@ -1,8 +1,8 @@
-"""The FIFO read-write lock, `FifoReadWriteLock` of Herlihy and Shavit; read_write.py says what it
-shares with the other one.
+"""The FIFO read-write lock, `FifoReadWriteLock` of Herlihy and Shavit; read_write.py has what
+it shares with the simple lock.
 
 Different here: the counts wrap. A writer that sets the flag while readers are inside is announced,
-and is the one in the queue until it enters.
+and is alone in the queue until it enters.
 """
 from locks.lock import Lock
 from locks.read_write import calls, has_no_writer

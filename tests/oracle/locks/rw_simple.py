@@ -1,5 +1,5 @@
-"""The simple read-write lock, `SimpleReadWriteLock` of Herlihy and Shavit; read_write.py says what
-it shares with the other one.
+"""The simple read-write lock, `SimpleReadWriteLock` of Herlihy and Shavit; read_write.py has
+what it shares with the FIFO lock.
 
 Different here: a writer waits while there are readers or the flag is set, and only then sets the
 flag.

@@ -1,17 +1,17 @@
 """Words of memory, and the atomic steps that the code of a lock makes on them.
 
-The code of a call is a generator. It yields a step, and is sent what the step answers: the value
-that was found, or whether a compare-and-swap wrote. A step names its word, with the thread if the
-word is in a thread's record. A section of a monitor is on all words.
+The code of a call is a generator. It yields a step, and receives the answer of the step: the value
+that it found, or whether a compare-and-swap wrote. A step names its word, with the thread if the
+word is in a thread's record. A section of a monitor acts on all words.
 """
 from functools import cache
 from typing import Callable, NamedTuple
 
-WAITS = object()  # what a failed poll answers: the same step is due again
+WAITS = object()  # the answer of a failed poll, which is due again
 
 
 class Words(dict):
-    """Words by name, of values modulo 2^B."""
+    """Words by name. Their values are modulo 2^B."""
 
     def __init__(self, values, bits):
         super().__init__(values)
@@ -29,8 +29,8 @@ class Words(dict):
 
 class Step(NamedTuple):
     kind: str
-    word: object  # of a section None
-    make: Callable  # changes the words, and answers
+    word: object  # None for a section
+    make: Callable  # changes the words, and returns the answer
     is_place_in_line: bool = False
 
 
