@@ -48,7 +48,7 @@ SPREAD := -n $(LANES) --dist loadgroup
 # Targets that are no files: those with a line ##, and these
 .PHONY: $(shell sed -n 's/^## \([a-z-]*\).*/\1/p' Makefile packaging/targets.mk) \
 	help needs-rt test-needs test-parts test-programs page-built \
-	gate-built gate-module gate-library by-root
+	gate-and-page gate-built gate-module gate-library test-page-built by-root
 
 help:
 	@sed -n 's/^## //p' $(MAKEFILE_LIST) | awk -F ' [|] ' '{ printf "make %-43s%s\n", $$1, $$2 }'
@@ -71,7 +71,8 @@ PARTS := test-programs test-page
 
 ## test | the one test command: proves all from nothing, then tests what is built
 test: test-needs
-	+tests/tools/parts.sh gate gate-built $(PARTS)
+	+tests/tools/parts.sh $(if $(IS_SMALL),gate gate-built $(PARTS), \
+	    gate-and-page gate-built test-programs test-page-built)
 
 test-parts:
 	@echo $(PARTS)
@@ -88,6 +89,13 @@ test-parts:
 CHAIN  := rt ci lk_trace && rt ci locktrace
 BESIDE := rt ci lk_space && rt ci lk_why lk_catalogue && rt ci lk_workers && \
 	rt ci lockreplay lk_trace_c && rt ci lk_tests lk_page two_threads
+# The last crates of the chain take one or two processors. On a machine that has more, and memory
+# for browsers beside the proofs, the tests that need only the committed page take the others.
+IS_SMALL := $(shell [ "$$(nproc)" -gt 2 ] && \
+	awk '/^MemTotal/ { exit $$2 < 15000000 }' /proc/meminfo || echo yes)
+gate-and-page: BESIDE += && $(PYTEST) $(SPREAD) -m "browser and not built" tests/page
+gate-and-page: gate
+
 ## gate | the proofs, from nothing, and the stored runs
 gate: needs-rt
 	rm -rf crates/*/out/rlib
@@ -166,6 +174,9 @@ page: $(MODULE)
 ## test-page | the page is what its sources build to, and works in two browsers
 test-page: $(PROGRAM) page-built
 	$(PYTEST) $(SPREAD) tests/page
+
+test-page-built: $(PROGRAM) page-built
+	$(PYTEST) $(SPREAD) -m built tests/page
 
 # The page is what its sources build to.
 page-built: $(MODULE) test-needs
