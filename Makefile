@@ -93,7 +93,7 @@ BESIDE := rt ci lk_space && rt ci lk_why lk_catalogue && rt ci lk_workers && \
 # for browsers beside the proofs, the tests that need only the committed page take the others.
 IS_SMALL := $(shell [ "$$(nproc)" -gt 2 ] && \
 	awk '/^MemTotal/ { exit $$2 < 15000000 }' /proc/meminfo || echo yes)
-gate-and-page: BESIDE += && $(PYTEST) $(SPREAD) -m "browser and not built" tests/page
+gate-and-page: BESIDE += && $(PYTEST) $(SPREAD) -m "not (built or timed)" tests/page
 gate-and-page: gate
 
 ## gate | the proofs, from nothing, and the stored runs
@@ -173,10 +173,12 @@ page: $(MODULE)
 
 ## test-page | the page is what its sources build to, and works in two browsers
 test-page: $(PROGRAM) page-built
-	$(PYTEST) $(SPREAD) tests/page
+	$(PYTEST) $(SPREAD) -m 'not timed' tests/page
+	$(PYTEST) -m timed tests/page
 
 test-page-built: $(PROGRAM) page-built
 	$(PYTEST) $(SPREAD) -m built tests/page
+	$(PYTEST) -m timed tests/page
 
 # The page is what its sources build to.
 page-built: $(MODULE) test-needs

@@ -36,6 +36,7 @@ def least(measure, bounds):
     return times
 
 
+@pytest.mark.timed
 @pytest.mark.parametrize("lock", schedules.NAMES)
 def test_loads_and_steps(page, record_property, lock):
     page.open()
@@ -49,6 +50,7 @@ def test_loads_and_steps(page, record_property, lock):
     assert page.js("count", "#lanes *") < 3000
 
 
+@pytest.mark.timed
 def test_typing(page, record_property):
     """Measures each key at the end of 10,004 moves, and each pause after it, in which the page
     plays the text.
@@ -69,6 +71,7 @@ def test_typing(page, record_property):
     assert len(times) == 14 and key <= KEY_MS and max(begun, pause) <= PAUSE_MS, times
 
 
+@pytest.mark.timed
 def test_an_edit_of_a_long_text(page, record_property):
     page.open()
     [edit] = least(lambda: [page.js("edits", EDITS)], [EDIT_MS])
