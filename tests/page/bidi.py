@@ -19,10 +19,11 @@ STARTS = 3
 # The line in which chromedriver and Firefox name the port on which they listen.
 LISTENS = re.compile(rb"(?:listening on ws://[\w.]+:|successfully on port )(\d+)")
 EVENTS = ["network.beforeRequestSent", "log.entryAdded"]
+# A kiosk has no bars of the browser's own, whose pictures take a quarter of the work of a load.
 ARGUMENTS = [
     "--headless=new", "--no-sandbox", "--disable-gpu", "--disable-dev-shm-usage", "--no-first-run",
     "--disable-background-networking", "--disable-sync", "--disable-component-update",
-    "--hide-scrollbars", "--window-size=1440,900",
+    "--hide-scrollbars", "--window-size=1440,900", "--kiosk",
 ]
 # Nobody looks at the pictures, so Firefox draws few a second: 60 a second would take a fifth of the
 # work. A test asks for the layout, which is computed anew for each answer.
