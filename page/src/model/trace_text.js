@@ -14,6 +14,9 @@ const SECTION = new RegExp(
   `^(?<move>${NUMBER} section)(?= )(?: (?<count>${NUMBER}))?(?: ${OUTCOME})?$`);
 // A comment of the recorders: where in the source the move of a line was noted.
 const PLACE = /^# line (?<line>[0-9]+) is (?<place>.+)$/;
+// Comments of the recorders after the last move, on the end of a thread or of the run.
+const ENDING = /^# (?<said>(?:thread|the) (?![0-9]+ has ended$).+)$/;
+const OPEN = /^thread [0-9]+ (?:has not ended|was stopped)$/;
 const MOST_THREAD = 255n;
 const MOST_VALUE = 2n ** 64n - 1n;
 
@@ -33,6 +36,7 @@ const MOST_VALUE = 2n ** 64n - 1n;
  * @property {Uint8Array} schedule the text without what its lines say, line by line
  * @property {(Said | null)[]} said by line, from 0
  * @property {Map<number, string>} places in the source, by line, from 1
+ * @property {string} ending what the recorder says of an end that is not as usual
  */
 
 const numberOf = (digits) => (digits === undefined ? undefined : BigInt(digits));
@@ -57,6 +61,14 @@ function placesIn(lines) {
   return new Map(found.map(({ line, place }) => [Number(line), place]));
 }
 
+// The recorder's verdict on the run, or else which threads have not ended.
+function endingIn(lines) {
+  const after = lines.slice(lines.findLastIndex((line) => /^[0-9]/.test(line)) + 1);
+  const said = after.map((line) => line.match(ENDING)?.groups.said).filter(Boolean);
+  const verdict = said.filter((one) => !OPEN.test(one));
+  return (verdict.length ? verdict : said).join('; ');
+}
+
 /**
  * Null for a text none of whose lines says more than its move.
  * @returns {Trace | null}
@@ -67,5 +79,6 @@ export function traceOf(text) {
   const said = lines.map(saidIn);
   if (!said.some(Boolean)) return null;
   const moves = lines.map((line, at) => said[at]?.move ?? line);
-  return { schedule: bytesOf(moves.join('\n'), plain), said, places: placesIn(lines) };
+  return { schedule: bytesOf(moves.join('\n'), plain), said, places: placesIn(lines),
+    ending: endingIn(lines) };
 }

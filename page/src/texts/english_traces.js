@@ -4,6 +4,7 @@ export const traces = {
   opened: 'This is a trace. Each move has what the recorded run found beside what the lock has.',
   differs: (line) => `This is a trace. It differs from the lock in line ${line}.`,
   agrees: 'Each word, value and outcome that the trace names is the lock’s.',
+  ending: (said) => `But the recorder says: ${said}.`,
   recorded: 'Recorded', here: 'Lock here',
   spokenSame: 'The recorded run has the same.',
   FoundOther: 'The recorded run: {step} {word} found {given}. The lock here: found {own}.',

@@ -5,6 +5,7 @@ export const germanTraces = {
     + 'Sperre hat.',
   differs: (line) => `Das ist ein Trace. In Zeile ${line} weicht er von der Sperre ab.`,
   agrees: 'Jedes Wort, jeder Wert und jedes Ergebnis, die der Trace nennt, sind die der Sperre.',
+  ending: (said) => `Aber der Recorder sagt: ${said}.`,
   recorded: 'Aufgezeichnet', here: 'Sperre hier',
   spokenSame: 'Der aufgezeichnete Lauf hat dasselbe.',
   FoundOther: 'Der aufgezeichnete Lauf: {step} {word} fand {given}. Die Sperre hier: fand {own}.',

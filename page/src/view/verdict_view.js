@@ -31,8 +31,7 @@ export function verdictView(session, advice) {
   const report = html`<p class="report-line"><code>${lastLine(run)}</code></p>`;
   const accepted = run.count ? T.ends(run.count) : T.noMoves;
   const stale = staleView(session);
-  const agrees = run.trace && texts.traces.agrees;
-  if (!advice) return html`<p class="verdict good">${accepted} ${agrees}</p>${report}${stale}`;
+  if (!advice) return html`${acceptedView(run, accepted)}${report}${stale}`;
   return html`<div class="verdict bad">
     ${advice.line > 0 && html`<strong>${T.line(advice.line)}</strong>`}
     ${advice.refused && refusedLine(advice.refused)}
@@ -44,6 +43,15 @@ export function verdictView(session, advice) {
       data-returns="true">${T.removeReturns}</button>`}
     ${run.count > 0 && html`<p class="soft">${T.stepThrough(run.count)}</p>`}</div>
     ${report}${stale}`;
+}
+
+// A run that its recorder complains of gets no tick, even if each move is the lock's.
+function acceptedView({ trace }, accepted) {
+  if (!trace?.ending) {
+    return html`<p class="verdict good">${accepted} ${trace && texts.traces.agrees}</p>`;
+  }
+  return html`<div class="verdict"><p>${accepted} ${texts.traces.agrees}</p>
+    <p>${texts.traces.ending(trace.ending)}</p></div>`;
 }
 
 // The remarks that are left out, since they belong to other moves.
