@@ -75,37 +75,6 @@ def moves_of(text):
     return text.split("; ")
 
 
-# The comments after the last move, and what is said of them.
-ENDINGS = {
-    "ended": (["# thread 0 has ended", "# thread 1 has ended", "# line 3 is mcs.c:21"], ""),
-    "open": (["# thread 0 has ended", "# thread 1 has not ended"], "thread 1 has not ended"),
-    "stopped": (["# thread 0 was stopped", "# thread 1 has ended"], "thread 0 was stopped"),
-    "hangs": (["# thread 0 has ended", "# thread 1 has not ended",
-               "# the run hangs: thread 1 waits for a signal ('section 2 moved' at a.c:51)",
-               "# line 3 is a.c:51"],
-              "the run hangs: thread 1 waits for a signal ('section 2 moved' at a.c:51)"),
-    "inside": (["# thread 0 has ended", "# thread 1 has ended",
-                "# thread 1 has ended inside a call ('cas tail failed' at mcs.c:46); "
-                "the run hangs: thread 0 polls"],
-               "thread 1 has ended inside a call ('cas tail failed' at mcs.c:46); "
-               "the run hangs: thread 0 polls"),
-    "earlier": (["# thread 0 has not ended", "1 section 4"], ""),
-}
-
-
-@pytest.mark.parametrize("comments, said", ENDINGS.values(), ids=ENDINGS)
-def test_end(page, comments, said):
-    """A run whose moves are all the lock's is not praised if its recorder complains of its end."""
-    page.open(LESSON)
-    page.js("paste", text_of("lock rw-fifo threads 2", [
-        "0 rlock", "0 section 1 entered", "1 wlock", "1 section 2 moved", *comments]))
-    verdict = page.shown()["verdict"]
-    assert "Each word, value and outcome that the trace names is the lock’s." in verdict
-    assert (f"But the recorder says: {said}." in verdict) == bool(said), verdict
-    assert ("But the recorder says" in verdict) == bool(said)
-    assert page.js("count", "#verdict .good") == (not said)
-
-
 # A run whose last line is refused, both values, and the cause.
 SECOND = ("0 acquire; 0 write next left 0; 0 swap tail found 0 left 1; 1 acquire; "
           "1 write next left 0; ")
