@@ -23,7 +23,7 @@ KEPT = ("lockreplay_record: the program ended before its run was saved: "
 # Thread 1 says that it is in the middle of its run, and goes on until it is killed.
 GOES_ON = 'puts("going"); fflush(stdout); for (;;) { release(); acquire(); }'
 THREADS, ROUNDS, ROOM = 2, 12, 12 * 128
-MOVE = 16  # bytes
+MOVE, BLOCK = 16, 512  # bytes
 
 
 @pytest.fixture
@@ -66,6 +66,10 @@ def holders(path):
                 yield int(folder.parent.name)
         except OSError:
             pass  # the process has ended, or belongs to another user
+
+
+def mapped(process, path):
+    return str(path) in Path(f"/proc/{process.pid}/maps").read_text()
 
 
 def kill_all(process, logs):
@@ -315,11 +319,12 @@ def test_killed_in_rust(keeper, ordered, tmp_path, how, sign):
                                text=True)
     if how == "loop":
         assert process.stdout.readline() == "going\n"
+        assert mapped(process, logs / "thread-1.log")
         process.kill()
     process.communicate()
     assert process.returncode == -sign
     assert len(ordered(logs)[1]) >= 13 * 6
-    assert "dropped" not in (logs / "thread-1.log").read_text()
+    assert re.search("\n#+$", (logs / "thread-1.log").read_text())
 
 
 @pytest.mark.xdist_group("cargo")
@@ -333,11 +338,15 @@ def test_kept_to_the_end_in_rust(keeper, ordered, tmp_path):
 
 
 @pytest.mark.xdist_group("cargo")
-def test_no_room_in_rust(keeper, tmp_path):
-    """A thread that can no longer write its log reports it once, and the run goes on."""
+@pytest.mark.parametrize("blocks, rounds", [(1, 200), (300, 3000)], ids=["at first", "later"])
+def test_no_room_in_rust(keeper, tmp_path, blocks, rounds):
+    """A thread that can no longer write its log reports it once, and the run goes on. The log takes
+    what room there is, though the next piece of memory would not fit."""
     logs = tmp_path / "logs"
-    done = ran("sh", "-c", f"trap '' XFSZ; ulimit -f 1; exec {keeper} {logs} 200 end")
+    done = ran("sh", "-c",
+               f"trap '' XFSZ; ulimit -f {blocks}; exec {keeper} {logs} {rounds} end")
     fault = r"lockreplay_record: .*/thread-%d\.log: File too large \(os error 27\)\n"
     assert re.fullmatch("".join(sorted(fault % thread for thread in range(THREADS))),
                         "".join(sorted(done.stderr.splitlines(keepends=True))))
     assert done.returncode == 0
+    assert [path.stat().st_size for path in logs.iterdir()] == THREADS * [blocks * BLOCK]

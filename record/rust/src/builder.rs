@@ -80,8 +80,9 @@ impl RunBuilder {
     }
 
     /// A folder in which the log of each thread has its moves as soon as they are made, so that an
-    /// abort or `kill -9` leaves the logs, for `locktrace order`, up to their last moves. Each move
-    /// costs a system call. If this is not said, the logs are in memory until [`Run::save`].
+    /// abort or `kill -9` leaves the logs, for `locktrace order`, up to their last moves, with a
+    /// comment of many `#` after them. On Linux of 64 bits the logs are mapped to memory; elsewhere
+    /// each move costs a system call. If this is not said, they are in memory until [`Run::save`].
     pub fn kept_in(self, folder: impl Into<PathBuf>) -> RunBuilder {
         RunBuilder { folder: Some(folder.into()), ..self }
     }

@@ -112,8 +112,8 @@
 //! notes is left. A lock's own crate depends on this one with `default-features = false`, and its
 //! tests with them.
 // SPDX-License-Identifier: Apache-2.0 OR MIT
-#![deny(unsafe_code)] // but for the two calls of a C library in `check`
-#![cfg_attr(not(feature = "check"), forbid(unsafe_code))]
+#![deny(unsafe_code)] // but for calls of C: the check in `check`, and memory in `mapped`
+#![cfg_attr(not(feature = "record"), forbid(unsafe_code))]
 #![warn(missing_docs)]
 // The text above is about the crate with its feature.
 #![cfg_attr(not(feature = "record"), allow(rustdoc::broken_intra_doc_links))]
@@ -143,9 +143,13 @@ mod follow;
 #[cfg(feature = "record")]
 mod footprint;
 #[cfg(feature = "record")]
+mod kept;
+#[cfg(feature = "record")]
 mod kind;
 #[cfg(feature = "record")]
 mod lock;
+#[cfg(feature = "record")]
+mod mapped;
 #[cfg(feature = "record")]
 mod mode;
 #[cfg(feature = "record")]

@@ -294,9 +294,7 @@ impl Drop for Log {
         let ended = self.has_begun && !thread::panicking();
         let own = current::remove().zip(self.shared.tape(self.thread));
         if let Some((Recorder { mut tape, .. }, mut place)) = own {
-            if ended {
-                tape.end();
-            }
+            tape.leave(ended);
             *place = Some(tape);
         }
         self.shared.turns.leave(self.thread, ended);

@@ -6,6 +6,7 @@ use std::io::{self, BufWriter, Write};
 use std::path::Path;
 
 use crate::error::Error;
+use crate::kept::Kept;
 use crate::lock::MOST_THREADS;
 use crate::mode::Mode;
 use crate::run::Shared;
@@ -20,10 +21,11 @@ fn refused(path: &Path, error: io::Error) -> Error {
     Error::Save { path: path.to_owned(), error }
 }
 
-/// Makes the folder, and removes what an earlier run left there and this one will not write.
-fn clear(folder: &Path, threads: usize) -> Result<(), Error> {
+/// Makes the folder, and removes what an earlier run left there. A thread that still keeps its log
+/// there goes on with a file that has no name any more.
+fn clear(folder: &Path) -> Result<(), Error> {
     fs::create_dir_all(folder).map_err(|error| refused(folder, error))?;
-    let stale = (threads..MOST_THREADS).map(name_of_log).chain([TRACE.to_owned()]);
+    let stale = (0..MOST_THREADS).map(name_of_log).chain([TRACE.to_owned()]);
     for path in stale.map(|name| folder.join(name)) {
         remove(&path).map_err(|error| refused(&path, error))?;
     }
@@ -32,19 +34,14 @@ fn clear(folder: &Path, threads: usize) -> Result<(), Error> {
 
 /// Begins the log of each thread in a folder, where its tape goes on with it.
 pub(crate) fn begin(run: &Shared, folder: &Path) -> Result<(), Error> {
-    clear(folder, run.header.threads)?;
+    clear(folder)?;
     for thread in 0..run.header.threads {
         let path = folder.join(name_of_log(thread));
-        let begun = File::create(&path).and_then(|mut file| {
-            let mut text = Vec::new();
-            write_header(run, &mut text)?;
-            writeln!(text, " thread {thread}")?;
-            file.write_all(&text)?;
-            Ok(file)
-        });
-        let file = begun.map_err(|error| refused(&path, error))?;
+        let mut head = Vec::new();
+        let begun = write_log_head(run, thread, &mut head).and_then(|()| Kept::begin(&path, &head));
+        let kept = begun.map_err(|error| refused(&path, error))?;
         if let Some(tape) = run.tape(thread).as_deref_mut().and_then(Option::as_mut) {
-            tape.keep_in(path, file);
+            tape.keep_in(kept);
         }
     }
     Ok(())
@@ -53,7 +50,7 @@ pub(crate) fn begin(run: &Shared, folder: &Path) -> Result<(), Error> {
 /// Writes the files of a run, and removes those that an earlier one left.
 pub(crate) fn save(run: &Shared, folder: &Path) -> Result<(), Error> {
     let threads = run.header.threads;
-    clear(folder, threads)?;
+    clear(folder)?;
     for thread in 0..threads {
         let path = folder.join(name_of_log(thread));
         write_file(&path, |out| write_log(run, thread, out))
@@ -106,6 +103,11 @@ fn write_header(run: &Shared, out: &mut impl Write) -> io::Result<()> {
     write!(out, "{}", run.header)
 }
 
+fn write_log_head(run: &Shared, thread: usize, out: &mut impl Write) -> io::Result<()> {
+    write_header(run, out)?;
+    writeln!(out, " thread {thread}")
+}
+
 /// Which threads have ended, in comments after a trace's last move.
 fn write_ends(run: &Shared, out: &mut impl Write) -> io::Result<()> {
     let stage = run.turns.stage();
@@ -115,8 +117,7 @@ fn write_ends(run: &Shared, out: &mut impl Write) -> io::Result<()> {
 
 /// A thread's log. It has a last line if the thread came to its end, else a comment that says so.
 fn write_log(run: &Shared, thread: usize, out: &mut impl Write) -> io::Result<()> {
-    write_header(run, out)?;
-    writeln!(out, " thread {thread}")?;
+    write_log_head(run, thread, out)?;
     let place = run.tape(thread);
     if let Some(tape) = place.as_deref().and_then(Option::as_ref) {
         tape.moves().iter().try_for_each(|made| writeln!(out, "{made}"))?;

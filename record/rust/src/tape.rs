@@ -1,12 +1,10 @@
 //! The log of one thread in memory, and where in the source each of its moves was made.
 // SPDX-License-Identifier: Apache-2.0 OR MIT
 
-use std::fs::File;
-use std::io::Write;
 use std::panic::Location;
-use std::path::PathBuf;
 
 use crate::error::Error;
+use crate::kept::Kept;
 use crate::moves::Move;
 
 /// Where a move was made.
@@ -27,7 +25,7 @@ pub(crate) struct Tape {
     polls: u32,
     polls_written: u32,
     /// The file that has the log as well, move by move.
-    kept: Option<(PathBuf, File)>,
+    kept: Option<Kept>,
     /// Whether the thread came to its end.
     ended: bool,
 }
@@ -55,27 +53,29 @@ impl Tape {
     }
 
     /// Has each further line written to this file too.
-    pub(crate) fn keep_in(&mut self, path: PathBuf, file: File) {
-        self.kept = Some((path, file));
+    pub(crate) fn keep_in(&mut self, kept: Kept) {
+        self.kept = Some(kept);
     }
 
-    /// A line is one write: whenever the process is killed, the file has whole lines.
     fn keep(&mut self, line: impl FnOnce() -> String) {
-        let written = match &mut self.kept {
-            Some((path, file)) => file.write_all(line().as_bytes()).map_err(|error| (path, error)),
-            None => Ok(()),
+        let kept = match &mut self.kept {
+            Some(kept) => kept,
+            None => return,
         };
-        if let Err((path, error)) = written {
-            eprintln!("lockreplay_record: {}: {error}", path.display());
+        if let Err(error) = kept.put(&line()) {
+            eprintln!("lockreplay_record: {}: {error}", kept.path().display());
             self.kept = None;
         }
     }
 
-    /// The thread came to its end.
-    pub(crate) fn end(&mut self) {
-        self.ended = true;
+    /// The thread adds no more, and came to its end or not.
+    pub(crate) fn leave(&mut self, ended: bool) {
+        self.ended = ended;
         let dropped = self.dropped;
-        self.keep(|| format!("dropped {dropped}\n"));
+        if ended {
+            self.keep(|| format!("dropped {dropped}\n"));
+        }
+        self.kept = None;
     }
 
     pub(crate) fn has_ended(&self) -> bool {
