@@ -324,7 +324,8 @@ def test_killed_in_rust(keeper, ordered, tmp_path, how, sign):
     process.communicate()
     assert process.returncode == -sign
     assert len(ordered(logs)[1]) >= 13 * 6
-    assert re.search("\n#+$", (logs / "thread-1.log").read_text())
+    text = (logs / "thread-1.log").read_text()
+    assert "dropped" not in text and re.search("\n#+$", text)
 
 
 @pytest.mark.xdist_group("cargo")
