@@ -4,14 +4,17 @@ use Rattle.std.specs.Prelude.{Bool, true, false, Option, None, Some, option_map,
 use Rattle.std.specs.Prelude.{replicate, slice_set, if◌then◌else◌, ◌&&◌}
 use Rattle.std.specs.List.{starts_with, ends_with, list_all, list_any}
 use Rattle.lk_locks.specs.declared.kinds.Outcome.{Outcome}
-use Rattle.lk_locks.specs.declared.kinds.Outcome.TheVariants.{Waits}
+use Rattle.lk_locks.specs.declared.kinds.Outcome.TheVariants as outcome
+use Rattle.lk_locks.specs.declared.kinds.Move.{Move}
+use Rattle.lk_locks.specs.declared.kinds.Move.TheVariants as move
+use Rattle.lk_locks.specs.declared.kinds.StepKind.TheVariants as step
 use Rattle.lk_lines.specs.Vocabulary.{number_of}
 use Rattle.lk_trace.specs.Checks.{Checked}
 use Rattle.lk_trace.specs.Traces.{event_of, after_text_line}
 use Rattle.lk_trace.specs.declared.trace.Event.{Event}
 use Rattle.lk_trace.specs.declared.trace.Event.TheVariants as event
 use Rattle.lk_text.specs.declared.course.Fate.{Fate}
-use Rattle.lk_text.specs.declared.course.Fate.TheVariants.{Moved, Polled, Ended, Hangs}
+use Rattle.lk_text.specs.declared.course.Fate.TheVariants.{Moved, Waits, Ended, Hangs}
 
 -- the text before an end of so many bytes, as a thread's number
 abbrev pub number_before : ℕ → List ℕ → Option ℕ
@@ -43,14 +46,15 @@ said_of line =
 abbrev pub new_fates : List Fate
 new_fates = replicate 256 Moved
 
--- a failed poll, or another move
-abbrev pub fate_after : Outcome → Fate
-fate_after Waits = Polled
-fate_after outcome = Moved
+-- a thread waits after a failed poll, and after the section in which a FIFO writer finds readers
+abbrev pub fate_after : Move → Outcome → Fate
+fate_after action outcome.Waits = Waits
+fate_after (move.Step step.Section) outcome.Moved = Waits
+fate_after action outcome = Moved
 
--- a thread that has not ended hangs if its last move was a failed poll
+-- a thread that has not ended hangs if it waits after its last move
 abbrev pub fate_open : Fate → Fate
-fate_open Polled = Hangs
+fate_open Waits = Hangs
 fate_open Hangs = Hangs
 fate_open fate = Moved
 
@@ -66,7 +70,8 @@ after_comment fates (Some said) =
 -- how far the threads are after a line that came to this
 abbrev pub after_line : List Fate → Event → List ℕ → List Fate
 after_line fates event.Skipped line = after_comment fates (said_of line)
-after_line fates (event.Made move made) line = slice_set fates move.thread (fate_after made.outcome)
+after_line fates (event.Made move made) line =
+    slice_set fates move.thread (fate_after move.action made.outcome)
 after_line fates event line = fates
 
 abbrev pub is_hung : Fate → Bool

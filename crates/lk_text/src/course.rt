@@ -1,10 +1,10 @@
-//! How far each thread of a run has come: whether its last move was a failed poll, and what the
-//! text says of its end, in comments that a recorder writes after the last move. And what is
+//! How far each thread of a run has come: whether it waits after its last move, and what the text
+//! says of its end, in comments that a recorder writes after the last move. And what is
 //! remembered for the words on how the run ended, which does not grow with it.
 
 ghost use Rattle.std.specs.Prelude.{◌≡◌, List, Some};
-ghost use Rattle.lk_text.specs.Fates.{after_comment, after_line, hangs, is_hung, is_over};
-ghost use Rattle.lk_text.specs.Fates.{new_fates, said_before, said_of};
+ghost use Rattle.lk_text.specs.Fates.{after_comment, after_line, fate_after, hangs, is_hung};
+ghost use Rattle.lk_text.specs.Fates.{is_over, new_fates, said_before, said_of};
 ghost use Rattle.lk_text.specs.declared.course.Fate.{Fate as OfThread};
 ghost use Rattle.std.specs.List.{list_all, list_any};
 
@@ -16,13 +16,13 @@ use std::marker::Model;
 /// How far a thread of a run has come.
 #[derive(Clone, Copy)]
 pub enum Fate {
-    /// It has made no move, or its last one was no failed poll.
+    /// It has made no move, or does not wait after its last one.
     Moved,
-    /// Its last move was a failed poll.
-    Polled,
+    /// It waits after its last move.
+    Waits,
     /// The text says that it has ended.
     Ended,
-    /// Its last move was a failed poll, and the text says that it has not ended.
+    /// It waits after its last move, and the text says that it has not ended.
     Hangs,
 }
 
@@ -83,6 +83,18 @@ pub struct Step {
     pub made: Made,
 }
 
+// How far a thread is after a move. It waits after a failed poll, and after the section in which a
+// FIFO writer finds readers, and sleeps.
+fn fate_after(action: Move, outcome: Outcome) -> Fate
+    ensures { result ≡ fate_after action outcome }
+{
+    match (action, outcome) {
+        (_, Outcome::Waits) => Fate::Waits,
+        (Move::Step(StepKind::Section), Outcome::Moved) => Fate::Waits,
+        _ => Fate::Moved,
+    }
+}
+
 // The place of the word that a move writes, if it is one operation on one word.
 fn write_of(action: Move, made: Made) -> Option<usize> {
     let effect = made.effect?;
@@ -99,7 +111,7 @@ pub struct Course {
     fates: [Fate; 256],
     // of each thread the last moves, with the last one first
     steps: [[Option<Step>; 3]; 64],
-    // the line of the first failed poll in a row; 0 if the last move was none
+    // the line of the first move in a row after which the thread waits; 0 if it does not wait
     since: [u64; 64],
     // the last write to each word
     writes: [Option<Step>; 129],
@@ -132,7 +144,7 @@ impl Course {
         let fates = &mut self.fates;
         fates[t] = match (has_ended, fates[t]) {
             (true, _) => Fate::Ended,
-            (false, Fate::Polled | Fate::Hangs) => Fate::Hangs,
+            (false, Fate::Waits | Fate::Hangs) => Fate::Hangs,
             (false, _) => Fate::Moved,
         };
     }
@@ -149,9 +161,9 @@ impl Course {
         let step = Some(Step { number, line, made });
         let [last, before, _] = steps[t];
         steps[t] = [step, last, before];
-        since[t] = match (made.outcome, since[t]) {
-            (Outcome::Waits, 0) => number,
-            (Outcome::Waits, first) => first,
+        since[t] = match (fate_after(line.action, made.outcome), since[t]) {
+            (Fate::Waits, 0) => number,
+            (Fate::Waits, first) => first,
             _ => 0,
         };
         match write_of(line.action, made) {
@@ -172,10 +184,7 @@ impl Course {
             }
             Event::Made(line, made) => {
                 self.remember(number, line, made);
-                let fate = match made.outcome {
-                    Outcome::Waits => Fate::Polled,
-                    _ => Fate::Moved,
-                };
+                let fate = fate_after(line.action, made.outcome);
                 let fates = &mut self.fates;
                 fates[line.thread as usize] = fate;
             }
@@ -189,7 +198,7 @@ impl Course {
         steps.copied().unwrap_or([None; 3])
     }
 
-    /// The line since which each move of the thread was a failed poll.
+    /// The line since which the thread has waited after each of its moves.
     pub fn since(&self, thread: u8) -> Option<u64> {
         self.since.get(thread as usize).copied().filter(|n| *n > 0)
     }
@@ -205,8 +214,8 @@ impl Course {
         self.fates[thread as usize]
     }
 
-    /// Whether the run of so many threads hangs: each of them has ended, or made a failed poll as
-    /// its last move and has not ended, as one at least.
+    /// Whether the run of so many threads hangs: each of them has ended, or waits after its last
+    /// move and has not ended, as one at least.
     pub fn hangs(&self, threads: u8) -> bool
         ensures { result ≡ hangs threads self.now }
     {
