@@ -241,10 +241,11 @@ def test_guide_by_threads(guide, judge):
 
 
 def test_guide_with_its_mistake(guide, judge):
-    """The run hangs, and `check` refuses its trace at the line that the guide names."""
+    """The run hangs, and its trace is refused at the line that the guide names."""
     folder = guide("SEED", "served != ticket", "served < ticket")
     assert "the run hangs" in ran("./try", 3, 1000, 17, "logs", cwd=folder).stderr
-    assert f"logs/run.trace:{judge.refused_line(folder / 'logs' / 'run.trace')}: " in GUIDE
+    line = judge.refused_line(folder / "logs" / "run.trace")
+    assert f"refused at line {line} of the trace, try.c:22: '2 release'" in GUIDE
 
 
 @pytest.mark.xdist_group("cargo")  # cargo locks its folder, so these tests share a worker
