@@ -26,6 +26,14 @@ static inline void lr_say_unseen(const lr_explored *explored)
            lr_at(at, explored->unseen.file, explored->unseen.line));
 }
 
+/* Warns that a read-write lock was explored with two threads, which show few of its mistakes. */
+static inline void lr_say_few(const lr_driver *driver, unsigned threads,
+                              const lr_explored *explored)
+{
+    if (explored->is_refused || threads > 2 || strncmp(driver->lock, "rw", 2)) return;
+    lr_say("most mistakes of a read-write lock need three threads");
+}
+
 static inline int lr_main(const lr_driver *driver, int count, char **words)
 {
     lr_explored explored;
@@ -55,6 +63,7 @@ static inline int lr_main(const lr_driver *driver, int count, char **words)
     if (explored.is_refused && !is_again)
         printf("again: %s %u %u again %s/run.trace\n", words[0], threads, rounds, words[4]);
     lr_say_unseen(&explored);
+    if (explored.runs && !is_again) lr_say_few(driver, threads, &explored);
     fflush(stdout);
     _Exit(fault ? 3 : explored.is_refused);
 }

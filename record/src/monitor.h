@@ -9,8 +9,8 @@
 #define LR_LOCK(lock) (lr_before_lock(), (void)(lock), lr_set_inside(1))
 #define LR_UNLOCK(unlock) ((void)(unlock), lr_set_inside(0), lr_after_unlock())
 #define LR_WAIT(condition, unlock, wait, lock) ((void)(unlock), lr_park(condition), (void)(lock))
-#define LR_SIGNAL(condition, signal) lr_wake(condition, 0)
-#define LR_BROADCAST(condition, broadcast) lr_wake(condition, 1)
+#define LR_SIGNAL(condition, signal) lr_wake(condition, 0, __FILE__, __LINE__)
+#define LR_BROADCAST(condition, broadcast) lr_wake(condition, 1, __FILE__, __LINE__)
 #define LR_SWITCH() lr_switch()
 
 /* The log of the thread that runs, which has to be in a run. */
@@ -69,7 +69,7 @@ static inline void lr_park(const void *condition)
     log->turn.in_monitor = inside;
 }
 
-static inline void lr_wake(const void *condition, int all)
+static inline void lr_wake(const void *condition, int all, const char *file, unsigned line)
 {
     lr_run *run = lr_here()->run;
     uint64_t waiters = 0;
@@ -78,6 +78,9 @@ static inline void lr_wake(const void *condition, int all)
         if (run->parked >> t & 1 && run->logs[t].turn.awaits == condition) waiters |= lr_bit(t);
     if (waiters && !all) waiters = lr_bit(lr_choose_waiter(run, waiters));
     run->parked &= ~waiters;
+    run->last_signal.place.file = file;
+    run->last_signal.place.line = line;
+    run->last_signal.woke = waiters;
 }
 #else
 /* The threads run as they like, so the monitor's own operations do all of this. */

@@ -102,6 +102,12 @@ typedef struct lr_place {
     unsigned line;
 } lr_place;
 
+/* A signal or a broadcast, and the threads that it woke; its line is 0 if there was none. */
+typedef struct lr_signal {
+    lr_place place;
+    uint64_t woke;
+} lr_signal;
+
 /* A line of a schedule that is followed. */
 typedef struct lr_line {
     unsigned char thread, word;
@@ -140,8 +146,9 @@ typedef struct lr_run {
 
     /* One thread at a time: only the thread whose turn it is touches these. */
     unsigned holder;
-    uint64_t inside;       /* the threads between lr_begin and lr_end, a bit for each */
-    uint64_t parked;       /* those that wait for a condition */
+    uint64_t inside; /* the threads between lr_begin and lr_end, a bit for each */
+    uint64_t parked; /* those that wait for a condition */
+    lr_signal last_signal;
     uint64_t stuck;        /* those that polled in vain, and nobody moved since */
     size_t turns, in_vain; /* in_vain: how many of the last turns made no step but polls */
     int hangs;

@@ -36,6 +36,22 @@ static inline const char *lr_what_it_does(const lr_run *run, unsigned thread)
     return is_poll ? "polls" : last ? "has noted nothing since" : "has noted nothing";
 }
 
+/* Says whom the last signal woke: perhaps it is another one who still waits. */
+static inline void lr_tell_signal(lr_run *run)
+{
+    char at[LR_LINE];
+    const lr_signal *last = &run->last_signal;
+    if (!last->place.line) {
+        lr_tell(run->said, "; nobody has signalled");
+        return;
+    }
+    lr_at(at, last->place.file, last->place.line);
+    lr_tell(run->said, "; the last signal, at %s, woke%s", at, last->woke ? "" : " nobody");
+    for (unsigned t = 0; t < run->threads; t++)
+        if (last->woke >> t & 1)
+            lr_tell(run->said, " thread %u%s", t, last->woke >> t >> 1 ? "," : "");
+}
+
 /* Says what each thread that has not ended does, since none of them makes progress any more. */
 static inline void lr_hang(lr_run *run)
 {
@@ -46,6 +62,7 @@ static inline void lr_hang(lr_run *run)
         lr_tell_last(run->said, &run->logs[t]);
         lr_tell(run->said, "%s", run->inside >> t >> 1 ? "," : "");
     }
+    if (run->parked) lr_tell_signal(run);
     run->hangs = 1;
 }
 

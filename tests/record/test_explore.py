@@ -287,3 +287,24 @@ def test_wrong_count(planted, tmp_path, name, said):
     assert re.search(rf"\nrefused at line 12 of the trace, rw_fifo.c:\d+: '{said}': OtherOutcome",
                      done.stdout)
     assert "the run hangs" in done.stdout
+
+
+@pytest.mark.parametrize("name, woke", [
+    ("signal-for-broadcast", r"the last signal, at monitor\.h:22, woke thread \d"),
+    ("nobody-signals", "nobody has signalled"),
+])
+def test_lost_signal(planted, tmp_path, name, woke):
+    """A run that hangs names the last signal, and whom it woke."""
+    done = ran(planted("rw_fifo", name), 3, 1, 2, tmp_path)
+    assert re.search(rf"\nthe run hangs: .* waits for a signal .*; {woke}\n", done.stdout)
+
+
+@pytest.mark.parametrize("lock, name, threads, warned", [
+    ("rw_fifo", None, 2, True), ("rw_simple", None, 2, True), ("rw_fifo", None, 3, False),
+    ("ticket", None, 2, False), ("rw_fifo", "flag-not-cleared", 2, False),
+])
+def test_too_few_threads(planted, tmp_path, lock, name, threads, warned):
+    """Two threads show few mistakes of a read-write lock."""
+    done = ran(planted(lock, name), threads, 2, 0, tmp_path)
+    said = "lockreplay_record: most mistakes of a read-write lock need three threads\n"
+    assert done.stderr == said * warned

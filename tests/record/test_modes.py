@@ -65,6 +65,7 @@ NOTES = [
     ("LR_SECTION(1, enters)", "an outcome is moved, waits, entered or left"),
 ]
 
+HANGS = "the run hangs: thread 1 waits for a signal; nobody has signalled"
 # The BODY of a program with a run of two threads, the modes, and the status and message due.
 CALLS = [
     ("lr_log_of(run, 2);", "VALUES SEED", 2,
@@ -83,7 +84,8 @@ CALLS = [
      "thread 1 has its turn and does not give it back: it blocks, or it has ended without "
      "lr_end, or it polls without a note"),
     ("start(waits_for_ever, 2); return (int)lr_await(run, 20);", "SEED", 2,
-     "the run hangs: thread 0 waits for a signal, thread 1 waits for a signal"),
+     "the run hangs: thread 0 waits for a signal, thread 1 waits for a signal; nobody has "
+     "signalled"),
     ("start(polls_for_ever, 2); return (int)lr_await(run, 20);", "SEED", 2,
      "the run hangs: thread 0 polls ('read now_serving found 1' at calls.c:LINE), thread 1 polls "
      "('read now_serving found 1' at calls.c:LINE)"),
@@ -98,8 +100,8 @@ CALLS = [
      "calls.c:LINE)"),
     # Only an even seed, or an option, wakes a thread that nobody signals.
     *((f"run = lr_open(\"mcs\", 2, 64, 9, {seed}, NULL); start(signals_nothing, 2); "
-       "return (int)lr_await(run, 20);", f"SEED{option}", int(hangs),
-       "the run hangs: thread 1 waits for a signal" if hangs else "") for seed, option, hangs in (
+       "return (int)lr_await(run, 20);", f"SEED{option}", int(hangs), HANGS if hangs else "")
+      for seed, option, hangs in (
         (1, "", True), (2, "", False), (1, " -DLR_SPURIOUS=9", False),
         (2, " -DLR_SPURIOUS=0", True))),
     ("run = lr_open(\"rw-fifo\", 2, 64, 9, 1, NULL); alarm(9); start(keeps_its_turn, 2); "

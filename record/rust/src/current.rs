@@ -340,9 +340,11 @@ pub(crate) fn sleep(address: usize) {
 }
 
 /// By turns: wakes the threads that wait at an address, or one of them.
+#[track_caller]
 pub(crate) fn wake(address: usize, all: bool) {
     touch(address, true);
-    with(|recorder| recorder.shared.turns.wake(address, all));
+    let at = Location::caller();
+    with(|recorder| recorder.shared.turns.wake(address, all, at));
 }
 
 /// Whether this thread records.

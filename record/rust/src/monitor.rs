@@ -219,6 +219,7 @@ impl Condvar {
     }
 
     /// Wakes one of the threads that wait.
+    #[track_caller]
     pub fn notify_one(&self) {
         self.notified.fetch_add(1, Ordering::Relaxed);
         current::wake(self.address(), false);
@@ -226,6 +227,7 @@ impl Condvar {
     }
 
     /// Wakes the threads that wait.
+    #[track_caller]
     pub fn notify_all(&self) {
         self.notified.fetch_add(1, Ordering::Relaxed);
         current::wake(self.address(), true);

@@ -149,6 +149,18 @@ impl Run {
         ))
     }
 
+    /// If the lock is under a monitor: whom the last notification woke, and where it was given.
+    #[cfg(feature = "check")]
+    pub(crate) fn last_notified(&self) -> Option<String> {
+        match (self.0.header.lock, &self.0.turns.stage().last_notified) {
+            (_, Some((at, woke))) => {
+                Some(format!("the last notification, at {at}, woke threads {woke:?}"))
+            }
+            (Lock::RwSimple | Lock::RwFifo, None) => Some("nobody was notified".to_string()),
+            (Lock::Ticket | Lock::Mcs, None) => None,
+        }
+    }
+
     /// How many turns the run had, if one thread ran at a time: for [`Mode::Pct`].
     #[must_use]
     pub fn turns(&self) -> usize {

@@ -2,6 +2,8 @@
 //! moves. Nothing here waits; that is in `turns`.
 // SPDX-License-Identifier: Apache-2.0 OR MIT
 
+use std::panic::Location;
+
 use crate::chooser::Chooser;
 use crate::error::Error;
 use crate::follow::Departure;
@@ -54,6 +56,8 @@ pub(crate) struct Stage {
     pub(crate) is_cut: bool,
     /// No thread made progress, and no schedule gave the turns.
     has_hung: bool,
+    /// Where a condition variable was last notified, and the threads that this woke.
+    pub(crate) last_notified: Option<(&'static Location<'static>, Vec<usize>)>,
     /// The thread that had the turn when the time was over, and did not give it back for a while.
     pub(crate) blocked: Option<usize>,
 }
@@ -80,6 +84,7 @@ impl Stage {
             order,
             is_cut: false,
             has_hung: false,
+            last_notified: None,
             blocked: None,
         })
     }
@@ -261,13 +266,14 @@ impl Stage {
     }
 
     /// Wakes the threads that wait at an address, or one of them.
-    pub(crate) fn wake(&mut self, address: usize, all: bool) {
+    pub(crate) fn wake(&mut self, address: usize, all: bool, at: &'static Location<'static>) {
         let asleep = self.threads_that(|phase| phase == Phase::Asleep(address));
         let one = |chooser: &mut Chooser| Vec::from_iter(chooser.choose_waiter(&asleep));
         let woken = if all { asleep.clone() } else { one(&mut self.chooser) };
-        for thread in woken {
+        for &thread in &woken {
             self.set_phase(thread, Phase::Inside);
         }
+        self.last_notified = Some((at, woken));
     }
 
     fn asleep(&self) -> Vec<usize> {

@@ -4,7 +4,7 @@
 //! is no panic: nothing is printed.
 // SPDX-License-Identifier: Apache-2.0 OR MIT
 
-use std::panic;
+use std::panic::{self, Location};
 use std::sync::atomic::{AtomicBool, Ordering};
 use std::sync::{Condvar, Mutex, MutexGuard, PoisonError};
 use std::thread;
@@ -244,9 +244,9 @@ impl Turns {
     }
 
     /// `ByTurns`: wakes the threads that sleep at an address, or one of them.
-    pub(crate) fn wake(&self, address: usize, all: bool) {
+    pub(crate) fn wake(&self, address: usize, all: bool, at: &'static Location<'static>) {
         if self.is_by_turns() {
-            self.stage().wake(address, all);
+            self.stage().wake(address, all, at);
         }
     }
 

@@ -7,7 +7,8 @@ use std::sync::atomic::Ordering::SeqCst;
 use std::time::Duration;
 
 use lockreplay_record::{
-    call, explore, note, AtomicU8, Call, Error, Lock, Mode, Mutex, Outcome, Run, Step, Word,
+    call, explore, note, AtomicU8, Call, Condvar, Error, Lock, Mode, Mutex, Outcome, Run, Step,
+    Word,
 };
 
 const LIMIT: Duration = Duration::from_secs(60);
@@ -196,6 +197,29 @@ fn a_search_ends_with_a_panic() {
     let said = catch_unwind(search).expect_err("no thread gets on");
     let said = said.downcast_ref::<String>().expect("a text");
     assert_eq!(said, "run 1: it hangs: threads [0, 1] wait");
+}
+
+/// A run that hangs names the last notification, and whom it woke: not the thread that still waits.
+#[test]
+fn a_lost_notification() {
+    for (notifies, woke) in [(true, "woke threads [1]"), (false, "nobody was notified")] {
+        let new = || (Mutex::new(false), Condvar::new());
+        let round = |(open, changed): &(Mutex<bool>, Condvar), thread: usize| {
+            let mut open = open.lock().unwrap();
+            while thread > 0 && !*open {
+                open = changed.wait(open).unwrap();
+            }
+            *open = true;
+            if thread == 0 && notifies {
+                changed.notify_one();
+            }
+        };
+        let said = catch_unwind(|| explore(Run::of(Lock::RwSimple, 3), 0, new, round));
+        let said = said.expect_err("two threads wait, and one is woken at most");
+        let said = said.downcast_ref::<String>().expect("a text").lines().next().expect("a line");
+        assert!(said.contains("it hangs: threads [") && said.ends_with(woke), "{said}");
+        assert_eq!(said.contains("; the last notification, at tests/published.rs:"), notifies);
+    }
 }
 
 /// Writers that do not wait.
