@@ -15,30 +15,38 @@ from tree import cases, ran
 
 # The arguments of `find`, and its message that no run has the lines.
 NOWHERE = [
-    (["mcs", "2", "0 cas done", "0 swap"],
+    (["mcs", "2", "--rounds", "1", "0 cas done", "0 swap"],
      "no run of 2 threads with 1 round each has '0 swap' after '0 cas done': "
      "all 76 states were searched\n"),
-    (["mcs", "3", "0 write locked of 1", "1 write locked of 0"],
+    (["mcs", "3", "--rounds", "1", "0 write locked of 1", "1 write locked of 0"],
      "no run of 3 threads with 1 round each has '1 write locked of 0' after '0 write locked of 1': "
      "all 1,018 states were searched\n"),
     (["mcs", "2", "--rounds", "2", "0 swap tail found 1"],
      "no run of 2 threads with 2 rounds each has '0 swap tail found 1': "
      "all 325 states were searched\n"),
-    (["mcs", "2", "--rounds", "any", "0 swap tail found 1"],
+    (["mcs", "2", "0 swap tail found 1"],
      "no run of 2 threads with any number of rounds each has '0 swap tail found 1': "
      "all 89 states were searched\n"),
-    (["ticket", "3", "--bits", "2", "* write now_serving left 0"],
+    (["ticket", "3", "--rounds", "1", "--bits", "2", "* write now_serving left 0"],
      "no run of 3 threads with 1 round each, on words of 2 bits, has '* write now_serving left 0': "
      "all 231 states were searched\n"),
+    # Once, unless --rounds says else, if counters have more than 8 bits.
     (["rw-fifo", "1", "* section waits"],
      "no run of 1 thread with 1 round has '* section waits': all 10 states were searched\n"),
-    (["rw-simple", "2", "0 rlock", "0 section entered", "1 wlock", "1 section entered",
-      "0 runlock"],
+    (["ticket", "2", "--bits", "9", "0 write", "0 add"],
+     "no run of 2 threads with 1 round each, on words of 9 bits, has '0 add' after '0 write': "
+     "all 41 states were searched\n"),
+    # Six states for each of the 256 values of 8 bits.
+    (["ticket", "1", "--bits", "8", "0 add found 1", "not 0 add", "0 read found 0"],
+     "no run of 1 thread with any number of rounds, on words of 8 bits, has '0 add found 1', "
+     "then 'not 0 add', then '0 read found 0': all 1,536 states were searched\n"),
+    (["rw-simple", "2", "--rounds", "1", "0 rlock", "0 section entered", "1 wlock",
+      "1 section entered", "0 runlock"],
      "no run of 2 threads with 1 round each has '0 rlock', then '0 section entered', "
      "then '1 wlock', then '1 section entered', then '0 runlock': all 60 states were searched\n"),
     (["mcs", "2", "not 1 write", "0 cas failed"],
-     "no run of 2 threads with 1 round each has 'not 1 write', then '0 cas failed': "
-     "all 76 states were searched\n"),
+     "no run of 2 threads with any number of rounds each has 'not 1 write', then '0 cas failed': "
+     "all 89 states were searched\n"),
 ]
 
 LINE = "not a line of a sketch (BadLine)"
@@ -173,8 +181,8 @@ def test_not_in_a_schedule(tracer):
                                "not 1 read", "0 write locked of 1")
     assert more == ["", 0]
     assert output.startswith(
-        "# A shortest run of 2 threads with 1 round each that has these lines, in this order:\n"
-        "# line 16: 0 read next found 0\n# before line 20: not * cas failed\n"
+        "# A shortest run of 2 threads with any number of rounds each that has these lines, in "
+        "this order:\n# line 16: 0 read next found 0\n# before line 20: not * cas failed\n"
         "# before line 20: not 1 read\n# line 20: 0 write locked of 1\nlock mcs threads 2\n")
     assert len(search_rows.moves_of(output)) == 14
 

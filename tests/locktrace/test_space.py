@@ -37,16 +37,16 @@ def test_counts(tracer, row, counts, _):
 
 
 @cases("words, due", {
-    "text": ("mcs 3", "mcs, 3 threads with 1 round each: 1,018 states, 2,484 transitions, "
-             "24 moves to the farthest state\n"),
+    "text": ("ticket 3", "ticket, 3 threads with 1 round each: 231 states, 570 transitions, "
+             "18 moves to the farthest state\n"),
     "JSON": ("ticket 2 --rounds 3 --bits 2 --format json",
              '{"lock":"ticket","threads":2,"rounds":3,"bits":2,"states":289,"transitions":540,'
              '"depth":36}\n'),
-    "any rounds": ("ticket 3 --rounds any --bits 2", "ticket, 3 threads with any number of rounds "
-                   "each: 512 states, 1,536 transitions, 27 moves to the farthest state\n"),
-    "any rounds in JSON": ("mcs 2 --rounds any --format json",
-                           '{"lock":"mcs","threads":2,"rounds":"any","bits":64,"states":89,'
-                           '"transitions":178,"depth":18}\n'),
+    "narrow counters": ("ticket 3 --bits 2", "ticket, 3 threads with any number of rounds each: "
+                        "512 states, 1,536 transitions, 27 moves to the farthest state\n"),
+    "no counters": ("mcs 2 --format json",
+                    '{"lock":"mcs","threads":2,"rounds":"any","bits":64,"states":89,'
+                    '"transitions":178,"depth":18}\n'),
     "a drawing": ("ticket 1 --format dot", TICKET_DRAWN),
 })
 def test_format(tracer, words, due):

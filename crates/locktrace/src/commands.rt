@@ -124,7 +124,8 @@ const TWO_ROUNDS: Word = word!("rounds" Name, "R" Text,
     "How many times each thread takes the lock at most; 2 if it is not given");
 
 const ANY_ROUNDS: Word = word!("rounds" Name, "R" Text,
-    "How many times each thread takes the lock at most, or any; 1 if it is not given");
+    "How many times each thread takes the lock at most, or any; if it is not given any, but 1 if \
+     the lock has counters of more than 8 bits");
 
 const BITS: Word = word!("bits" Name, "B" Text, "How many bits a word has; 64 if it is not given");
 
