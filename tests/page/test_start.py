@@ -23,7 +23,7 @@ def test_without_a_link(page):
         for at, (name, said) in enumerate(card["lessons"], 1):
             assert said.startswith(str(at)) and " moves, about " in said, said
             assert name not in said, "no name of a file"
-    # Ten moves of 8 seconds and three questions of 30 seconds make about 3 minutes.
+    # Ten moves of 10 seconds and two questions of 30 seconds make about 3 minutes.
     first = dict(cards[0]["lessons"])["ticket-hand-over"]
     assert first.endswith("10 moves, about 3 min"), first
     assert page.js("refusals") == [12, False]
@@ -43,9 +43,9 @@ def test_the_first_lesson(page):
     assert page.js("lessonNow") == "ticket-hand-over"
     for move in range(1, 11):
         # A step stops once at a question.
-        page.press(*["ArrowRight"] * (2 if move in (6, 8, 10) else 1))
+        page.press(*["ArrowRight"] * (2 if move in (6, 10) else 1))
         said = page.js("seen", "#now .own-say")
-        assert (said == "") == (move in (5, 7, 9)), (move, said)
+        assert (said == "") == (move in (5, 9)), (move, said)
         assert "fetch" not in said and "compare" not in said, (move, said)
 
 

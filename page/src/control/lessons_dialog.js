@@ -18,7 +18,7 @@ import { LiveCards } from './live_cards.js';
 export const FIRST_LESSON = 'ticket-hand-over';
 const T = texts.lessons;
 // Seconds for a move and for a question.
-const PACE = { move: 8, question: 30 };
+const PACE = { move: 10, question: 30 };
 // How many of the kept schedules are not folded.
 const KEPT_AT_ONCE = 12;
 
