@@ -41,12 +41,20 @@ def test_the_first_lesson(page):
     page.open()
     page.press("Enter")
     assert page.js("lessonNow") == "ticket-hand-over"
+    assert page.js("count", "#now .own-say") == 0, "its point was on the card, and is at the end"
     for move in range(1, 11):
         # A step stops once at a question.
         page.press(*["ArrowRight"] * (2 if move in (6, 10) else 1))
         said = page.js("seen", "#now .own-say")
         assert (said == "") == (move in (5, 9)), (move, said)
         assert "fetch" not in said and "compare" not in said, (move, said)
+
+
+def test_the_point_of_a_schedule_of_ones_own(page):
+    """No card says it, so it is before the first move."""
+    page.open("#lesson=ticket-hand-over&move=0")
+    page.show("#! learn Who comes first.\nlock ticket threads 1\n")
+    assert page.text("#now .own-say") == "Who comes first."
 
 
 def test_behind_the_start(page):

@@ -35,6 +35,7 @@ import { BoundRemarks } from './stale_remarks.js';
  * @property {number} move the last one that was made
  * @property {number} place the same, or that of the refused move
  * @property {boolean} refused whether the refused move is shown
+ * @property {string | null} lesson its name, if it is a lesson
  * @property {number} marked the move whose words are marked; 0 for none
  * @property {Names} names
  * @property {ReturnType<typeof remarksOf>} remarks
@@ -136,7 +137,7 @@ export class Session {
    * @returns {View}
    */
   view(wishes = {}, wanted = this.place) {
-    const { run, names, remarks, arrows } = this;
+    const { run, names, remarks, arrows, lesson } = this;
     const place = this.placeNear(wanted);
     const move = Math.min(run.count, place);
     const refused = place > run.count;
@@ -144,7 +145,8 @@ export class Session {
     // by default the last move of its thread.
     const decided = () => run.refusal.lastWrite ?? run.lastMoveOf(run.refusal.thread, move);
     const marked = refused ? decided() : move;
-    const view = { run, move, names, remarks, place, refused, marked, ...arrows, ...wishes };
+    const at = { run, move, names, remarks, lesson, place, refused, marked };
+    const view = { ...at, ...arrows, ...wishes };
     // What the move did is not marked if a question asks for it.
     return isCovered(view, 'facts') ? { ...view, marked: 0 } : view;
   }

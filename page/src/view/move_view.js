@@ -122,15 +122,16 @@ function namesView({ names }) {
   return html`<p class="aside names">${capital(`${all.join(', ')}.`)}</p>`;
 }
 
+// What one learns was read on the lesson's card, and is said again at the end.
 /** @param {View} view @param {State} state */
 function startView(view, state) {
-  const { learn } = view.remarks;
+  const learn = !view.lesson && view.remarks.learn;
   const isTouched = matchMedia('(pointer: coarse)').matches;
   return html`<h2 class="spoken">${texts.now}</h2>
     <div class="head"><b>0</b><span>${texts.before}</span></div>
     ${learn && html`<p class="say own-say">${learn}</p>`}${namesView(view)}
-    <p class="${learn ? 'aside' : 'say'}">${withTerms(texts.start)}</p>${storyView(view)}
-    <p class="hint">${isTouched ? texts.startTouch : texts.startHint}</p>
+    <p class="aside">${withTerms(texts.start)}</p>${storyView(view)}
+    <p class="say hint">${isTouched ? texts.startTouch : texts.startHint}</p>
     ${questionView(view)}${factList(view, state, '')}`;
 }
 
