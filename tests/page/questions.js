@@ -33,3 +33,6 @@ function marked() {
       Math.round(((left + right) / 2 - track.left) / track.width * last))),
   };
 }
+
+const keysOf = (part) => all(`${part} kbd`).filter((one) => one.checkVisibility()).map((one) => (
+  one.textContent));

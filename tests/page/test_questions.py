@@ -26,9 +26,14 @@ def test_each_part_comes_with_the_answer(page):
             assert before["facts"] == before["report"] == "" and before["marks"] == 0, where
             assert after["facts"] and after["report"], where
         if "memory" in parts:
-            assert before["caption"].endswith("Press A for the arrows and the caption.")
-            assert not before["links"]
-            assert after["caption"] and after["caption"] != before["caption"], where
+            assert before["caption"] == "" and not before["links"], where
+            assert after["caption"], where
+
+
+def test_one_prompt(page):
+    """The button alone names the key that shows the answer."""
+    page.open("#lesson=ticket-hand-over&move=5")
+    assert "Press A" not in page.text("main") and page.js("keysOf", "#now") == ["A"]
 
 
 def test_where_questions_are(page):
@@ -74,9 +79,7 @@ def test_the_form_of_before_is_valid(page, move, question, hidden):
     page.open()
     page.show(OWN, move)
     shown = page.js("beside")
-    found = [part for part in ("sentence", "facts") if not shown[part]]
-    if "Press A" in shown["caption"]:
-        found.append("caption")
+    found = [part for part in ("sentence", "facts", "caption") if not shown[part]]
     assert found == hidden, shown
     assert page.text("#now .question p") == f"Question: {question}"
 

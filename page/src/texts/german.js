@@ -148,8 +148,6 @@ export const german = {
     resting: (threads) => `${threads} nicht gezeichnet: ohne Zug in dieser Zeit`,
     away: (count) => `${count} Zeilen darüber oder darunter`,
     folded: (count) => `${count} weitere`,
-    covered: 'Taste A zeigt Pfeile und Bildunterschrift.',
-    coveredSentence: 'Taste A zeigt, was dieser Zug tat.',
     showStory: 'Worum es geht',
     wrote: (word, left, found) => `${word} = ${left} (war ${found})`,
     legend: {

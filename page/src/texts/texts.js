@@ -130,8 +130,6 @@ const english = {
   resting: (threads) => `${threads} not drawn: no move at this time`,
   away: (count) => `${count} lanes above or below`,
   folded: (count) => `${count} more`,
-  covered: 'Press A for the arrows and the caption.',
-  coveredSentence: 'Press A for what this move did.',
   showStory: 'What this is about',
   wrote: (word, left, found) => `${word} = ${left} (was ${found})`,
   legend: {

@@ -39,9 +39,8 @@ function drawCaption(page, view, state) {
   write(byId('memory-title'), page.comparing.isOn ? texts.compare.hereMemory : lock.memory);
   write(byId('there-title'), page.comparing.isOn ? texts.compare.thereMemory : '');
   const covered = isCovered(view, 'memory');
-  const missing = caption.missing && !covered && 'missing';
-  const text = covered ? texts.covered : caption.text;
-  show(byId('memory-says'), html`<span class="${missing}">${text}</span>`);
+  show(byId('memory-says'), html`${!covered
+    && html`<span class="${caption.missing && 'missing'}">${caption.text}</span>`}`);
 }
 
 // In a hall and in a frame the move is in the bar, and the quiz too, if its part is not shown.

@@ -148,8 +148,7 @@ function sentences(view) {
   const { remarks, move } = view;
   const own = remarks.say.get(move);
   const hidden = isCovered(view, 'sentence') && 'hidden';
-  return html`${hidden && html`<p class="plain">${texts.coveredSentence}</p>`}
-    ${own && html`<p class="say own-say" ${hidden}>${withTerms(own)}</p>`}
+  return html`${own && html`<p class="say own-say" ${hidden}>${withTerms(own)}</p>`}
     <p class="${own ? 'aside' : 'say'}" ${hidden}>${sentence(view, move)}</p>`;
 }
 
