@@ -3,7 +3,9 @@
 const seen = (selector) => all(selector).filter((one) => one.checkVisibility())
   .map((one) => plain(one.textContent)).join(' ');
 
+// The machine's words are unfolded, as a reader may do.
 function beside() {
+  all('#now details.aside').forEach((one) => { one.open = true; });
   return {
     sentence: seen('#now :is(.say, .aside)'), facts: seen('#now .facts'),
     report: seen('#now .report-line'), caption: text('#memory-says'), spoken: text('#spoken'),

@@ -48,6 +48,11 @@ def test_the_first_lesson(page):
         said = page.js("seen", "#now .own-say")
         assert (said == "") == (move in (5, 9)), (move, said)
         assert "fetch" not in said and "compare" not in said, (move, said)
+        folded = page.js("seen", "#now :is(.plain, p.aside, .report-line)")
+        assert folded == "", "what the machine says is folded"
+    page.click("#now summary")
+    folded = page.js("seen", "#now :is(.plain, p.aside, .report-line)")
+    assert "Bob finds its ticket, 1" in folded and "10 0 read entered hold 0" in folded, folded
 
 
 def test_the_point_of_a_schedule_of_ones_own(page):

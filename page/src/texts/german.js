@@ -148,7 +148,7 @@ export const german = {
     resting: (threads) => `${threads} nicht gezeichnet: ohne Zug in dieser Zeit`,
     away: (count) => `${count} Zeilen darüber oder darunter`,
     folded: (count) => `${count} weitere`,
-    showStory: 'Worum es geht',
+    showStory: 'Worum es geht', exactly: 'Genauer',
     wrote: (word, left, found) => `${word} = ${left} (war ${found})`,
     legend: {
       call: 'ruft auf', vain: 'wartet: vergebliche Abfrage', enters: 'tritt ein',

@@ -130,7 +130,7 @@ const english = {
   resting: (threads) => `${threads} not drawn: no move at this time`,
   away: (count) => `${count} lanes above or below`,
   folded: (count) => `${count} more`,
-  showStory: 'What this is about',
+  showStory: 'What this is about', exactly: 'More exactly',
   wrote: (word, left, found) => `${word} = ${left} (was ${found})`,
   legend: {
     call: 'called', vain: 'waits: failed poll', enters: 'entered', leaves: 'left',

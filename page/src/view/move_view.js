@@ -142,31 +142,38 @@ function wroteRow(view) {
     <dd class="mono wrote">${wrote || html`<span class="soft">${texts.noWord}</span>`}</dd>`;
 }
 
-// The lesson's own sentence, if it has one, and that of the machine.
+// What is said of the move: by the schedule, by the machine, and in the report.
 /** @param {View} view */
-function sentences(view) {
-  const { remarks, move } = view;
+function saidOf(view) {
+  const { remarks, move, run } = view;
   const own = remarks.say.get(move);
   const hidden = isCovered(view, 'sentence') && 'hidden';
-  return html`${own && html`<p class="say own-say" ${hidden}>${withTerms(own)}</p>`}
-    <p class="${own ? 'aside' : 'say'}" ${hidden}>${sentence(view, move)}</p>`;
+  return {
+    own: own && html`<p class="say own-say" ${hidden}>${withTerms(own)}</p>`, hidden,
+    plain: html`<p class="plain">${plainWords(run.records, move)}</p>`,
+    machine: html`<p class="${own ? 'aside' : 'say'}" ${hidden}>${sentence(view, move)}</p>`,
+    report: html`<p class="report-line" title="${texts.facts.report}" ${
+      isCovered(view, 'facts') && 'hidden'}><code>${reportLine(run, move)}</code></p>`,
+  };
 }
 
+// Below a lesson's own sentence, what the machine says is folded.
 /** @param {View} view @param {State} state */
 export function moveView(view, state) {
-  const { run, move, names } = view;
+  const { run, move, names, lesson } = view;
   if (!move) return startView(view, state);
   const { records } = run;
   const word = MOVES[records.action(move)];
-  const hidden = isCovered(view, 'facts') && 'hidden';
+  const { own, hidden, plain, machine, report } = saidOf(view);
+  const isFolded = lesson && own;
   return html`<h2 class="spoken">${texts.now}</h2>
     <div class="head"><b>${move}</b><span>${names.of(records.thread(move))},
       <span class="mono">${word}</span></span>${outcomePill(records, move)}</div>
-    <p class="plain">${plainWords(records, move)}</p>
-    ${sentences(view)}${questionView(view)}${
-  factList(view, state, html`${wroteRow(view)}${recordedRows(view)}`, hidden)}
-    <p class="report-line" title="${texts.facts.report}" ${hidden}><code>${
-  reportLine(run, move)}</code></p>${lastView(view)}`;
+    ${!isFolded && plain}${own}${!isFolded && machine}${questionView(view)}${
+  factList(view, state, html`${wroteRow(view)}${recordedRows(view)}`,
+    isCovered(view, 'facts') && 'hidden')}
+    ${isFolded ? html`<details class="aside" ${hidden}><summary>${texts.exactly}</summary>${
+      plain}${machine}${report}</details>` : report}${lastView(view)}`;
 }
 
 // After the last move of a lesson: what was shown, and which one is next.
