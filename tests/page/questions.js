@@ -9,6 +9,7 @@ function beside() {
   return {
     sentence: seen('#now :is(.say, .aside)'), facts: seen('#now .facts'),
     report: seen('#now .report-line'), caption: text('#memory-says'), spoken: text('#spoken'),
+    label: attribute('#memory-picture svg', 'aria-label'),
     links: count('#memory-picture .link'), marks: count('#memory-picture .word.changed'),
   };
 }

@@ -27,7 +27,19 @@ def test_each_part_comes_with_the_answer(page):
             assert after["facts"] and after["report"], where
         if "memory" in parts:
             assert before["caption"] == "" and not before["links"], where
-            assert after["caption"], where
+            assert after["caption"] and after["label"].startswith(after["caption"]), where
+            assert before["label"].startswith("Memory "), where
+
+
+def test_who_has_a_ticket_is_not_drawn(page):
+    """A ticket is a place in the queue, also on the wheel of narrow words."""
+    page.open()
+    text = (EXAMPLES / "ticket-hand-over.schedule").read_text()
+    for width in ("", " bits 2"):
+        page.show(text.replace("threads 2", f"threads 2{width}"), 5)
+        shown = [page.js("count", "#memory-picture .token")]
+        page.press("a")
+        assert [*shown, page.js("count", "#memory-picture .token")] == [0, 4 if width else 2]
 
 
 def test_one_prompt(page):

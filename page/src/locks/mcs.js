@@ -268,8 +268,7 @@ function draw(view, state) {
   const { width } = layout;
   const { last } = isLow(view) ? LOW : RECORD;
   const height = topOf(view) + (layout.rows - 1) * RECORD.row + last;
-  const text = isCovered(view, 'memory') ? T.memory : caption(view, state).text;
-  const drawn = picture(view, height, text, html`${tail(view, state, layout)}
+  const drawn = picture(view, height, caption(view, state).text, html`${tail(view, state, layout)}
     ${layout.entries.map((entry) => (entry.folded ? foldedRecords(view, entry, width)
     : record(view, state, entry.one, entry.place, width)))}
     ${!isCovered(view, 'memory') && links(view, state, layout)}`);

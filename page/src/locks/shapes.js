@@ -5,6 +5,7 @@ import { html } from '../lib/markup.js';
 import { MOVES, OUTCOME } from '../machine/codes.js';
 import { isCovered } from '../model/remarks.js';
 import { standingAfter } from '../model/spans.js';
+import { texts } from '../texts/texts.js';
 import { fitted } from './fitting.js';
 
 /** @typedef {import('../machine/machine.js').Records} Records */
@@ -95,16 +96,17 @@ const writes = (records, move) => WRITING.includes(MOVES[records.action(move)]);
  */
 
 /**
- * A picture as wide as the view.
+ * A picture as wide as the view. Its label, as its caption, may be what a question asks for.
  * @param {import('../model/session.js').View} view
  * @param {number} height
- * @param {string} label
+ * @param {string} caption
  * @param {import('../lib/markup.js').Markup} body
  * @returns {Picture}
  */
 /** @param {View} view */
-export function picture(view, height, label, body) {
+export function picture(view, height, caption, body) {
   const { width, scale } = view;
+  const label = isCovered(view, 'memory') ? texts.view.parts.memory : caption;
   const drawn = html`<svg viewBox="0 0 ${width} ${height}" width="${width * scale}"
     height="${height * scale}" role="img" aria-label="${label}">${body}</svg>`;
   return Object.assign(drawn, { height: height * scale, label });

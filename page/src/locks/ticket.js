@@ -5,6 +5,7 @@ import { folding } from '../lib/folding.js';
 import { html } from '../lib/markup.js';
 import { PHASES } from '../machine/codes.js';
 import { wordNamed, wordNames } from '../machine/word_names.js';
+import { isCovered } from '../model/remarks.js';
 import { translated } from '../texts/language.js';
 import { say, texts } from '../texts/texts.js';
 import { firstFitting } from './fitting.js';
@@ -55,6 +56,10 @@ function words(view, state, x, beside, y) {
   const second = beside ? [x + 128, y] : [x, y + 56];
   return html`${box(NEXT_TICKET, x, y)}${box(NOW_SERVING, ...second)}`;
 }
+
+// Who has a ticket is in the queue, so it is not drawn if a question asks for that.
+/** @param {View} view */
+const asks = (view) => isCovered(view, 'standing');
 
 // The tickets, of which those between are folded if there are more than have room.
 /** @param {View} view @param {State} state */
@@ -107,7 +112,8 @@ function narrow(view, state) {
   const most = view.tight
     ? Math.max(3, inRow * Math.floor((view.height - top) / OWN_ROW)) : Infinity;
   const all = tickets(view, state, most);
-  const tokens = all.filter(({ one }) => one).map(({ one: { thread, number } }) => ({
+  const drawn = asks(view) ? [] : all;
+  const tokens = drawn.filter(({ one }) => one).map(({ one: { thread, number } }) => ({
     place: Number(number), draw: (x, y) => token(x, y, view, thread),
   }));
   const x = isSlim ? 256 : 2 * middle + 10;
@@ -121,7 +127,7 @@ function narrow(view, state) {
     <text class="note" x="${x}" y="${isSlim ? 216 : top - 14}">${
   firstFitting([texts.wheel(view.run.bits, wheel.places), texts.bits(view.run.bits)],
     view.width - x - 8, 'small')}</text>
-    ${ownVariables(view, all, isSlim ? 24 : x, top, inRow)}`);
+    ${ownVariables(view, drawn, isSlim ? 24 : x, top, inRow)}`);
 }
 
 // Wide words: the tickets that are out, one cell each, up to the next one.
@@ -152,7 +158,8 @@ function strip(view, state, top) {
   const rows = Math.max(1, Math.floor((view.height - top - 24) / CELL_ROW));
   const all = tickets(view, state, view.tight ? Math.max(3, inRow * rows - 1) : Infinity);
   const cells = [...all, { one: { number: held(state, NEXT_TICKET) } }];
-  const drawn = cells.map(({ one, folded }, i) => {
+  const asked = html`<text class="note" x="24" y="${top + 22}">?</text>`;
+  const drawn = asks(view) ? asked : cells.map(({ one, folded }, i) => {
     const [x, y] = [24 + CELL * (i % inRow), top + CELL_ROW * Math.floor(i / inRow)];
     return folded ? foldedCell(view, folded, x, y) : cell(view, one, x, y);
   });
