@@ -18,3 +18,7 @@ const marked = () => [text('#now .refused-text'), text('#now mark.bad')];
 // How many nodes of each of these parts are wholly in view.
 const wholeOf = (...parts) => parts.map((part) => all(`#now ${part}`)
   .filter((one) => one.checkVisibility() && inside(rect(one), rect(byId('now')))).length);
+
+// The parts that the notice covers.
+const underNotice = () => all('.card').filter((one) => rect(one).bottom > rect(byId('notice')).top)
+  .map(({ id }) => id);

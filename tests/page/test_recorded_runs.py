@@ -60,11 +60,13 @@ def test_equal_values(page, lock):
     """Each line is beside the values of the lock, and all lines are accepted."""
     head, rows = AGREEING[lock]
     trace = text_of(head, [line for line, _ in rows])
+    page.resize(1280, 720)
     page.open(LESSON)
     page.js("paste", trace)
     shown = page.shown(moves=len(rows))
     assert shown["held"] == shown["text"] == shown["area"] == trace
     assert shown["place"] == 0 and "This is a trace. Each move has" in page.text("#notice")
+    assert page.js("underNotice") == []
     assert f"All {len(rows)} moves are accepted. Each word, value and outcome" in shown["verdict"]
     assert f"end {len(rows)}" in shown["verdict"]
     assert page.js("recordedAt", len(rows)) == [[line, own] if own else [] for line, own in rows]
