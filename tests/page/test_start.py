@@ -167,7 +167,7 @@ def test_one_card_plays_at_a_time(page):
         assert page.js("clocks") == playing, event
     page.js("atCard", "mcs", "focusin")
     page.press("Escape")
-    assert page.js("clocks") == []
+    page.becomes([], "clocks")
 
 
 def test_a_card_plays_again(page):
