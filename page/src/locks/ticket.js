@@ -23,8 +23,7 @@ const OWN_VARIABLE = {
 };
 const T = translated('ticket', {
   title: 'Ticket lock', memory: 'Memory: who has which ticket', next: 'next',
-  strip: 'The tickets in use, in the order of the queue, and the next one',
-  stripShort: 'Tickets in the order of the queue',
+  strip: 'Tickets in the order of the queue',
   wraps: 'After {found} comes {left}: the numbers wrap around.',
   captions: {
     nobody: 'No ticket is in use: the next one is {next}.',
@@ -182,8 +181,7 @@ function wide(view, state) {
   const { drawn, height } = strip(view, state, 116);
   return picture(view, 140 + height, caption(view, state).text,
     html`${box(NOW_SERVING, 24)}${box(NEXT_TICKET, 160)}
-      <text class="note" x="24" y="104">${
-  firstFitting([T.strip, T.stripShort], view.width - 32, 'small')}</text>
+      <text class="note" x="24" y="104">${T.strip}</text>
       ${drawn}${served(view, state)}`);
 }
 

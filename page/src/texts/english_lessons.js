@@ -5,7 +5,7 @@ export const lessons = {
   what: [
     'This page plays four locks of the textbooks one atomic step at a time: who holds the lock, '
       + 'who waits, and what is in memory.',
-    'Choose a lesson and press →; a proved machine decides every move.',
+    'Choose a lesson (Enter), then press → for each move, which a proved machine decides.',
   ],
   teaches: {
     ticket: 'Who draws a ticket first enters first. The easiest: begin here.',

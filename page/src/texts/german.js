@@ -201,7 +201,7 @@ export const german = {
       what: [
         'Diese Seite spielt vier Sperren aus Lehrbüchern durch, einen atomaren Schritt nach dem '
           + 'anderen, und zeigt, wer die Sperre hält, wer wartet und was im Speicher steht.',
-        'Wähle eine Lektion und drücke →; über jeden Zug entscheidet eine bewiesene Maschine.',
+        'Wähle eine Lektion (Enter) und drücke → für jeden Zug, den eine bewiesene Maschine prüft.',
       ],
       teaches: {
         ticket: 'Wer zuerst ein Ticket zieht, tritt zuerst ein. Die leichteste: fang hier an.',

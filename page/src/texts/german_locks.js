@@ -3,9 +3,7 @@
 export const germanLocks = {
   ticket: {
     title: 'Ticket-Sperre', memory: 'Speicher: wer welches Ticket hat',
-    next: 'nächstes', stripShort: 'Tickets in der Reihenfolge der Schlange',
-    strip: 'Die vergebenen Tickets in der Reihenfolge der Schlange, und das '
-      + 'nächste',
+    next: 'nächstes', strip: 'Tickets in der Reihenfolge der Schlange',
     wraps: 'Nach {found} kommt {left}: Die Zahlen beginnen wieder bei 0.',
     captions: {
       nobody: 'Kein Ticket ist vergeben: Das nächste ist {next}.',
