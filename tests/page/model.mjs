@@ -102,9 +102,9 @@ assert.equal(differs(runOf(...BEGUN, '0 read'), runOf(...BEGUN)), 3);
 
 const CAPTIONS = {
   'ticket-hand-over': {
-    0: 'No ticket is in use: the next one is 0.',
-    6: 'Ticket 0 has its turn; the next is 2.',
-    10: 'Ticket 1 has its turn; the next is 2.',
+    0: 'No ticket is in use.',
+    6: 'Ticket 0 is served.',
+    10: 'Ticket 1 is served.',
   },
   'mcs-late-link': {
     0: 'The queue is empty.', 3: 'Ann is alone in the queue.',

@@ -139,7 +139,7 @@ def test_titles_of_what_is_refused(page):
 
 def test_the_card_of_mcs(page):
     page.open("#lang=de")
-    assert "jeder neue Record wird mit dem letzten verknüpft" in page.text("[data-lock=mcs]")
+    assert "Jeder Thread wartet an einem eigenen Wort" in page.text("[data-lock=mcs]")
 
 
 def test_comments_on_other_moves(page):

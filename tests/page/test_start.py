@@ -89,7 +89,7 @@ def test_the_end_of_a_lesson(page):
     """A lesson ends with its point, keys lead to the next one, and the start ticks it off."""
     page.open("#lesson=ticket-hand-over&move=10")
     last = page.text("#now .last")
-    assert "What to keep: As at a bakery: take a number, wait" in last, last
+    assert "What to keep: Take a number, wait until it is shown" in last, last
     page.press("ArrowRight", "Enter")
     assert page.js("lessonNow") == "ticket-order-of-tickets"
     # A lesson that was only begun is not ticked off.
@@ -174,6 +174,6 @@ def test_a_card_plays_again(page):
     """The card plays its lesson, and begins it anew after the last move."""
     page.before("hasten")
     page.open()
-    for said in ["Ticket 1 has its turn; the next is 2.",
-                 "No ticket is in use: the next one is 0."]:
+    for said in ["Ticket 1 is served.",
+                 "No ticket is in use."]:
         page.becomes(said, "attribute", "[data-live=ticket] svg", "aria-label")

@@ -26,8 +26,8 @@ const T = translated('ticket', {
   strip: 'Tickets in the order of the queue',
   wraps: 'After {found} comes {left}: the numbers wrap around.',
   captions: {
-    nobody: 'No ticket is in use: the next one is {next}.',
-    queue: 'Ticket {serving} has its turn; the next is {next}.',
+    nobody: 'No ticket is in use.',
+    queue: 'Ticket {serving} is served.',
     wraps: 'The tickets have wrapped around: {first} is served before {last}.',
   },
 });
@@ -190,13 +190,12 @@ const draw = (view, state) => (hasWheel(view.run.bits) ? narrow(view, state) : w
 
 /** @param {View} view @param {State} state */
 function caption(view, state) {
-  const next = held(state, NEXT_TICKET);
   const serving = held(state, NOW_SERVING);
-  if (!state.queue.length) return { text: say(captions.nobody, { next }) };
+  if (!state.queue.length) return { text: captions.nobody };
   const all = holdersOfTickets(state);
   const first = all[0].number;
   const last = all[all.length - 1].number;
-  const text = say(captions.queue, { serving, next });
+  const text = say(captions.queue, { serving });
   const wraps = last < first && say(captions.wraps, { first, last });
   return { text: wraps ? `${text} ${wraps}` : text };
 }

@@ -3,15 +3,15 @@
 export const lessons = {
   title: 'Lessons',
   what: [
-    'This page plays four locks of the textbooks one atomic step at a time: who holds the lock, '
-      + 'who waits, and what is in memory.',
+    'This page plays four textbook locks one atomic step at a time: who holds the lock, who '
+      + 'waits, and what is in memory.',
     'Choose a lesson (Enter), then press → for each move, which a proved machine decides.',
   ],
   teaches: {
-    ticket: 'Who draws a ticket first enters first. The easiest: begin here.',
-    mcs: 'Each thread polls a word of its own; each new record is linked after the last one.',
-    'rw-simple': 'Readers share the lock, a writer has it alone, and can be kept out for ever.',
-    'rw-fifo': 'A writer announces itself, and later readers wait for it.',
+    ticket: 'First come, first served. Begin here.',
+    mcs: 'Each thread waits at a word of its own.',
+    'rw-simple': 'Readers share the lock. They can keep a writer out for ever.',
+    'rw-fifo': 'A writer announces itself. Later readers wait for it.',
   },
   ways: {
     own: ['Your own', 'Write, open or drop a schedule.'],

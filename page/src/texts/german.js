@@ -200,16 +200,14 @@ export const german = {
       title: 'Lektionen',
       what: [
         'Diese Seite spielt vier Sperren aus Lehrbüchern durch, einen atomaren Schritt nach dem '
-          + 'anderen, und zeigt, wer die Sperre hält, wer wartet und was im Speicher steht.',
+          + 'anderen: wer die Sperre hält, wer wartet, was im Speicher steht.',
         'Wähle eine Lektion (Enter) und drücke → für jeden Zug, den eine bewiesene Maschine prüft.',
       ],
       teaches: {
-        ticket: 'Wer zuerst ein Ticket zieht, tritt zuerst ein. Die leichteste: fang hier an.',
-        mcs: 'Jeder Thread fragt ein eigenes Wort ab; jeder neue Record wird mit dem letzten '
-          + 'verknüpft.',
-        'rw-simple': 'Leser teilen sich die Sperre, ein Schreiber hat sie allein und kann '
-          + 'verhungern.',
-        'rw-fifo': 'Ein Schreiber kündigt sich an, und spätere Leser warten hinter ihm.',
+        ticket: 'Wer zuerst kommt, tritt zuerst ein. Fang hier an.',
+        mcs: 'Jeder Thread wartet an einem eigenen Wort.',
+        'rw-simple': 'Leser teilen sich die Sperre. Ein Schreiber kann verhungern.',
+        'rw-fifo': 'Ein Schreiber kündigt sich an. Spätere Leser warten auf ihn.',
       },
       ways: {
         own: ['Eigenes', 'Einen Ablauf schreiben, öffnen oder hierher ziehen.'],

@@ -6,8 +6,8 @@ export const germanLocks = {
     next: 'nächstes', strip: 'Tickets in der Reihenfolge der Schlange',
     wraps: 'Nach {found} kommt {left}: Die Zahlen beginnen wieder bei 0.',
     captions: {
-      nobody: 'Kein Ticket ist vergeben: Das nächste ist {next}.',
-      queue: 'An der Reihe ist {serving}; das nächste ist {next}.',
+      nobody: 'Kein Ticket ist vergeben.',
+      queue: 'Ticket {serving} ist an der Reihe.',
       wraps: 'Die Tickets haben wieder bei 0 begonnen: {first} kommt vor {last} dran.',
     },
   },
