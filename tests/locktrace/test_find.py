@@ -10,6 +10,7 @@ import shlex
 import pytest
 
 import search_rows
+from endless import Endless
 from spaces import measured, searched, walk
 from tree import cases, ran
 
@@ -278,3 +279,90 @@ def test_sketch(tracer, lockreplay, sketch):
             assert all(space.is_true(fact, state) for fact in facts)
         else:
             assert line.startswith("not ")
+
+
+FROM = "# from line {} on, again and again"
+
+NEVER = [
+    (["ticket", "2", "--bits", "2", "0 add", "again", "0 read waits", "not 0 read entered"],
+     "no run of 2 threads with any number of rounds each, on words of 2 bits, goes on for ever with "
+     "'0 read waits' and 'not 0 read entered' after '0 add': all 112 states were searched, and in a "
+     "cycle each thread moves that is in a call or holds the lock\n"),
+    (["mcs", "1", "--rounds", "1", "again", "0 cas done"],
+     "no run of 1 thread with 1 round, on words of 64 bits, goes on for ever with '0 cas done': all "
+     "7 states were searched, and in a cycle each thread moves that is in a call or holds the "
+     "lock\n"),
+]
+
+
+@pytest.mark.parametrize("words, said", NEVER, ids=str)
+def test_never(tracer, words, said):
+    assert tracer.run("find", *words) == ("", said, 1)
+
+
+@pytest.mark.parametrize("row", list(search_rows.endless()), ids=str)
+def test_endless(tracer, lockreplay, row):
+    """The schedule has a shortest way to a cycle, and a cycle that has all that is asked."""
+    lock, threads, rounds, bits = row.space
+    output, error, status = tracer.run("find", lock, threads, "--rounds", rounds, "--bits", bits,
+                                       *row.lines)
+    assert status == (row.length is None)
+    if row.length is None:
+        assert (output, "goes on for ever" in error) == ("", True)
+        return
+    lines, run = output.splitlines(), search_rows.moves_of(output)
+    number = next(n for n in range(len(lines)) if lines[n] == FROM.format(n + 2))
+    way = run[:row.length]
+    assert lines[number + 1:] == [f"{thread} {word}" for thread, word in run[len(way):]]
+    space = searched(row.space)
+    made, states = list(walk(space, run)), [0]
+    states += [transition.after for transition in made]
+    assert len(made) == len(run)
+    assert Endless(space, row.lines).is_cycle(states[len(way):-1], made[len(way):])
+    assert ran(lockreplay, "replay", input=output).stdout.splitlines()[-1].startswith("end ")
+
+
+def test_what_is_said_of_a_cycle(tracer):
+    """Comments name the lines, the line after which the cycle may begin, and what repeats."""
+    output, error, status = tracer.run("find", "rw-simple", "2", "0 rlock", "again",
+                                       "0 section waits", "not 0 section entered")
+    assert (error, status) == ("", 0)
+    assert output == """\
+# A run of 2 threads with any number of rounds each that has these lines, in this order, and goes on \
+for ever:
+# line 7: 0 rlock
+# after line 7: again
+# again and again: 0 section waits
+# again and again: not 0 section entered
+lock rw-simple threads 2
+0 rlock
+# from line 9 on, again and again
+1 wlock
+1 section
+0 section
+1 wunlock
+1 section
+"""
+
+
+@pytest.mark.parametrize("lines, line", [
+    (["again", "0 rlock", "again"], "again"), (["again", "rlock"], "rlock"),
+    (["again", "not rlock"], "not rlock")])
+def test_no_line_of_a_cycle(tracer, lines, line):
+    _, error, status = tracer.run("find", "rw-simple", "2", *lines)
+    assert status == 2 and error.startswith(f"locktrace: '{line}': {LINE}")
+
+
+def test_a_bar_after_again_needs_no_next_line(tracer):
+    """`not` holds in the whole cycle; before `again` it holds up to that line."""
+    output, _, status = tracer.run("find", "-", stdin="lock mcs threads 2\nnot 0\nagain\nnot 1\n")
+    assert status == 0 and "\n1 " not in output
+    assert tracer.run("find", "mcs", "2", "again", "not 3 swap")[1:] == (
+        "locktrace: 'not 3 swap': no run has this line: no such thread (NoSuchThread)\n", 2)
+
+
+def test_an_endless_space(tracer):
+    """Wide counters only grow, so a run is in no cycle that is found within the limit."""
+    assert tracer.run("find", "ticket", "2", "--limit", "50", "again") == (
+        "", "locktrace: not decided: the search stopped at 51 states; in wide words the counts have "
+        "no end, and narrow ones (--bits 2) make the space finite\n", 3)

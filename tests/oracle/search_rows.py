@@ -1,5 +1,5 @@
-"""Reads the tables of searches: spaces.txt, kinds.txt and sketches.txt of tests/rows. The head of
-each table describes its format.
+"""Reads the tables of searches: spaces.txt, kinds.txt, sketches.txt and endless.txt of tests/rows.
+The head of each table describes its format.
 """
 from pathlib import Path
 from typing import NamedTuple
@@ -82,6 +82,20 @@ def sketches():
         length, states = (None, number) if nowhere else (number, None)
         yield Sketch(space(written), lines.split("; "), length, states,
                      [move for written in runs for move in run(written)])
+
+
+class Endless(NamedTuple):
+    space: Space
+    lines: list
+    length: int  # None if no run goes on so
+
+    def __str__(self):
+        return f"{self.space}: {'; '.join(self.lines)}"
+
+
+def endless():
+    for written, lines, end in rows("endless"):
+        yield Endless(space(written), lines.split("; "), None if end == "never" else int(end))
 
 
 def names():

@@ -7,6 +7,7 @@ import pytest
 
 import search_rows
 from changed_locks import Searched
+from endless import Endless
 from spaces import PHASES, Space, measured, searched
 
 
@@ -43,3 +44,9 @@ def test_sketch(sketch):
         assert measured(space, sketch.lines, sketch.run) == sketch.measure
         run = [(transition.thread, transition.word) for transition in found]
         assert measured(space, sketch.lines, run) == sketch.measure
+
+
+@pytest.mark.parametrize("row", list(search_rows.endless()), ids=str)
+def test_endless(row):
+    """A cycle is reached after so many moves, and no sooner; or there is none."""
+    assert Endless(searched(row.space), row.lines).length() == row.length

@@ -6,10 +6,12 @@
 //! (`why`).
 #![tactic(auto)]
 
+mod endless;
 mod facts;
 pub mod find;
 mod folder;
 pub mod order;
+mod part;
 mod run;
 pub mod sketch;
 pub mod space;

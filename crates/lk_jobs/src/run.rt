@@ -36,9 +36,9 @@ fn put_taken(text: &mut Text, taken: Taken)
     text.put("\n");
 }
 
-// Writes the lines of a run's moves.
+/// Writes the lines of a run's moves.
 #[tactic(auto, using(crate::proofs::Listed::one_line_more))]
-fn put_moves(text: &mut Text, run: &[Taken])
+pub fn put_moves(text: &mut Text, run: &[Taken])
     ensures { Adds (flat_map move_line run.now) text.old text.new }
 {
     for taken in run {

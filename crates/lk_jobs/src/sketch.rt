@@ -1,24 +1,21 @@
 //! A sketch of a run, read line by line from a file or from the words of a command: a header, and
-//! lines of a trace in which parts are open, some after `not`, or facts after `is`.
+//! lines, of which those after `again` say what happens for ever.
 
-ghost use Rattle.std.specs.Prelude.{◌≡◌, IfSome, Some, length};
-ghost use Rattle.lk_locks.specs.State.{State};
-ghost use Rattle.lk_locks.specs.Steps.{refusal_of};
+ghost use Rattle.std.specs.Prelude.{◌≡◌};
 ghost use Rattle.lk_text.specs.Texts.{Grows};
 
-use crate::facts::{IS, facts_of};
+use crate::part::{LineFault, Occurs, Part};
 use lk_lines::{Status, is_skipped, number_of};
-use lk_locks::{Refusal, Shape, belongs};
-use lk_search::{Admitted, Asks, Fact, Rounds, Rule, SketchFault, admit, is_barring};
+use lk_locks::Shape;
+use lk_search::{Rounds, SketchFault, is_barring};
 use lk_text::follow::unread;
 use lk_text::formats::{PLAIN, put_text};
 use lk_text::{Text, Value, open, put_wrong, take_lines, wrong_in_header};
-use lk_trace::{Due, TextFault, TraceLine, read_header, unreadable_sketch_line};
+use lk_trace::{Due, TextFault, read_header, unreadable_sketch_line};
 use std::alloc::{AllocError, Global};
 use std::fmt::InlineText;
 use std::io::{Error, Read};
 use std::rt::Runtime;
-use thiserror::Error;
 
 /// Where a sketch is.
 #[derive(Drop)]
@@ -38,71 +35,15 @@ const ROUNDS: &str = "#! rounds ";
 /// How rounds without a bound are written.
 pub const ANY: &str = "any";
 
+// The line after which everything happens again and again.
+const AGAIN: &str = "again";
+
 /// The rounds that a text names: a number of them, or any.
 pub fn rounds_of(text: &[u8]) -> Option<Rounds> {
     if text == ANY.as_bytes() {
         return Some(Rounds::Any);
     }
     number_of(text, 1, 255).map(Rounds::UpTo)
-}
-
-/// Why a line is none of a sketch.
-#[derive(Clone, Copy, PartialEq, Eq, Debug, Error)]
-pub enum LineFault {
-    #[error("{0}")]
-    Unread(SketchFault),
-    /// Each lock of the header's shape refuses this move, whatever was done before.
-    #[error("no run has this line: {} ({})", .0.message(), .0.name())]
-    Never(Refusal),
-    /// After `is` there is something that is no fact of the lock.
-    #[error("not facts of this lock: 'hold T', 'queue T,..', 'T at PHASE' or 'WORD V', with ', ' \
-         between them (BadFact)")]
-    NoFact,
-    /// It begins with `not`, and is the last.
-    #[error("'not' holds up to the next line, and there is none (NoNextLine)")]
-    Endless,
-}
-
-// Why each lock of this shape refuses the move of a line, whatever was done before.
-fn always_refused(header: Shape, line: &TraceLine) -> Option<Refusal>
-    ensures { IfSome result (λ refusal. (s : State) → s.kind ≡ header.kind
-        → length s.phases ≡ header.threads
-        → refusal_of s line.now.thread line.now.action ≡ Some refusal) }
-{
-    if line.thread >= header.threads() {
-        return Some(Refusal::NoSuchThread);
-    }
-    if !belongs(header.kind(), line.action) {
-        return Some(Refusal::WrongLock);
-    }
-    None
-}
-
-/// How a line of a sketch occurs in a run.
-#[derive(Clone, Copy, PartialEq, Eq)]
-pub enum Occurs {
-    AsMove,
-    AsPosition,
-    /// It says which moves must not occur before the next line that has to.
-    Never,
-}
-
-/// A line of a sketch, as it was written.
-#[derive(Drop)]
-pub struct SketchLine {
-    pub text: String,
-    pub occurs: Occurs,
-}
-
-// How a line occurs.
-fn occurrence_of(line: &str) -> Occurs {
-    if is_barring(line.as_bytes()) {
-        Occurs::Never
-    } else if line.starts_with(IS) {
-        Occurs::AsPosition
-    } else {
-        Occurs::AsMove
-    }
 }
 
 /// A sketch of which some lines were read.
@@ -112,12 +53,10 @@ pub struct Sketch {
     pub header: Option<Shape>,
     /// How many rounds each thread has, if the sketch says it.
     pub rounds: Option<Rounds>,
-    /// The lines, in their order.
-    pub lines: Vec<SketchLine>,
-    /// How many of these are to occur.
-    pub count: u8,
-    /// The moves that each line admits or bars.
-    pub admitted: Vec<Admitted>,
+    /// The lines, in their order, up to `again`.
+    pub way: Part,
+    /// The lines after it, if there is such a line.
+    pub cycle: Option<Part>,
 }
 
 impl Sketch {
@@ -126,17 +65,9 @@ impl Sketch {
         Sketch {
             header: None,
             rounds: None,
-            lines: Vec::new(alloc),
-            count: 0,
-            admitted: Vec::new(alloc),
+            way: Part::new(alloc),
+            cycle: None,
         }
-    }
-
-    // Whether the last line holds up to a next one.
-    fn is_open(&self) -> bool {
-        self.lines
-            .last()
-            .is_some_and(|line| line.occurs == Occurs::Never)
     }
 
     // Reads a comment. One that begins as a remark has to be one.
@@ -165,62 +96,17 @@ impl Sketch {
         }
     }
 
-    // Why no run has any of the moves from this one on, which the last line admits or bars.
-    fn never(&self, header: Shape, first: usize) -> Option<LineFault> {
-        let mut why = None;
-        for admitted in self.admitted.get(first..)? {
-            let Asks::Line(line) = admitted.asks else {
-                return None;
-            };
-            why = Some(always_refused(header, &line)?);
+    // Reads the line after which everything happens again and again.
+    fn take_again(&mut self, alloc: Global) -> Result<Option<LineFault>, AllocError> {
+        if self.cycle.is_some() {
+            return Ok(Some(LineFault::Unread(SketchFault::BadLine)));
         }
-        why.map(LineFault::Never)
+        self.cycle = Some(Part::new(alloc));
+        self.way.take_always(alloc, AGAIN)
     }
 
-    // How many lines are to occur after one more. `None` if these are too many.
-    fn count_after(&self, occurs: Occurs) -> Option<u8> {
-        match occurs {
-            Occurs::Never => Some(self.count),
-            Occurs::AsMove | Occurs::AsPosition => self.count.checked_add(1),
-        }
-    }
-
-    // Adds the facts that a line asks for.
-    fn add_facts(&mut self, facts: &[Fact]) -> Result<(), AllocError> {
-        let rule = Rule {
-            line: self.count,
-            bars: false,
-        };
-        for fact in facts {
-            let asks = Asks::Position(*fact);
-            self.admitted.push(Admitted { rule, asks })?;
-        }
-        Ok(())
-    }
-
-    // Adds all that a line asks for, or answers why it is none.
-    fn add(
-        &mut self,
-        alloc: Global,
-        header: Shape,
-        line: &str,
-    ) -> Result<Option<LineFault>, AllocError> {
-        if let Some(text) = line.strip_prefix(IS) {
-            let Some(facts) = facts_of(alloc, header, text)? else {
-                return Ok(Some(LineFault::NoFact));
-            };
-            self.add_facts(facts.as_slice())?;
-            return Ok(None);
-        }
-        let (kind, threads, text) = (header.kind(), header.threads(), line.as_bytes());
-        if admit(&mut self.admitted, kind, threads, self.count, text)? {
-            Ok(None)
-        } else {
-            Ok(Some(LineFault::Unread(SketchFault::BadLine)))
-        }
-    }
-
-    // Reads a line for a lock of this shape.
+    // Reads a line for a lock of this shape. What must not happen again and again is barred before
+    // a line after the last one that has to be met.
     fn take_line(
         &mut self,
         alloc: Global,
@@ -230,18 +116,17 @@ impl Sketch {
         let Ok(text) = str::from_utf8(line) else {
             return Ok(Some(LineFault::Unread(SketchFault::BadLine)));
         };
-        let occurs = occurrence_of(text);
-        let Some(count) = self.count_after(occurs) else {
-            return Ok(Some(LineFault::Unread(SketchFault::TooManyLines)));
-        };
-        let first = self.admitted.len();
-        if let Some(fault) = self.add(alloc, header, text)? {
-            return Ok(Some(fault));
+        if text == AGAIN {
+            return self.take_again(alloc);
         }
-        let text = String::from_str(alloc, text)?;
-        self.lines.push(SketchLine { text, occurs })?;
-        self.count = count;
-        Ok(self.never(header, first))
+        match &mut self.cycle {
+            None => self.way.take(alloc, header, text),
+            Some(cycle) if is_barring(line) => {
+                cycle.note(alloc, text, Occurs::Never)?;
+                self.way.admit(alloc, header, text)
+            }
+            Some(cycle) => cycle.take(alloc, header, text),
+        }
     }
 
     /// Reads the next line, without its end. After a fault the sketch may have some of the line.
@@ -325,7 +210,7 @@ pub type Taken = Result<(Sketch, Shape), Status>;
 // A sketch that was read to its end.
 fn whole(sketch: Sketch, alloc: Global, place: (&str, u64), errors: &mut Text) -> Taken {
     let fault = match sketch.header {
-        Some(_) if sketch.is_open() => LineFault::Endless,
+        Some(_) if sketch.way.is_open() => LineFault::Endless,
         Some(header) => return Ok((sketch, header)),
         None => LineFault::Unread(SketchFault::Header(TextFault::NoHeader)),
     };
