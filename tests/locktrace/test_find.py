@@ -285,12 +285,12 @@ FROM = "# from line {} on, again and again"
 
 NEVER = [
     (["ticket", "2", "--bits", "2", "0 add", "again", "0 read waits", "not 0 read entered"],
-     "no run of 2 threads with any number of rounds each, on words of 2 bits, goes on for ever with "
-     "'0 read waits' and 'not 0 read entered' after '0 add': all 112 states were searched, and in a "
-     "cycle each thread moves that is in a call or holds the lock\n"),
+     "no run of 2 threads with any number of rounds each, on words of 2 bits, goes on for ever "
+     "with '0 read waits' and 'not 0 read entered' after '0 add': all 112 states were searched, "
+     "and in a cycle each thread moves that is in a call or holds the lock\n"),
     (["mcs", "1", "--rounds", "1", "again", "0 cas done"],
-     "no run of 1 thread with 1 round, on words of 64 bits, goes on for ever with '0 cas done': all "
-     "7 states were searched, and in a cycle each thread moves that is in a call or holds the "
+     "no run of 1 thread with 1 round, on words of 64 bits, goes on for ever with '0 cas done': "
+     "all 7 states were searched, and in a cycle each thread moves that is in a call or holds the "
      "lock\n"),
 ]
 
@@ -328,8 +328,8 @@ def test_what_is_said_of_a_cycle(tracer):
                                        "0 section waits", "not 0 section entered")
     assert (error, status) == ("", 0)
     assert output == """\
-# A run of 2 threads with any number of rounds each that has these lines, in this order, and goes on \
-for ever:
+# A run of 2 threads with any number of rounds each that has these lines, in this order, and \
+goes on for ever:
 # line 7: 0 rlock
 # after line 7: again
 # again and again: 0 section waits
@@ -364,5 +364,5 @@ def test_a_bar_after_again_needs_no_next_line(tracer):
 def test_an_endless_space(tracer):
     """Wide counters only grow, so a run is in no cycle that is found within the limit."""
     assert tracer.run("find", "ticket", "2", "--limit", "50", "again") == (
-        "", "locktrace: not decided: the search stopped at 51 states; in wide words the counts have "
-        "no end, and narrow ones (--bits 2) make the space finite\n", 3)
+        "", "locktrace: not decided: the search stopped at 51 states; in wide words the counts "
+        "have no end, and narrow ones (--bits 2) make the space finite\n", 3)

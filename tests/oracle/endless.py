@@ -1,5 +1,5 @@
-"""Runs that go on for ever, searched over the oracle: a way to a position, and a cycle back to it in
-which each thread moves that is in a call or holds the lock.
+"""Runs that go on for ever, searched over the oracle: a way to a position, and a cycle back to it
+in which each thread moves that is in a call or holds the lock.
 
 A cycle stays within a strongly connected component of the positions (Tarjan, SIAM J. Comput. 1(2),
 1972). A component has a cycle that has all that is asked if its transitions and positions have it.

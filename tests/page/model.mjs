@@ -103,8 +103,8 @@ assert.equal(differs(runOf(...BEGUN, '0 read'), runOf(...BEGUN)), 3);
 const CAPTIONS = {
   'ticket-hand-over': {
     0: 'No ticket is in use.',
-    6: 'Ticket 0 is served.',
-    10: 'Ticket 1 is served.',
+    6: 'It is the turn of ticket 0.',
+    10: 'It is the turn of ticket 1.',
   },
   'mcs-late-link': {
     0: 'The queue is empty.', 3: 'Ann is alone in the queue.',

@@ -174,6 +174,6 @@ def test_a_card_plays_again(page):
     """The card plays its lesson, and begins it anew after the last move."""
     page.before("hasten")
     page.open()
-    for said in ["Ticket 1 is served.",
+    for said in ["It is the turn of ticket 1.",
                  "No ticket is in use."]:
         page.becomes(said, "attribute", "[data-live=ticket] svg", "aria-label")

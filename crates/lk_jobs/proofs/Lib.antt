@@ -1,3 +1,4 @@
 pub mod LogReading
 pub mod Shelves
 pub mod Listed
+pub mod Endless

@@ -27,7 +27,7 @@ const T = translated('ticket', {
   wraps: 'After {found} comes {left}: the numbers wrap around.',
   captions: {
     nobody: 'No ticket is in use.',
-    queue: 'Ticket {serving} is served.',
+    queue: 'It is the turn of ticket {serving}.',
     wraps: 'The tickets have wrapped around: {first} is served before {last}.',
   },
 });

@@ -5,7 +5,7 @@ export const lessons = {
   what: [
     'This page plays four textbook locks one atomic step at a time: who holds the lock, who '
       + 'waits, and what is in memory.',
-    'Choose a lesson (Enter), then press → for each move, which a proved machine decides.',
+    'Choose a lesson (Enter), then press → for each move.',
   ],
   teaches: {
     ticket: 'First come, first served. Begin here.',

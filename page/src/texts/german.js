@@ -201,7 +201,7 @@ export const german = {
       what: [
         'Diese Seite spielt vier Sperren aus Lehrbüchern durch, einen atomaren Schritt nach dem '
           + 'anderen: wer die Sperre hält, wer wartet, was im Speicher steht.',
-        'Wähle eine Lektion (Enter) und drücke → für jeden Zug, den eine bewiesene Maschine prüft.',
+        'Wähle eine Lektion (Enter) und drücke → für jeden Zug.',
       ],
       teaches: {
         ticket: 'Wer zuerst kommt, tritt zuerst ein. Fang hier an.',
