@@ -1,4 +1,4 @@
 pub mod LogReading
 pub mod Shelves
 pub mod Listed
-pub mod Endless
+pub mod Repeating
