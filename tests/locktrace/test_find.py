@@ -157,12 +157,20 @@ def test_no_fact(tracer, line):
         "", f"-:3: {NO_FACT}", 4)
 
 
+SEARCHED = re.compile(r"; a search of ([\d,]+) states? found it:\n")
+
+
+def without_count(schedule):
+    """A schedule that does not say how many states were searched."""
+    return SEARCHED.sub(":\n", schedule, count=1)
+
+
 def test_position_in_a_schedule(tracer):
     """A comment names the line after which the facts hold: at the start that is the header."""
     output, *more = tracer.run("find", "ticket", "2", "is now_serving 0, queue -", "1 add",
                                "is hold 1, 0 at Idle", "not 0", "1 write")
     assert more == ["", 0]
-    assert output == (
+    assert without_count(output) == (
         "# A shortest run of 2 threads with 1 round each that has these lines, in this order:\n"
         "# after line 7: is now_serving 0, queue -\n# line 9: 1 add\n"
         "# after line 10: is hold 1, 0 at Idle\n# before line 13: not 0\n# line 13: 1 write\n"
@@ -181,7 +189,7 @@ def test_not_in_a_schedule(tracer):
     output, *more = tracer.run("find", "mcs", "2", "0 read next found 0", "not * cas failed",
                                "not 1 read", "0 write locked of 1")
     assert more == ["", 0]
-    assert output.startswith(
+    assert without_count(output).startswith(
         "# A shortest run of 2 threads with any number of rounds each that has these lines, in "
         "this order:\n# line 16: 0 read next found 0\n# before line 20: not * cas failed\n"
         "# before line 20: not 1 read\n# line 20: 0 write locked of 1\nlock mcs threads 2\n")
@@ -215,7 +223,7 @@ def test_rounds_of_a_text(tracer):
     output, *more = tracer.run("find", "-", stdin="#! rounds 2\nlock mcs threads 2\n0 cas done\n\n"
                                "0 swap tail found 0\n")
     assert more == ["", 0]
-    assert output.startswith(
+    assert without_count(output).startswith(
         "# A shortest run of 2 threads with 2 rounds each that has these lines, in this order:\n"
         "# line 10: 0 cas done\n# line 13: 0 swap tail found 0\nlock mcs threads 2\n0 acquire\n")
     assert len(search_rows.moves_of(output)) == 9
@@ -227,7 +235,7 @@ def test_any_rounds_of_a_text(tracer):
     output, *more = tracer.run("find", "-", stdin="#! rounds any\nlock mcs threads 1\n0 cas done\n"
                                "0 cas done\n0 swap\n")
     assert more == ["", 0]
-    assert output.startswith(
+    assert without_count(output).startswith(
         "# A shortest run of 1 thread with any number of rounds that has these lines, in this "
         "order:\n# line 11: 0 cas done\n# line 17: 0 cas done\n# line 20: 0 swap\n")
     assert len(search_rows.moves_of(output)) == 15
@@ -264,6 +272,8 @@ def test_sketch(tracer, lockreplay, sketch):
         return
     assert (error, status) == ("", 0)
     run, space = search_rows.moves_of(output), searched(sketch.space)
+    states = int(SEARCHED.search(output)[1].replace(",", ""))
+    assert len(run) < states <= len(space) * (len(sketch.lines) + 1)
     assert measured(space, sketch.lines, run) == sketch.measure
     assert ran(lockreplay, "replay", input=output).stdout.endswith(f"\nend {sketch.length}\n")
     said = re.findall(r"^# (before line|after line|line) (\d+): (.*)$", output, re.MULTILINE)
@@ -327,7 +337,7 @@ def test_what_is_said_of_a_cycle(tracer):
     output, error, status = tracer.run("find", "rw-simple", "2", "0 rlock", "again",
                                        "0 section waits", "not 0 section entered")
     assert (error, status) == ("", 0)
-    assert output == """\
+    assert without_count(output) == """\
 # A run of 2 threads with any number of rounds each that has these lines, in this order, and \
 goes on for ever:
 # line 7: 0 rlock

@@ -8,6 +8,7 @@ import search_rows
 from spaces import searched
 from tree import cases
 
+ENDS = "from each all calls can end, and in none only failed polls are possible"
 TICKET_DRAWN = r"""digraph "ticket, 1 thread with 1 round" {
   node [shape=box]
   0 [label="next_ticket = 0, now_serving = 0\n0 Idle\nrounds begun: 0"]
@@ -34,19 +35,21 @@ def test_counts(tracer, row, counts, _):
     assert more == ["", 0]
     found = json.loads(output)
     assert tuple(found[name] for name in counts._fields) == counts
+    assert found["dead_ends"] == 0
 
 
 @cases("words, due", {
     "text": ("ticket 3", "ticket, 3 threads with 1 round each: 231 states, 570 transitions, "
-             "18 moves to the farthest state\n"),
+             f"18 moves to the farthest state; {ENDS}\n"),
     "JSON": ("ticket 2 --rounds 3 --bits 2 --format json",
              '{"lock":"ticket","threads":2,"rounds":3,"bits":2,"states":289,"transitions":540,'
-             '"depth":36}\n'),
+             '"depth":36,"dead_ends":0}\n'),
     "narrow counters": ("ticket 3 --bits 2", "ticket, 3 threads with any number of rounds each: "
-                        "512 states, 1,536 transitions, 27 moves to the farthest state\n"),
+                        "512 states, 1,536 transitions, 27 moves to the farthest state; "
+                        f"{ENDS}\n"),
     "no counters": ("mcs 2 --format json",
                     '{"lock":"mcs","threads":2,"rounds":"any","bits":64,"states":89,'
-                    '"transitions":178,"depth":18}\n'),
+                    '"transitions":178,"depth":18,"dead_ends":0}\n'),
     "a drawing": ("ticket 1 --format dot", TICKET_DRAWN),
 })
 def test_format(tracer, words, due):

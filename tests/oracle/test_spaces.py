@@ -8,7 +8,7 @@ import pytest
 import search_rows
 from changed_locks import Searched
 from endless import Endless
-from spaces import PHASES, Space, measured, searched
+from spaces import PHASES, Space, ending, measured, searched
 
 
 @pytest.mark.parametrize("row, counts, kinds", list(search_rows.spaces()), ids=str)
@@ -26,6 +26,14 @@ def test_lock_as_it_is(row, counts, _):
     space = Searched(row.lock, row.threads, row.rounds)
     transitions = sum(map(len, space.sources.values()))
     assert (len(space.lengths), transitions, max(space.lengths.values())) == counts
+
+
+@pytest.mark.parametrize("row, _, __", list(search_rows.spaces()), ids=str)
+def test_all_calls_can_end(row, _, __):
+    """From each state a run without a new round leads to where nobody is in a call or holds the
+    lock. So in no state only failed polls are possible."""
+    space = searched(row)
+    assert ending(space) == set(range(len(space)))
 
 
 @pytest.mark.parametrize("lock", PHASES)
