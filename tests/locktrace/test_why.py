@@ -4,8 +4,8 @@ import re
 
 import pytest
 
-from changed_locks import AS_IT_IS, CHANGES, Searched
-from tree import TOP
+from changed_locks import AS_IT_IS, CHANGES, Searched, signs
+from tree import TOP, ran
 
 VERDICT = re.compile(r"(?P<illegal>[\d,]+) moves?, and thread \d .+"
                      r"|(?P<stuck>[\d,]+) moves? to where a call can never end: .+"
@@ -37,30 +37,64 @@ def test_verdicts(tracer, lock, threads):
         == {change: Searched(lock, threads, ROUNDS, change).verdict() for change in verdicts}
 
 
-def followed(lock, run):
-    """The state to which a run leads; None if its last move does harm."""
+def object_text(lock, state):
+    """What the sequential object has, in words. The readers are in the order of their numbers."""
+    if lock.lock.is_holder_in_line:
+        return f"the queue is {','.join(map(str, state.queue)) or 'empty'}"
+    inside = {thread: next(iter(signs([place]))) for thread, place in enumerate(state.places)
+              if signs([place])}
+    readers = ",".join(str(thread) for thread, sign in inside.items() if sign == "r")
+    writers = [f"thread {thread} writes" for thread, sign in inside.items() if sign == "w"]
+    announced = [f"thread {thread} is announced" for thread in state.queue]
+    return ", ".join([*writers, *([f"inside are the readers {readers}"] if readers else []),
+                      *([] if inside else ["nobody is inside"]), *announced])
+
+
+def effect_text(lock, before, after):
+    """The words that a move has changed, and what the sequential object has then."""
+    names = [name if isinstance(name, str) else f"{name[0]} of {name[1]}" for name in lock.words]
+    words = [f"{name} = {new}" for name, old, new in zip(names, before.words, after.words)
+             if old != new]
+    return "; ".join([*([", ".join(words)] if words else []), object_text(lock, after)])
+
+
+def followed(lock, moves, effects):
+    """The state to which a run leads; None if its last move does harm. Each other move has the
+    effect that is said. By the last one a thread may join the queue and enter at once, which the
+    object does not allow then."""
     state = lock.start()
-    for line in run:
-        move, moves = re.sub(r"\(\d+\)", "", line.strip()), dict(lock.moves(state))
-        assert move in moves
-        state = moves[move]
+    for line, effect in zip(moves, effects, strict=True):
+        move, ways = re.sub(r"\(\d+\)", "", line), dict(lock.moves(state))
+        before, state = state, ways[move]
+        if state is None:
+            joined = before._replace(queue=(*before.queue, int(move[0])))
+            assert line is moves[-1] and effect.endswith((object_text(lock, before),
+                                                          object_text(lock, joined)))
+        else:
+            assert effect.replace("readers 1,0", "readers 0,1") == effect_text(lock, before, state)
     return state
 
 
 @pytest.mark.parametrize("lock, change", [(lock, change) for lock, changes in CHANGES.items()
                                           for change in [AS_IT_IS, *changes]])
-def test_run(tracer, lock, change):
+def test_run(tracer, lockreplay, lock, change):
     """A run has as many moves as its verdict says, and does the harm that the verdict names. It may
-    differ from the run that the search finds."""
+    differ from the run that the search finds. It is a schedule of the changed lock, and of no
+    other."""
     output, *more = tracer.run("why", lock, 2, "--runs")
     assert more == ["", 0]
-    told, *run = parts_of(output)[1][change].split("\n")
+    told, *lines = parts_of(output)[1][change].split("\n  ")
     kind, number = read(told)
     space = Searched(lock, 2, ROUNDS, change)
-    end = followed(space.lock, run)
-    assert len(run) == (0 if kind == "harmless" else number)
+    moves, effects = lines[2::2], [line.removeprefix("# ") for line in lines[3::2]]
+    end = followed(space.lock, moves, effects)
+    assert len(moves) == (0 if kind == "harmless" else number)
     assert (end is None) == (kind == "illegal")
     assert (end in space.ending()) == (kind == "harmless")
+    if moves:
+        assert lines[:2] == [f"#! changed: {change}", f"changed lock {lock} threads 2"]
+        refused = ran(lockreplay, "replay", input="\n".join(lines))
+        assert (refused.stdout, refused.returncode) == ("fault line 2 BadHeader\n", 1)
 
 
 @pytest.mark.parametrize("lock", CHANGES)
