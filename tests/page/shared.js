@@ -62,6 +62,11 @@ function withoutMachine() {
   };
 }
 
+// Before the page's script: a browser that cannot unpack what the page has.
+function withoutUnpacking() {
+  delete window.DecompressionStream;
+}
+
 // The page's port for tests. In JSON a text has a letter for each byte.
 
 const bytesOf = (letters) => Uint8Array.from(letters, (letter) => letter.charCodeAt(0));

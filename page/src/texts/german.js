@@ -313,6 +313,7 @@ export const german = {
     noMachine: 'Dieser Browser hat keinen WebAssembly-Speicher mit 64 Bit, also läuft die Maschine '
       + 'hier nicht. Die Lektionen werden gezeigt, wie die Maschine sie gespielt hat; ein eigener '
       + 'Ablauf braucht einen neueren Browser.',
+    tooOld: 'Dieser Browser ist für diese Seite zu alt. Nimm Chromium ab 133 oder Firefox ab 134.',
     notStored: 'In diesem Browser lassen sich nur die Lektionen zeigen.',
     couldNotRead: 'Die Datei ließ sich nicht lesen.',
     print: {

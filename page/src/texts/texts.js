@@ -287,6 +287,7 @@ const english = {
   noMachine: 'This browser has no 64-bit WebAssembly memory, so it cannot run the machine here. '
     + 'The lessons are shown as the machine played them; a schedule of your own needs a newer '
     + 'browser.',
+  tooOld: 'This browser is too old for this page. Take Chromium from 133 or Firefox from 134 on.',
   notStored: 'Only the lessons can be shown in this browser.',
   couldNotRead: 'The file could not be read.',
 
