@@ -146,6 +146,17 @@ function inMode(mode) {
   if (mode !== now) click(`#mode-${mode === 'lessons' ? now : mode}`);
 }
 
+function swipe(by, fingers = 1, id = 'lanes') {
+  const node = byId(id);
+  const touch = (x, finger = 0) => (
+    new Touch({ identifier: finger, target: node, clientX: x, clientY: 300 }));
+  const touches = Array.from({ length: fingers }, (_, finger) => touch(200 + 60 * finger, finger));
+  const begin = { touches, changedTouches: touches, bubbles: true };
+  node.dispatchEvent(new TouchEvent('touchstart', begin));
+  const end = { changedTouches: [touch(200 + by)], bubbles: true };
+  node.dispatchEvent(new TouchEvent('touchend', end));
+}
+
 function slide(move) {
   byId('slider').value = move;
   byId('slider').dispatchEvent(new Event('input', { bubbles: true }));

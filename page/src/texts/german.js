@@ -5,6 +5,7 @@ import { MOST_BYTES, MOST_MOVES } from '../machine/codes.js';
 import { germanKeys } from './german_keys.js';
 import { germanKinds } from './german_kinds.js';
 import { germanLocks } from './german_locks.js';
+import { germanLoops } from './german_loops.js';
 import { germanTraces } from './german_traces.js';
 import { germanChanges, germanWhy } from './german_why.js';
 
@@ -60,6 +61,7 @@ export const german = {
       enters: 'auf dem Regler: ein Thread tritt ein',
       fails: 'auf dem Regler: ein cas scheitert, oder ein Zug ist abgelehnt',
       fold: 'Threads, die nicht gezeichnet sind, und wie viele',
+      loop: 'diese Züge wiederholen sich für immer',
     },
     hall: { noFullScreen: 'Der Browser hat das Vollbild nicht erlaubt.' },
     plans: {
@@ -344,7 +346,7 @@ export const german = {
       could: 'Hier könnte {thread} {moves}.', step: 'den Schritt „{word}“ tun',
       call: '„{word}“ aufrufen', or: ' oder ',
     },
-    keys: germanKeys, traces: germanTraces, why: germanWhy,
+    keys: germanKeys, loops: germanLoops, traces: germanTraces, why: germanWhy,
     faults: {
       found: 'Gefunden: „{found}“.', could: 'Erwartet: {could}.',
       meant: 'War „{meant}“ gemeint?',
