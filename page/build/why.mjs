@@ -16,7 +16,7 @@ const VERDICT = /^(?:as it is|(?<step>\w+), if (?<how>[^:]+)): (?<verdict>.+)$/;
 const HEADER = /^changed lock (?<lock>[\w-]+) threads \d+$/;
 // What comes of a move: the words that it wrote, and what the sequential object has.
 const AFTER = /^# (?:(?<wrote>[^;]+); )?(?<object>.+)$/;
-const WROTE = /^(?<name>\S+) = (?<value>\d+)$/;
+const WROTE = /^(?<name>.+) = (?<value>\d+)$/;
 const WORD = /^\| (?<at>\d+)(?<each> \+ 2i)? \| `(?<name>\w+)`/gm;
 const STUCK = 'to where a call can never end: ';
 const MOVE = /^(?<thread>\d) (?<name>\w+)(?:\((?<number>\d+)\))?(?:, its (?<half>\w+) half)?$/;
@@ -72,7 +72,7 @@ function wordsOfLock(document, lock, threads) {
   for (const { groups: { at, each, name } } of above.matchAll(WORD)) {
     const places = each ? [...Array(Number(threads)).keys()] : [0];
     places.forEach((thread) => {
-      names[Number(at) + 2 * thread] = each ? `${name}[${thread}]` : name;
+      names[Number(at) + 2 * thread] = each ? `${name} of ${thread}` : name;
     });
   }
   return names;

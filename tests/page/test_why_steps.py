@@ -20,7 +20,7 @@ BY_HAND = {
         7: ("Move 7 of 9: 1 SetLocked(0) me.locked := true changed",
             ["thread 1", "nil", "0", "nil", "0"], [], "the queue is 0,1", []),
         8: ("Move 8 of 9: 1 LinkTo(0) pred.next := me",
-            ["thread 1", "thread 1", "0", "nil", "0"], ["next[0] = thread 1"], "the queue is 0,1",
+            ["thread 1", "thread 1", "0", "nil", "0"], ["next of 0 = thread 1"], "the queue is 0,1",
             []),
         9: ("Move 9 of 9: 1 AwaitGrant await not me.locked",
             ["thread 1", "thread 1", "0", "nil", "0"], [], "the queue is 0,1",
@@ -69,11 +69,12 @@ def test_steps_by_hand(page, lock, at, number, steps):
 
 def test_names_of_words(page):
     """The words have the names of docs/LOCKS.md, those of a record with its thread's number."""
-    for lock, names in [("mcs", "tail next[0] locked[0] next[1] locked[1]"),
-                        ("ticket", "next_ticket now_serving"), ("rw-simple", "readers flag"),
-                        ("rw-fifo", "readAcquires readReleases flag")]:
+    for lock, names in [("mcs", "tail, next of 0, locked of 0, next of 1, locked of 1"),
+                        ("ticket", "next_ticket, now_serving"),
+                        ("rw-simple", "readers, flag"),
+                        ("rw-fifo", "readAcquires, readReleases, flag")]:
         to_stop(page, lock, 1)
-        assert [word.split(" = ")[0] for word in page.js("step")["words"]] == names.split()
+        assert [word.split(" = ")[0] for word in page.js("step")["words"]] == names.split(", ")
 
 
 @pytest.mark.parametrize("lock", LOCKS)
@@ -113,7 +114,7 @@ def check_steps(change, run):
 
 def plain_value(name, value):
     """A value as the dialog shows it: tail and next have the number after a thread's, or 0."""
-    if not name.startswith(("tail", "next[")):
+    if not name.startswith(("tail", "next of")):
         return value
     return "nil" if value == "0" else f"thread {int(value) - 1}"
 
