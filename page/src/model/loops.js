@@ -11,6 +11,7 @@ import { lettersOf } from '../lib/bytes.js';
  * @property {number} last
  */
 
+const HASH = '#'.charCodeAt(0);
 const AGAIN = /^# from line \d+ on, again and again$/gm;
 
 const upTo = (count) => Array.from({ length: count }, (_, at) => at);
@@ -29,6 +30,7 @@ function comesBack(run, moves) {
 
 // The lines of the text with the comment.
 function linesThatSay(text) {
+  if (!text.includes(HASH)) return [];
   const { letters } = lettersOf(text);
   return [...letters.matchAll(AGAIN)]
     .map(({ index }) => letters.slice(0, index).split('\n').length);
