@@ -6,7 +6,7 @@
 //     node page/build.mjs MODULE.wasm --check    fails if the page is not what this would write
 //
 // It needs Node alone and fetches nothing. The same sources and module give the same bytes
-// anywhere: the module is packed anew only if the page that is there has another one.
+// anywhere: a part is packed anew only if the page that is there has another one.
 
 import { createHash } from 'node:crypto';
 import { readFileSync, readdirSync, writeFileSync } from 'node:fs';
@@ -50,9 +50,10 @@ function build(module) {
   const lessons = lessonsOf(join(HERE, '..', 'examples'));
   const locks = read('..', 'docs', 'LOCKS.md');
   const [code, ranges] = [codeOf(locks), rangesOf(module)];
+  const stored = Buffer.from(JSON.stringify(storedOf(module, lessons, ranges, linesOf(code))));
   const data = {
-    module: packed(module, PAGE), code, words: wordsOf(locks), kinds: kindsOf(module), lessons,
-    stored: storedOf(module, lessons, ranges, linesOf(code)), ranges,
+    module: packed(module, PAGE, 'module'), code, words: wordsOf(locks), kinds: kindsOf(module),
+    lessons, stored: packed(stored, PAGE, 'stored'), ranges,
     translations: { de: JSON.parse(read('..', 'examples', 'lessons.de.json')) },
     plans: plansOf(join(HERE, '..', 'examples', 'plans.json'), lessons),
     terms: termsOf(join(HERE, '..', 'docs', 'GLOSSARY.md')),

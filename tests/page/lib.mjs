@@ -57,7 +57,7 @@ assert.deepEqual([1, 2, 3, 6, 7].map((number) => placeAfter([2, 3, 6], number)),
 assert.deepEqual([1, 2, 5, 6].map((number) => lastUpTo([2, 3, 6], number)), [0, 2, 3, 6]);
 assert.equal(lastUpTo(undefined, 9), 0);
 
-// Zlib's head, one stored block of two letters, and their checksum. A page keeps its packed module,
+// Zlib's head, one stored block of two letters, and their checksum. A page keeps its packed part,
 // though another packing is shorter, unless it unpacks to other bytes or has more bytes after it.
 const PACKED = [0x78, 1, 1, 2, 0, 0xfd, 0xff, 0x6f, 0x6b, 0x01, 0x4b, 0x00, 0xdb];
 assert.equal(letters(await unpacked(Uint8Array.from(PACKED))), 'ok');
@@ -65,8 +65,8 @@ await assert.rejects(unpacked(Uint8Array.from(PACKED.slice(1))));
 const folder = mkdtempSync(join(tmpdir(), 'page-'));
 const page = join(folder, 'page.html');
 const packedBeside = (word, held) => {
-  writeFileSync(page, `start({"module":"${held}"})`);
-  return packed(Buffer.from(word), page);
+  writeFileSync(page, `start({"other":"AA","module":"${held}"})`);
+  return packed(Buffer.from(word), page, 'module');
 };
 const HELD = Buffer.from(PACKED).toString('base64');
 assert.equal(packedBeside('ok', HELD), HELD);

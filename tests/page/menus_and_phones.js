@@ -53,17 +53,6 @@ function withFingers() {
   window.matchMedia = (asked) => matchMedia(asked.replace('(pointer: coarse)', 'all'));
 }
 
-function swipe(by, fingers = 1, id = 'lanes') {
-  const node = byId(id);
-  const touch = (x, finger = 0) => (
-    new Touch({ identifier: finger, target: node, clientX: x, clientY: 300 }));
-  const touches = Array.from({ length: fingers }, (_, finger) => touch(200 + 60 * finger, finger));
-  const begin = { touches, changedTouches: touches, bubbles: true };
-  node.dispatchEvent(new TouchEvent('touchstart', begin));
-  const end = { changedTouches: [touch(200 + by)], bubbles: true };
-  node.dispatchEvent(new TouchEvent('touchend', end));
-}
-
 // Controls on the screen that a finger may miss.
 const small = () => all('button, select, summary').filter((one) => one.checkVisibility()
   && rect(one).width && Math.min(rect(one).height, rect(one).width) < 43.5)

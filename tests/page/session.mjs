@@ -1,6 +1,7 @@
 // Tests in Node what the page keeps of a schedule while a reader steps and edits: places, lines,
-// remarks that hold, runs read off other runs, two runs beside each other, and the look of the
-// page. Each value was made by hand, from the schedule below and docs/FORMATS.md.
+// remarks that hold, runs read off other runs, two runs beside each other, what repeats for ever,
+// and the look of the page. Each value was made by hand, from the schedule below and
+// docs/FORMATS.md.
 //
 //     node tests/page/session.mjs MODULE.wasm
 
@@ -264,6 +265,43 @@ assert.deepEqual([partsOf('code,memory'), partsOf('x'), partsOf(undefined)],
 assert.equal(withoutLooks('#text=abc&hall&show=code,now&theme=dark&lang=de&future'),
   '#text=abc&lang=de');
 assert.deepEqual([['hall', 'lang'], ['hall', 'text'], []].map(isLooksAlone), [true, false, true]);
+
+// A comment says that moves repeat, and they do if the state is at the end what it was before them.
+// A failed poll changes nothing. The round of an MCS lock alone leaves each word as it was. A call
+// changes no word, but a phase; a reader of a FIFO lock leaves its phase, but not the counters.
+const AGAIN = '# from line 9 on, again and again';
+const WRITES = ['1 wlock', '1 section', '0 section', '1 wunlock', '1 section'];
+const ALONE = ['0 acquire', '0 write', '0 swap', '0 release', '0 read', '0 cas'];
+const READS = ['0 rlock', '0 section', '0 runlock', '0 section'];
+const PAIR = 'lock rw-simple threads 2';
+/** @type {[string[], {first: number, last: number} | null][]} */
+const REPEATED = [
+  [[PAIR, '0 rlock', AGAIN, ...WRITES], { first: 2, last: 6 }],
+  [[PAIR, '0 rlock', AGAIN, ...WRITES.slice(0, 4)], null],
+  [[PAIR, '0 rlock', ...WRITES], null],
+  [[PAIR, '0 rlock', ...WRITES, AGAIN], null],
+  [[PAIR, '0 rlock', '1 wlock', '1 section', AGAIN, '0 section'], { first: 4, last: 4 }],
+  [[PAIR, AGAIN, '0 rlock'], null],
+  [['lock mcs threads 1', AGAIN, ...ALONE], { first: 1, last: 6 }],
+  [['lock mcs threads 1', ...ALONE.slice(0, 3), AGAIN, ...ALONE.slice(3)], null],
+  [['lock rw-simple threads 1', AGAIN, ...READS], { first: 1, last: 4 }],
+  [['lock rw-fifo threads 1', AGAIN, ...READS], null],
+  [[PAIR, '0 rlock', `${AGAIN}.`, ...WRITES], null],
+  [[PAIR, '0 rlock', AGAIN, ...WRITES, '0 runlock'], null],
+];
+for (const [all, loop] of REPEATED) assert.deepEqual(opened(...all).loop, loop, all.join('; '));
+
+// From the end it goes on with the first of these moves, and that is the next time through them.
+const endless = opened(...REPEATED[0][0]);
+const at = () => [endless.place, endless.view().loop.lap];
+endless.go(6);
+assert.deepEqual(at(), [6, 1]);
+endless.repeat();
+assert.deepEqual(at(), [1, 2]);
+endless.go(2);
+assert.deepEqual(at(), [2, 2]);
+endless.go(1);
+assert.deepEqual(at(), [1, 1]);
 
 // Texts with a number, for one and for several, in both languages.
 const { de } = LANGUAGES;

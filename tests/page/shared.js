@@ -62,6 +62,11 @@ function withoutMachine() {
   };
 }
 
+// Before the page's script: a browser that cannot unpack what the page has.
+function withoutUnpacking() {
+  delete window.DecompressionStream;
+}
+
 // The page's port for tests. In JSON a text has a letter for each byte.
 
 const bytesOf = (letters) => Uint8Array.from(letters, (letter) => letter.charCodeAt(0));
@@ -139,6 +144,17 @@ function key(name) {
 function inMode(mode) {
   const { mode: now } = document.body.dataset;
   if (mode !== now) click(`#mode-${mode === 'lessons' ? now : mode}`);
+}
+
+function swipe(by, fingers = 1, id = 'lanes') {
+  const node = byId(id);
+  const touch = (x, finger = 0) => (
+    new Touch({ identifier: finger, target: node, clientX: x, clientY: 300 }));
+  const touches = Array.from({ length: fingers }, (_, finger) => touch(200 + 60 * finger, finger));
+  const begin = { touches, changedTouches: touches, bubbles: true };
+  node.dispatchEvent(new TouchEvent('touchstart', begin));
+  const end = { changedTouches: [touch(200 + by)], bubbles: true };
+  node.dispatchEvent(new TouchEvent('touchend', end));
 }
 
 function slide(move) {

@@ -182,6 +182,18 @@ def test_a_second_window(page):
     page.js("closeThere")
 
 
+def test_the_next_move_of_a_run_that_repeats(page):
+    """After the last move the second window shows the first of the moves that repeat."""
+    page.before("keepWindows")
+    page.open()
+    page.show("lock rw-simple threads 1\n# from line 3 on, again and again\n"
+              "0 rlock\n0 section\n0 runlock\n0 section\n", 4)
+    page.press("2")
+    said = page.until("presented")
+    assert said.endswith("The next moveThread 0 calls rlock: it wants to read."), said
+    page.js("closeThere")
+
+
 @pytest.mark.parametrize("held", ["ctrlKey", "metaKey", "altKey"])
 def test_copying_in_the_second_window(page, held):
     """Control+C copies a text in the second window, and does not start a comparison in the hall."""

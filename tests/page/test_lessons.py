@@ -5,6 +5,7 @@ import re
 import pytest
 
 from reports import LESSONS, moves_of, numbers_of
+from tab import PAGE
 from tree import EXAMPLES, cases
 
 MODES = {"r": "reads", "w": "writes"}
@@ -76,6 +77,22 @@ def test_without_the_machine_nothing_is_played(page):
     assert page.js("count", "#choices button") == 0
     page.show("lock mcs threads 1\n")
     assert "Only the lessons can be shown" in page.text("#verdict")
+
+
+@cases("language, said", {
+    "en": ("en", "This browser is too old for this page."),
+    "de": ("de", "Dieser Browser ist für diese Seite zu alt."),
+})
+def test_a_browser_that_is_too_old(page, language, said):
+    """A browser that cannot unpack the page's parts says so, and shows no control."""
+    page.before("withoutUnpacking")
+    url = f"{PAGE.as_uri()}?old#lang={language}"
+    page.ask("browsingContext.navigate", url=url, wait="complete")
+    page.until("text", "#damaged")
+    assert page.text("body").startswith(said) and page.js("count", "button") == 0
+    page.no_longer("withoutUnpacking")
+    page.open(f"#lang={language}")
+    assert page.text("#damaged") == "" and page.js("count", "button") > 9
 
 
 def test_questions_are_asked(page):

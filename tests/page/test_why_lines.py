@@ -1,47 +1,16 @@
-"""The dialog that says why each line of a lock is there has its changes, each with a shortest run.
-
-page/why has the output of `locktrace why LOCK --runs`, as tests/locktrace/test_why.py checks.
-"""
-import itertools
+"""The dialog that says why each line of a lock is there has its changes, each with a shortest
+run."""
 import re
 
 import pytest
 
-from tree import TOP, cases
+from told_changes import LOCKS, STUCK, listing, stops, told
+from tree import cases
 
-LOCKS = ["ticket", "mcs", "rw-simple", "rw-fifo"]
-DOCUMENT = (TOP / "docs" / "LOCKS.md").read_text()
-LINE = re.compile(r"(?P<code>.*?)\s*(?:-- (?P<kind>\w+) (?P<phase>\w+).*)?")
-CHANGE = re.compile(r"(?P<step>\w+), if (?P<how>[^:]+): (?P<verdict>.+)")
 NOTHING = "Nothing was changed here: this line has no step."
-STUCK = "✕ From here on a call does not end, whatever moves follow."
 LATER = f"{STUCK} The changed step comes later."
 LATE_LINK = "#lesson=mcs-late-link&move="
 SIZES = [(390, 844), (1024, 768), (1366, 768)]
-
-
-def listing(lock):
-    """(line, name of its step or empty) for each line of a lock's code."""
-    block = DOCUMENT.split(f"```{lock}\n")[1].split("\n```")[0]
-    for line in block.splitlines():
-        code, kind, phase = LINE.fullmatch(line).groups()
-        yield code.strip(), phase if kind not in ("call", "inside", None) else ""
-
-
-def stops(lock):
-    """(numbers of lines, their step) for each group of lines that the dialog shows together."""
-    lines = [(number, step) for number, (_, step) in enumerate(listing(lock), 1)]
-    for _, group in itertools.groupby(lines, lambda line: line[1] or line[0]):
-        numbers, steps = zip(*group)
-        yield list(numbers), steps[0]
-
-
-def told(lock):
-    """The changes of a lock: step, how, verdict and moves."""
-    text = (TOP / "page" / "why" / f"{lock}.txt").read_text()
-    for part in re.split(r"\n(?! )", text.rstrip())[2:]:
-        first, *moves = part.splitlines()
-        yield {**CHANGE.fullmatch(first).groupdict(), "moves": [move.strip() for move in moves]}
 
 
 def capital(text):
@@ -328,3 +297,16 @@ def test_nothing_is_cut(page, width, height, language):
             assert page.js("wrong") == [], (lock, lines)
             assert page.js("wrongBelow") == [], (lock, lines)
             page.press("ArrowRight")
+
+
+@pytest.mark.parametrize("width, height, look", [
+    *((*size, "") for size in SIZES), *((*size, "&hall") for size in [*SIZES[1:], (1920, 1080)])])
+def test_no_step_is_cut(page, width, height, look):
+    """At each move of the longest run the move is in view, and so is what is said of it."""
+    page.resize(width, height)
+    page.open(f"#lesson=mcs-late-link&move=2{look}")
+    page.press("y")
+    for _ in range(22):
+        page.press("n")
+        assert page.js("wrong") == [] and page.js("isStepSeen")
+    assert page.js("count", "#why [aria-current=step]:last-child") == 1

@@ -26,6 +26,16 @@ const stop = () => ({
   nothing: texts('#why-changes > .verdict'),
 });
 
+// Whether the shown move, and what is said of it, are in view below the head of the dialog.
+function isStepSeen() {
+  const box = rect(byId('why'));
+  const [move, said] = ['[aria-current=step]', '.stepped .why-step']
+    .map((one) => rect(document.querySelector(`#why-changes ${one}`)));
+  const top = rect(document.querySelector('.why-way')).bottom;
+  return inside(move, box) && inside(said, box) && said.top >= top - 1
+    && move.top >= said.bottom - 1;
+}
+
 // The elements that do not fit on the screen, or into their box.
 function wrong() {
   const dialog = byId('why');

@@ -1,7 +1,8 @@
 // Starts the page: the machine, or what was stored of it, the lessons, and the controls.
 
-import { fromBase64, unpacked } from '../lib/bytes.js';
+import { fromBase64, lettersOf, unpacked } from '../lib/bytes.js';
 import { buttonOf, byId } from '../lib/elements.js';
+import { write } from '../lib/markup.js';
 import { linesOf } from '../machine/locks_code.js';
 import { Machine } from '../machine/machine.js';
 import { StoredMachine } from '../machine/stored_machine.js';
@@ -17,12 +18,14 @@ import { listen } from './controls.js';
 import { Page } from './page.js';
 import { testPort } from './test_port.js';
 
+const unpackedPart = async (part) => new Uint8Array(await unpacked(fromBase64(part)));
+
 // The machine if the browser can run it, else what it answered when the page was built.
 async function runOrStored(data) {
   try {
-    return new Machine(await unpacked(fromBase64(data.module)));
+    return new Machine(await unpackedPart(data.module));
   } catch {
-    return new StoredMachine(data.stored);
+    return new StoredMachine(JSON.parse(lettersOf(await unpackedPart(data.stored)).letters));
   }
 }
 
@@ -56,9 +59,21 @@ function tellTools(tools) {
 // Pictures are laid out by the widths of letters, so fonts come first. A browser that blocks the
 // page's own fonts shows it in the system's.
 export async function start(data) {
-  const unpacking = machineOf(data);
+  const unpacking = machineOf(data).catch(() => null);
   await Promise.allSettled([...document.fonts].map((face) => face.load()));
-  begin(data, await unpacking);
+  const machine = await unpacking;
+  if (machine) begin(data, machine);
+  else refuse();
+}
+
+// A browser that cannot unpack the parts of the page says so. Controls that do nothing are taken
+// away.
+function refuse() {
+  const said = byId('damaged');
+  write(said, texts.tooOld);
+  said.hidden = false;
+  document.documentElement.lang = language;
+  document.body.replaceChildren(said);
 }
 
 function begin(data, machine) {

@@ -49,7 +49,7 @@ export class Presenter {
     const { session, lecture } = this.page;
     const view = session.view({ answered: true });
     const { run, move, remarks } = view;
-    const next = move < run.count && { ...view, move: move + 1 };
+    const next = move < run.count ? move + 1 : view.loop?.first;
     return html`<h1>${remarks.title}</h1>
       <p class="clock">${texts.position(move, run.count)}${lecture.isOn && html`
         <b>${lecture.clock}</b>`}</p>
@@ -58,7 +58,8 @@ export class Presenter {
       <dl class="facts">${whoRows(view, run.state(move))}</dl>
       ${remarks.ask.has(move) && html`<h2>${texts.question}</h2><p>${remarks.ask.get(move)}</p>
         <p class="say">${remarks.answer.get(move)}</p>`}
-      ${next && html`<h2>${T.next}</h2><p>${sentence(next, move + 1)}</p>`}`;
+      ${next && html`<h2>${T.next}</h2><p>${
+  sentence({ ...view, move: next }, next)}</p>`}`;
   }
 }
 

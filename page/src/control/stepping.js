@@ -26,9 +26,12 @@ export class Stepping {
     const { page } = this;
     if (page.quiz.on && by > 0 && this.askNext()) return;
     if (by === 1 && this.stopsAtQuestion()) return;
-    const { place, run: { last } } = page.session;
-    if (place === last && by > 0) return void this.atEnd();
-    page.go(place + by);
+    const { session } = page;
+    if (by > 0 && session.place === session.run.last) {
+      if (!session.loop) return void this.atEnd();
+      session.repeat();
+    }
+    page.go(session.place + by);
     if (page.quiz.asks(page.session)) page.modes.askFocus();
   }
 
@@ -108,8 +111,8 @@ export class Stepping {
 
   toggleRunning() {
     if (this.timer) return this.pause();
-    const { place, run } = this.page.session;
-    if (place >= run.last) this.page.go(0);
+    const { place, run, loop } = this.page.session;
+    if (place >= run.last && !loop) this.page.go(0);
     // Where one lets the moves run, its question was seen.
     this.page.reminded = true;
     this.timer = setInterval(() => this.runOn(), PACES[this.speed]);
@@ -130,12 +133,12 @@ export class Stepping {
     this.setSpeed(SPEEDS[Math.min(SPEEDS.length - 1, Math.max(0, at))]);
   }
 
-  // Stops when a question is asked, and at the end.
+  // Stops when a question is asked, and at the end if there is one.
   runOn() {
     this.step(1);
     const { quiz, session } = this.page;
-    const { move, place, run, remarks } = session;
-    if (place >= run.last || remarks.ask.has(move) || quiz.asks(session)) this.pause();
+    const { move, place, run, remarks, loop } = session;
+    if ((place >= run.last && !loop) || remarks.ask.has(move) || quiz.asks(session)) this.pause();
   }
 
   pause() {

@@ -7,6 +7,7 @@ import { texts } from '../texts/texts.js';
 import { changesAt, scheduleOf, stopsOf } from '../model/line_changes.js';
 import { looks } from '../model/looks.js';
 import { LOCKS } from '../locks/locks.js';
+import { drawSteps, revealMove } from '../view/why_steps.js';
 import { changesView, codeOfLock, placeText } from '../view/why_view.js';
 
 // The line under the pointer, the line of the shown move, or the first.
@@ -22,6 +23,8 @@ class Why {
     this.dialog = dialogOf('why');
     this.lock = 0;
     this.at = 0;
+    // The change whose run is shown move by move, and how many moves of it.
+    this.stepped = { number: 0, count: 0 };
     // The schedule that was opened here last, and the number of its change.
     this.played = { text: null, number: 0 };
   }
@@ -29,6 +32,7 @@ class Why {
   get lines() { return this.page.session.lines[this.lock]; }
   get stops() { return stopsOf(this.lines); }
   get stop() { return this.stops[this.at]; }
+  get changes() { return changesAt(this.lock, this.lines[this.stop[0]]); }
 
   // Of the lock that is shown, at a line that was clicked, or where the reader is; with a schedule
   // that was opened here, at its change.
@@ -54,6 +58,7 @@ class Why {
 
   showPlayed() {
     this.show();
+    this.stepTo(this.played.number, 0);
     const button = this.dialog.querySelector(`[data-play="${this.played.number}"]`);
     button.closest('section').scrollIntoView();
     focusIn(button.parentElement, '[data-play]');
@@ -72,10 +77,25 @@ class Why {
     write(byId('why-place'), placeText(stop, lines.length));
     show(byId('why-code'), codeOfLock(lines, stop));
     show(byId('why-changes'), changesView(lock, lines, stop, canPlay));
+    this.stepTo(this.changes.findIndex(({ run }) => run.length), 0);
+  }
+
+  // To a move of a change's run, or before the first.
+  stepTo(number, count) {
+    const { lock, lines, changes } = this;
+    const most = changes[number]?.run.length ?? 0;
+    this.stepped = { number, count: Math.min(most, Math.max(0, count)) };
+    drawSteps(byId('why-changes'), { lock, lines, changes, ...this.stepped });
+  }
+
+  // On by so many moves in the run that is shown, or into the run of another change.
+  step(by, number = this.stepped.number) {
+    this.stepTo(number, number === this.stepped.number ? this.stepped.count + by : by);
+    revealMove(byId('why-changes'));
   }
 
   play(number) {
-    const change = changesAt(this.lock, this.lines[this.stop[0]])[number];
+    const change = this.changes[number];
     this.dialog.close();
     this.played = { text: scheduleOf(this.lock, change), number };
     // The sentences on a move are then beside memory.
@@ -85,8 +105,10 @@ class Why {
   }
 
   /** @param {DOMStringMap} chosen */
-  choose({ play, line }) {
+  choose({ play, line, of, step, count }) {
     if (play) this.play(Number(play));
+    if (step) this.step(Number(step), Number(of));
+    if (count) this.stepTo(Number(of), Number(count));
     if (line) this.go(this.stops.findIndex((stop) => stop.includes(Number(line))));
   }
 
@@ -97,10 +119,10 @@ class Why {
       ArrowRight: at + 1, ArrowLeft: at - 1, Home: 0, End: length,
       ...(looks.hall && { PageDown: at + 1, PageUp: at - 1 }),
     };
-    const closes = key.toLowerCase() === 'y';
-    if (closes) this.dialog.close();
-    if (key in does) this.go(does[key]);
-    return closes || key in does;
+    const acts = { y: () => this.dialog.close(), n: () => this.step(1), p: () => this.step(-1) };
+    const act = key in does ? () => this.go(does[key]) : acts[key.toLowerCase()];
+    act?.();
+    return Boolean(act);
   }
 }
 
@@ -112,7 +134,7 @@ export function whyDialog(page) {
   byId('why-back').addEventListener('click', () => why.go(why.at - 1));
   byId('why-next').addEventListener('click', () => why.go(why.at + 1));
   dialog.addEventListener('click', (event) => {
-    why.choose(dataOf(event, '[data-play], [data-line]'));
+    why.choose(dataOf(event, '[data-play], [data-line], [data-of]'));
   });
   dialog.addEventListener('keydown', (event) => {
     const { key, ctrlKey, metaKey, altKey } = event;

@@ -29,6 +29,8 @@ import { ticket } from './ticket.js';
  *   further values of its sentences
  * @property {(word: number, named: Named) => string} wordName
  * @property {(word: number, value: bigint, named: Named) => string} valueText
+ * @property {(name: string, value: string) => string} [listedValue] of a word of a changed lock, if
+ *   it is not a number
  * @property {(view: View, state: State) => Picture} draw its memory
  * @property {(view: View, state: State) => {text: string, missing?: boolean}} caption below it
  * @property {(view: View, state: State) => number} leastWidth of the picture at its full size

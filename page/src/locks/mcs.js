@@ -65,6 +65,14 @@ function valueText(word, value, { run, names }) {
   return named === undefined ? NIL : names.short(named);
 }
 
+// A value of the words of a changed lock, as `locktrace why` lists them: a record has the number
+// after that of its thread.
+const NAMES_RECORD = /^(?:tail|next)/;
+function listedValue(name, value) {
+  if (!NAMES_RECORD.test(name)) return value;
+  return value === '0' ? NIL : texts.thread(Number(value) - 1);
+}
+
 function wordName(word, { run, names }) {
   const owner = run.owned.at(word);
   return owner ? `${names.short(owner.thread)}.${owner.field}` : 'tail';
@@ -314,5 +322,5 @@ export const mcs = {
   name: 'mcs', title: T.title, lesson: 'mcs', memory: T.memory, hasRecords: true,
   signs: ['fails', 'inCall', 'queue', 'holds', 'unlinked', 'ended'],
   mark, values,
-  wordName, valueText, draw, caption, leastWidth,
+  wordName, valueText, listedValue, draw, caption, leastWidth,
 };

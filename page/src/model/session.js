@@ -5,6 +5,7 @@ import { LOCK_NAMES } from '../machine/codes.js';
 import { awaitedLines } from '../machine/locks_code.js';
 import { wordNames } from '../machine/word_names.js';
 import { arrowsOf } from './arrows.js';
+import { loopOf } from './loops.js';
 import { Names } from './names.js';
 import { isCovered, remarksOf } from './remarks.js';
 import { runOf } from './run.js';
@@ -41,6 +42,8 @@ import { BoundRemarks } from './stale_remarks.js';
  * @property {ReturnType<typeof remarksOf>} remarks
  * @property {{from: number, to: number}[]} arrows
  * @property {number[]} arrowEnds
+ * @property {(import('./loops.js').Loop & {lap: number}) | null} loop what repeats for ever, and
+ *   which time through it this is
  *
  * @typedef {Shown & Wishes} View
  */
@@ -112,6 +115,8 @@ export class Session {
     this.held = withoutLines(text, this.stale);
     this.remarks = remarksOf(this.held);
     this.names = new Names(this.remarks.name);
+    this.loop = loopOf(this.run, this.stale);
+    this.lap = 1;
     this.arrows = this.run.hasLock ? this.arrowsNow() : NO_ARROWS;
     this.go(move instanceof Function ? move(this) : move);
   }
@@ -129,6 +134,13 @@ export class Session {
   go(move) {
     this.place = this.placeNear(move);
     this.move = Math.min(this.run.count, this.place);
+    if (this.move < this.loop?.first) this.lap = 1;
+  }
+
+  // From the end to the same position before the moves that repeat.
+  repeat() {
+    this.place = this.move = this.loop.first - 1;
+    this.lap += 1;
   }
 
   /**
@@ -145,7 +157,8 @@ export class Session {
     // by default the last move of its thread.
     const decided = () => run.refusal.lastWrite ?? run.lastMoveOf(run.refusal.thread, move);
     const marked = refused ? decided() : move;
-    const at = { run, move, names, remarks, lesson, place, refused, marked };
+    const loop = this.loop && { ...this.loop, lap: this.lap };
+    const at = { run, move, names, remarks, lesson, place, refused, marked, loop };
     const view = { ...at, ...arrows, ...wishes };
     // What the move did is not marked if a question asks for it.
     return isCovered(view, 'facts') ? { ...view, marked: 0 } : view;

@@ -22,5 +22,10 @@ export const why = {
   stuck: 'From here on a call does not end, whatever moves follow.',
   play: 'Play the lock as it is in these turns',
   later: 'The changed step comes later.',
+  step: (count, of) => `Move ${count} of ${of}:`, memory: 'Memory:',
+  object: (has) => `The sequential object: ${has}.`,
+  forbidden: (verdict) => `The sequential object does not allow this: ${
+    verdict.replace(/^.*? moves?, and /, '')}.`,
+  keys: 'Keys N and P go from move to move of a run.',
   asItIs: (change) => `The lock as it is, in the turns of: ${change}`,
 };

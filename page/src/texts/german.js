@@ -5,6 +5,7 @@ import { MOST_BYTES, MOST_MOVES } from '../machine/codes.js';
 import { germanKeys } from './german_keys.js';
 import { germanKinds } from './german_kinds.js';
 import { germanLocks } from './german_locks.js';
+import { germanLoops } from './german_loops.js';
 import { germanTraces } from './german_traces.js';
 import { germanChanges, germanWhy } from './german_why.js';
 
@@ -60,6 +61,7 @@ export const german = {
       enters: 'auf dem Regler: ein Thread tritt ein',
       fails: 'auf dem Regler: ein cas scheitert, oder ein Zug ist abgelehnt',
       fold: 'Threads, die nicht gezeichnet sind, und wie viele',
+      loop: 'diese Züge wiederholen sich für immer',
     },
     hall: { noFullScreen: 'Der Browser hat das Vollbild nicht erlaubt.' },
     plans: {
@@ -313,6 +315,7 @@ export const german = {
     noMachine: 'Dieser Browser hat keinen WebAssembly-Speicher mit 64 Bit, also läuft die Maschine '
       + 'hier nicht. Die Lektionen werden gezeigt, wie die Maschine sie gespielt hat; ein eigener '
       + 'Ablauf braucht einen neueren Browser.',
+    tooOld: 'Dieser Browser ist für diese Seite zu alt. Nimm Chromium ab 133 oder Firefox ab 134.',
     notStored: 'In diesem Browser lassen sich nur die Lektionen zeigen.',
     couldNotRead: 'Die Datei ließ sich nicht lesen.',
     print: {
@@ -343,7 +346,7 @@ export const german = {
       could: 'Hier könnte {thread} {moves}.', step: 'den Schritt „{word}“ tun',
       call: '„{word}“ aufrufen', or: ' oder ',
     },
-    keys: germanKeys, traces: germanTraces, why: germanWhy,
+    keys: germanKeys, loops: germanLoops, traces: germanTraces, why: germanWhy,
     faults: {
       found: 'Gefunden: „{found}“.', could: 'Erwartet: {could}.',
       meant: 'War „{meant}“ gemeint?',

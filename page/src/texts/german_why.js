@@ -22,6 +22,11 @@ export const germanWhy = {
   stuck: 'Von hier an endet ein Aufruf nicht, was immer folgt.',
   play: 'Die Sperre, wie sie ist, in dieser Zugfolge spielen',
   later: 'Der geänderte Schritt kommt später.',
+  step: (count, of) => `Zug ${count} von ${of}:`, memory: 'Speicher:',
+  object: (has) => `Das sequentielle Objekt: ${has}.`,
+  forbidden: (verdict) => `Das sequentielle Objekt erlaubt das nicht: ${
+    verdict.replace(/^.*? Züge?, und /, '')}.`,
+  keys: 'Die Tasten N und P gehen von Zug zu Zug eines Laufs.',
   asItIs: (change) => `Die Sperre, wie sie ist, in der Zugfolge von: ${change}`,
 };
 
@@ -54,6 +59,10 @@ export const germanChanges = {
   ['{0} moves, and thread {1} enters as a writer while inside are the readers {2}, '
     + 'thread {3} is announced']: '{0} Züge, und Thread {1} tritt als Schreiber ein, während die '
     + 'Leser {2} drinnen sind und Thread {3} angekündigt ist',
+  'the queue is empty': 'die Schlange ist leer', 'the queue is {0}': 'die Schlange ist {0}',
+  'nobody is inside': 'niemand ist drinnen', 'thread {0} writes': 'Thread {0} schreibt',
+  'inside are the readers {0}': 'drinnen sind die Leser {0}',
+  'thread {0} is announced': 'Thread {0} ist angekündigt',
   "The release could do without its read of now_serving: the holder's own ticket is there.": 'Das '
     + 'release käme ohne sein Lesen von now_serving aus: Dort steht das eigene Ticket des Threads.',
   ['The release could do without its first read, too: if there is a successor, the '

@@ -4,6 +4,7 @@
 import { MOST_BYTES, MOST_MOVES } from '../machine/codes.js';
 import { keys } from './english_keys.js';
 import { hall, lessons, plans, presenter } from './english_lessons.js';
+import { loops } from './english_loops.js';
 import { traces } from './english_traces.js';
 import { why } from './english_why.js';
 import { translated } from './language.js';
@@ -40,7 +41,7 @@ const english = {
     found: 'below a step: what it found', ask: 'a question at this move',
     enters: 'on the slider: a thread enters',
     fails: 'on the slider: a cas fails, or a move is refused',
-    fold: 'threads that are not drawn, and how many',
+    fold: 'threads that are not drawn, and how many', loop: 'these moves repeat for ever',
   },
   compare: {
     label: 'The schedule that is compared', title: (title) => `Compared with: ${title}`,
@@ -282,11 +283,12 @@ const english = {
     whyQueue: 'In the queue is who has taken a place there and has not left, the oldest first.',
   },
 
-  keys, traces,
+  keys, loops, traces,
 
   noMachine: 'This browser has no 64-bit WebAssembly memory, so it cannot run the machine here. '
     + 'The lessons are shown as the machine played them; a schedule of your own needs a newer '
     + 'browser.',
+  tooOld: 'This browser is too old for this page. Take Chromium from 133 or Firefox from 134 on.',
   notStored: 'Only the lessons can be shown in this browser.',
   couldNotRead: 'The file could not be read.',
 

@@ -11,6 +11,7 @@ import { lockOf } from '../locks/locks.js';
 import { refusalFacts } from '../locks/refusal_facts.js';
 import { codeView, linesMade } from './code_view.js';
 import { lectureView } from './lecture_view.js';
+import { loopView } from './loop_view.js';
 import { moveView, questionView, spokenText, whoRows } from './move_view.js';
 import { endView, quizForm, resultView, scoreView } from './quiz_view.js';
 import { doneText, doneWord } from './recorded_view.js';
@@ -62,7 +63,8 @@ function quizView({ quiz, session }, view) {
   const atEnd = quiz.on && view.place === view.run.last;
   return {
     score: quiz.on && scoreView(quiz, session), form: question && quizForm(view, question),
-    came: html`${quiz.result && resultView(quiz.result, outcome)}${atEnd && endView(quiz)}`,
+    came: html`${quiz.result && resultView(quiz.result, outcome)}${
+      atEnd && endView(quiz, view.loop)}`,
   };
 }
 
@@ -93,7 +95,7 @@ function currentView(view, state, lines, facts) {
     <span class="mono">${covers ? doneWord(run, place) : doneText(run, place)}</span>`
     : texts.before} ${refused && texts.refused.refused}
     <code translate="no">${code}</code></p>
-    ${facts && !partsShown().includes('now') && html`<p>${facts.said[0]}</p>`}
+    ${!partsShown().includes('now') && (facts ? html`<p>${facts.said[0]}</p>` : loopView(view))}
     ${!view.asks && questionView(view)}`;
 }
 

@@ -11,6 +11,7 @@ import { fitted } from '../locks/fitting.js';
 import { lockOf } from '../locks/locks.js';
 import { fillOf, standingIn } from '../locks/shapes.js';
 import { columnX, LANE, laneMiddle, LOW_LANE, NAME_EDGES, placeOf, placeX } from './layout.js';
+import { loopArrow, loopColumn } from './loop_view.js';
 
 /** @typedef {import('../machine/machine.js').Records} Records */
 /** @typedef {import('../model/session.js').View} View */
@@ -305,7 +306,7 @@ export function lanesPicture(view, layout, top, bottom) {
   return html`<svg ${sized(layout.width, layout.height)} role="${role}" aria-label="${texts.time}">
     ${hereColumn(layout, -20, layout.height + 20)}
     ${indexes.map((index) => lane(view, layout, index))}${arrows(view, layout)}
-    ${differentColumn(view, layout)}</svg>`;
+    ${differentColumn(view, layout)}${loopColumn(view, layout)}</svg>`;
 }
 
 // The moves' numbers, above the lanes. In narrow columns only some are written.
@@ -323,5 +324,5 @@ export function numbersPicture(view, layout) {
       ${asked && html`<path class="ask-mark" d="M${x - 4} 2h8l-4 6z"/>`}`);
   }
   return html`<svg ${sized(layout.width, 30)} aria-hidden="true">
-    ${hereColumn(layout, 0, 40)}${numbers}</svg>`;
+    ${hereColumn(layout, 0, 40)}${numbers}${loopArrow(view, layout)}</svg>`;
 }

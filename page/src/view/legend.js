@@ -64,6 +64,7 @@ const OTHERS = {
   ask: html`<path class="tick ask" d="M8 3h12l-6 10z"/>`,
   enters: html`<rect class="tick enters" x="12" y="3" width="5" height="12"/>`,
   fails: html`<path class="tick fails" d="M10 5l8 8m0 -8l-8 8"/>`,
+  loop: html`<path class="loop" d="M27 8v6H5"/><path class="loop-tip" d="M1 14.5l4-7l4 7z"/>`,
 };
 
 export const signList = () => html`${

@@ -11,6 +11,7 @@ import { unlinkedAfter } from '../model/spans.js';
 import { sentence, writtenWords } from '../locks/sentences.js';
 import { movingThread, standingIn, useOf } from '../locks/shapes.js';
 import { casFails } from './lanes.js';
+import { loopSaid, loopView } from './loop_view.js';
 import { recordedRows } from './recorded_view.js';
 import { withTerms } from './terms.js';
 
@@ -132,7 +133,7 @@ function startView(view, state) {
     ${learn && html`<p class="say own-say">${learn}</p>`}${namesView(view)}
     <p class="aside">${withTerms(texts.start)}</p>${storyView(view)}
     <p class="say hint">${isTouched ? texts.startTouch : texts.startHint}</p>
-    ${questionView(view)}${factList(view, state, '')}`;
+    ${loopView(view)}${questionView(view)}${factList(view, state, '')}`;
 }
 
 /** @param {View} view */
@@ -169,7 +170,7 @@ export function moveView(view, state) {
   return html`<h2 class="spoken">${texts.now}</h2>
     <div class="head"><b>${move}</b><span>${names.of(records.thread(move))},
       <span class="mono">${word}</span></span>${outcomePill(records, move)}</div>
-    ${!isFolded && plain}${own}${!isFolded && machine}${questionView(view)}${
+    ${!isFolded && plain}${own}${!isFolded && machine}${loopView(view)}${questionView(view)}${
   factList(view, state, html`${wroteRow(view)}${recordedRows(view)}`,
     isCovered(view, 'facts') && 'hidden')}
     ${isFolded ? html`<details class="aside" ${hidden}><summary>${texts.exactly}</summary>${
@@ -178,10 +179,10 @@ export function moveView(view, state) {
 
 // After the last move of a lesson: what was shown, and which one is next.
 /** @param {View} view */
-function lastView({ remarks: { learn }, place, run, next, answered, move, remarks }) {
+function lastView({ remarks: { learn }, place, run, next, answered, move, remarks, loop }) {
   const due = remarks.ask.has(move) && remarks.answer.has(move) && !answered;
   if (place < run.last || !learn || due) return null;
-  return html`<div class="last"><p><b>${texts.lessons.ended}</b> ${learn}</p>
+  return html`<div class="last"><p>${!loop && html`<b>${texts.lessons.ended}</b> `}${learn}</p>
     ${next && html`<button type="button" class="strong" data-next="${next.name}">${
   texts.lessons.next(next.title)}<kbd>Enter</kbd></button>`}</div>`;
 }
@@ -207,6 +208,7 @@ export function spokenText(view, state) {
   }
   if (!isCovered(view, 'facts')) parts.push(texts.spoken.holds(holds), texts.spoken.queue(queue));
   if (move && run.said(move)) parts.push(texts.traces.spokenSame);
+  if (view.loop) parts.push(loopSaid(view));
   if (question) parts.push(texts.spoken.ask(question));
   if (view.hidden) parts.push(texts.spoken.hidden);
   return parts.join(' ');

@@ -62,7 +62,13 @@ export function scoreView(quiz, session) {
   howView(quiz, session)}`;
 }
 
+// A run that goes on for ever has no last move.
+function endText(some, loop) {
+  if (loop) return texts.loops.asked(some);
+  return some ? T.lastWrong : T.last;
+}
+
 // After the last move: what was wrong.
-export const endView = ({ wrong }) => html`<div class="quiz-end"><p class="hint">${
-  wrong.length ? T.lastWrong : T.last}</p>
+export const endView = ({ wrong }, loop) => html`<div class="quiz-end"><p class="hint">${
+  endText(wrong.length > 0, loop)}</p>
   <ul class="mono">${wrong.map((one) => html`<li>${answerText(one)}</li>`)}</ul></div>`;

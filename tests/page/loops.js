@@ -1,0 +1,18 @@
+// Runs that go on for ever: the sentence, the signs, and what is cut of them.
+
+const said = () => texts('#now .loop-said, #current .loop-said');
+const at = () => [port.state().place, ...said()];
+const isRunning = () => attribute('#run', 'aria-pressed') === 'true';
+const isSaid = (part) => said().some((one) => one.includes(part));
+
+// How many arrows back and heads of arrows there are, and the moves before which there is a line.
+const signs = () => [count('#numbers .loop'), count('#numbers .loop-tip'),
+  all('#lanes [data-loop]').map((one) => Number(one.dataset.loop))];
+
+// The sentences that are not wholly in view.
+function cut() {
+  const screen = { left: 0, top: 0, right: innerWidth, bottom: innerHeight };
+  return all('.loop-said').filter((one) => one.checkVisibility()).flatMap((one) => (
+    [rect(one.closest('#now, #bar')), screen].every((box) => inside(rect(one), box))
+      ? [] : [plain(one.textContent)]));
+}
