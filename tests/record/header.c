@@ -177,6 +177,17 @@ static void a_full_log_counts_what_it_drops(void)
               "acquire\nadd next_ticket found 0\ndropped 3\n");
 }
 
+static void a_full_log_leaves_out_what_any_log_does(void)
+{
+    lr_run *run = one_thread("ticket", 64, 2);
+    for (int look = 0; look < 4; look++) LR_READ(now_serving, 7);
+    LR_READ(now_serving, 0);
+    lr_end(lr_log_of(run, 0));
+    check_log("polls of a full log", run,
+              "lock ticket threads 1 bits 64 thread 0\n"
+              "read now_serving found 7\nread now_serving found 7\ndropped 1\n");
+}
+
 /* Writes a text into a file of the directory, or tells whether the file is there. */
 static int file_of(const char *name, const char *text)
 {
@@ -282,6 +293,7 @@ int main(int count, char **words)
     the_third_equal_look_is_left_out();
     a_third_wait_is_left_out();
     a_full_log_counts_what_it_drops();
+    a_full_log_leaves_out_what_any_log_does();
     what_an_earlier_run_left_is_taken_away();
     two_runs_have_two_numbers();
     a_move_has_its_place();

@@ -299,6 +299,18 @@ def test_lost_signal(planted, tmp_path, name, woke):
     assert re.search(rf"\nthe run hangs: .* waits for a signal .*; {woke}\n", done.stdout)
 
 
+def test_signal_of_an_earlier_run(library, tmp_path):
+    """A signal of the first run, in which thread 0 comes first, is no signal of the second."""
+    notes = ("thread ? (void)0 : lr_self->run->inside == 3 ? LR_SIGNAL(NULL, (void)0) : "
+             "LR_WAIT(NULL, (void)0, (void)0, (void)0)")
+    assert compile_c("gcc", HERE / "notes.c", tmp_path / "it", "-DLR_MODE=EXPLORE",
+                     '-DLOCK="rw-fifo"', f"-DNOTES={notes}", library=library) == ""
+    done = ran(tmp_path / "it", 2, 1, 0, tmp_path / "logs")
+    assert done.stdout.splitlines()[:2] == [
+        "2 runs with up to 0 preemptions, the last one is refused",
+        "the run hangs: thread 0 waits for a signal; nobody has signalled"]
+
+
 @pytest.mark.parametrize("lock, name, threads, warned", [
     ("rw_fifo", None, 2, True), ("rw_simple", None, 2, True), ("rw_fifo", None, 3, False),
     ("ticket", None, 2, False), ("rw_fifo", "flag-not-cleared", 2, False),
