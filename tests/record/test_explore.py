@@ -299,16 +299,25 @@ def test_lost_signal(planted, tmp_path, name, woke):
     assert re.search(rf"\nthe run hangs: .* waits for a signal .*; {woke}\n", done.stdout)
 
 
-def test_signal_of_an_earlier_run(library, tmp_path):
-    """A signal of the first run, in which thread 0 comes first, is no signal of the second."""
-    notes = ("thread ? (void)0 : lr_self->run->inside == 3 ? LR_SIGNAL(NULL, (void)0) : "
-             "LR_WAIT(NULL, (void)0, (void)0, (void)0)")
+# What two threads do. In the first run thread 0 comes first, when both are inside. It leaves a note
+# and a signal, or each leaves a record. In the second run thread 1 comes first.
+SECOND = [
+    ("thread ? (void)0 : lr_self->run->inside == 3 ? (LR_CALL(rlock), LR_SECTION(1, entered), "
+     "LR_SIGNAL(NULL, (void)0)) : LR_WAIT(NULL, (void)0, (void)0, (void)0)",
+     "the last one is refused\nthe run hangs: thread 0 waits for a signal; nobody has signalled"),
+    ("static int of[2]; lr_self->run->inside == 3 && "
+     "lr_thread_at(lr_self, (uintptr_t)&of[!thread]) != LR_UNKNOWN ? _Exit(9) : "
+     "lr_set_record(&of[thread], sizeof of[0])", "all of them accepted"),
+]
+
+
+@pytest.mark.parametrize("notes, said", SECOND)
+def test_second_run(library, tmp_path, notes, said):
+    """A run knows nothing of the one before it."""
     assert compile_c("gcc", HERE / "notes.c", tmp_path / "it", "-DLR_MODE=EXPLORE",
                      '-DLOCK="rw-fifo"', f"-DNOTES={notes}", library=library) == ""
     done = ran(tmp_path / "it", 2, 1, 0, tmp_path / "logs")
-    assert done.stdout.splitlines()[:2] == [
-        "2 runs with up to 0 preemptions, the last one is refused",
-        "the run hangs: thread 0 waits for a signal; nobody has signalled"]
+    assert done.stdout.startswith(f"2 runs with up to 0 preemptions, {said}\n"), done.stdout
 
 
 @pytest.mark.parametrize("lock, name, threads, warned", [
