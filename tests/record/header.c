@@ -212,6 +212,17 @@ static void what_an_earlier_run_left_is_taken_away(void)
     check("another file is there", file_of("other.log", NULL));
 }
 
+/* A run takes its own notes away, and none of a later run in its folder. */
+static void notes_go_with_their_run(void)
+{
+    lr_run *one = lr_open("mcs", 1, 64, 1, 0, directory);
+    lr_run *other = lr_open("mcs", 1, 64, 1, 0, directory);
+    lr_close(one);
+    check("the later run has its notes", file_of("run.notes", NULL));
+    lr_close(other);
+    check("no notes are left", !file_of("run.notes", NULL));
+}
+
 static void two_runs_have_two_numbers(void)
 {
     lr_run *one = lr_open("mcs", 1, 64, 1, 0, NULL);
@@ -295,6 +306,7 @@ int main(int count, char **words)
     a_full_log_counts_what_it_drops();
     a_full_log_leaves_out_what_any_log_does();
     what_an_earlier_run_left_is_taken_away();
+    notes_go_with_their_run();
     two_runs_have_two_numbers();
     a_move_has_its_place();
     a_log_that_has_not_ended_says_so();

@@ -83,6 +83,8 @@ EXPLORED = [
     ("ticket", None, (2, 1, 2), "10 runs with up to 2 preemptions, all of them accepted"),
     ("rw_simple", None, (2, 1, 2), "86 runs with up to 2 preemptions, all of them accepted"),
     ("rw_fifo", None, (2, 1, 2), "86 runs with up to 2 preemptions, all of them accepted"),
+    # Each thread makes 600 moves, and at each move of the first one there is a choice.
+    ("ticket", None, (2, 100, 0), "2 runs with up to 0 preemptions, all of them accepted"),
     ("mcs", "link-before-locked", (2, 1, 2), ", the last one is refused"),
     ("ticket", "serves-the-next-ticket", (2, 1, 2), ", the last one is refused"),
 ]
