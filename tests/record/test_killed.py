@@ -367,3 +367,11 @@ def test_no_room_in_rust(keeper, tmp_path, blocks, rounds):
                         "".join(sorted(done.stderr.splitlines(keepends=True))))
     assert done.returncode == 0
     assert [path.stat().st_size for path in logs.iterdir()] == THREADS * [blocks * BLOCK]
+
+
+@pytest.mark.xdist_group("cargo")
+def test_no_thread_in_rust(keeper, tmp_path):
+    """A run whose thread is refused ends at once, and not after its time of a minute."""
+    done = ran(keeper, tmp_path / "logs", "20", "end", timeout=30,
+               env=environment(RUST_MIN_STACK=str(2**46)))
+    assert done.stderr.startswith("Error: Start(") and done.returncode == 1
