@@ -177,6 +177,17 @@ static void a_full_log_counts_what_it_drops(void)
               "acquire\nadd next_ticket found 0\ndropped 3\n");
 }
 
+static void a_full_log_leaves_out_what_any_log_does(void)
+{
+    lr_run *run = one_thread("ticket", 64, 2);
+    for (int look = 0; look < 4; look++) LR_READ(now_serving, 7);
+    LR_READ(now_serving, 0);
+    lr_end(lr_log_of(run, 0));
+    check_log("polls of a full log", run,
+              "lock ticket threads 1 bits 64 thread 0\n"
+              "read now_serving found 7\nread now_serving found 7\ndropped 1\n");
+}
+
 /* Writes a text into a file of the directory, or tells whether the file is there. */
 static int file_of(const char *name, const char *text)
 {
@@ -199,6 +210,17 @@ static void what_an_earlier_run_left_is_taken_away(void)
     check("thread 63 is gone", !file_of("thread-63.log", NULL));
     check("the trace is gone", !file_of("run.trace", NULL));
     check("another file is there", file_of("other.log", NULL));
+}
+
+/* A run takes its own notes away, and none of a later run in its folder. */
+static void notes_go_with_their_run(void)
+{
+    lr_run *one = lr_open("mcs", 1, 64, 1, 0, directory);
+    lr_run *other = lr_open("mcs", 1, 64, 1, 0, directory);
+    lr_close(one);
+    check("the later run has its notes", file_of("run.notes", NULL));
+    lr_close(other);
+    check("no notes are left", !file_of("run.notes", NULL));
 }
 
 static void two_runs_have_two_numbers(void)
@@ -282,7 +304,9 @@ int main(int count, char **words)
     the_third_equal_look_is_left_out();
     a_third_wait_is_left_out();
     a_full_log_counts_what_it_drops();
+    a_full_log_leaves_out_what_any_log_does();
     what_an_earlier_run_left_is_taken_away();
+    notes_go_with_their_run();
     two_runs_have_two_numbers();
     a_move_has_its_place();
     a_log_that_has_not_ended_says_so();

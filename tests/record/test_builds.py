@@ -168,6 +168,7 @@ def test_header(tmp_path, compiler):
     said = re.sub(r"\.c:\d+", ".c:LINE", done.stderr).splitlines()
     assert said == [f"lockreplay_record: {due}" for due in (
         "the log of thread 0 was full: it has room for 2 moves, and dropped 3",
+        "the log of thread 0 was full: it has room for 2 moves, and dropped 1",
         "1 of 1 threads have not ended, and made no move for 0 s: thread 0 "
         "('acquire' at header.c:LINE)",
         "0 threads: a run has 1 to 64",

@@ -89,6 +89,15 @@ def test_run_that_hangs(built):
     assert "refused" not in done.stderr and done.returncode == 1
 
 
+def test_sections_that_wait(built):
+    """A thread that only has sections which wait polls, as one does that only reads."""
+    program, logs = built("SEED", "for (;;) LR_LOCK((void)0), LR_SECTION(1, waits), "
+                          "LR_UNLOCK((void)0)", "-DLR_PATIENCE=99")
+    done = ran(program, 2, 9, 1, logs)
+    assert re.search(r"the run hangs: .*thread 1 polls \('section 1 waits' at ", done.stderr)
+    assert done.returncode == 1
+
+
 def test_threads_that_stand_still(built):
     program, logs = built("VALUES", "for (;;) sched_yield()")
     done = ran(program, 2, 9, 1, logs, 1)
@@ -206,9 +215,23 @@ def test_no_thread(library, tmp_path, mode, words):
     assert "way: " not in done.stderr and done.returncode == 3
 
 
-def test_no_memory(built):
-    program, logs = built("SEED", "(void)0")
-    done = ran("sh", "-c", f"ulimit -v 500000; exec {program} 2 4000000 1 {logs}")
-    assert done.stderr == ("lockreplay_record: no memory for 512000000 moves of each of 2 threads: "
+@pytest.mark.parametrize("mode", ["VALUES", "SEED"])
+def test_no_memory(built, mode):
+    """Nothing is left in the folder, where free threads would have had their notes."""
+    program, logs = built(mode, "(void)0")
+    done = ran("sh", "-c", f"ulimit -v 100000; exec {program} 2 40000 1 {logs}")
+    assert done.stderr == ("lockreplay_record: no memory for 5120000 moves of each of 2 threads: "
                            "Cannot allocate memory\n")
+    assert done.returncode == 3 and list(logs.iterdir()) == []
+
+
+def test_wrong_schedule_among_others(built, tmp_path):
+    """A right schedule after a wrong one does not hide it."""
+    program, logs = built("FOLLOW", "(void)0")
+    logs.mkdir()
+    right = "lock ticket threads 1 bits 8\n"
+    for name, text in zip("abc", (right, "0 acquire\n", right)):
+        (tmp_path / f"{name}.schedule").write_text(text)
+    done = ran(program, tmp_path, logs)
+    assert "/b.schedule:1: this is no line of a schedule of 0 threads\n" in done.stderr
     assert done.returncode == 3

@@ -83,6 +83,8 @@ EXPLORED = [
     ("ticket", None, (2, 1, 2), "10 runs with up to 2 preemptions, all of them accepted"),
     ("rw_simple", None, (2, 1, 2), "86 runs with up to 2 preemptions, all of them accepted"),
     ("rw_fifo", None, (2, 1, 2), "86 runs with up to 2 preemptions, all of them accepted"),
+    # Each thread makes 600 moves, and at each move of the first one there is a choice.
+    ("ticket", None, (2, 100, 0), "2 runs with up to 0 preemptions, all of them accepted"),
     ("mcs", "link-before-locked", (2, 1, 2), ", the last one is refused"),
     ("ticket", "serves-the-next-ticket", (2, 1, 2), ", the last one is refused"),
 ]
@@ -297,6 +299,27 @@ def test_lost_signal(planted, tmp_path, name, woke):
     """A run that hangs names the last signal, and whom it woke."""
     done = ran(planted("rw_fifo", name), 3, 1, 2, tmp_path)
     assert re.search(rf"\nthe run hangs: .* waits for a signal .*; {woke}\n", done.stdout)
+
+
+# What two threads do. In the first run thread 0 comes first, when both are inside. It leaves a note
+# and a signal, or each leaves a record. In the second run thread 1 comes first.
+SECOND = [
+    ("thread ? (void)0 : lr_self->run->inside == 3 ? (LR_CALL(rlock), LR_SECTION(1, entered), "
+     "LR_SIGNAL(NULL, (void)0)) : LR_WAIT(NULL, (void)0, (void)0, (void)0)",
+     "the last one is refused\nthe run hangs: thread 0 waits for a signal; nobody has signalled"),
+    ("static int of[2]; lr_self->run->inside == 3 && "
+     "lr_thread_at(lr_self, (uintptr_t)&of[!thread]) != LR_UNKNOWN ? _Exit(9) : "
+     "lr_set_record(&of[thread], sizeof of[0])", "all of them accepted"),
+]
+
+
+@pytest.mark.parametrize("notes, said", SECOND)
+def test_second_run(library, tmp_path, notes, said):
+    """A run knows nothing of the one before it."""
+    assert compile_c("gcc", HERE / "notes.c", tmp_path / "it", "-DLR_MODE=EXPLORE",
+                     '-DLOCK="rw-fifo"', f"-DNOTES={notes}", library=library) == ""
+    done = ran(tmp_path / "it", 2, 1, 0, tmp_path / "logs")
+    assert done.stdout.startswith(f"2 runs with up to 0 preemptions, {said}\n"), done.stdout
 
 
 @pytest.mark.parametrize("lock, name, threads, warned", [

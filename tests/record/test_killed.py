@@ -201,6 +201,22 @@ def test_recover_waits(build, ordered, tmp_path):
     assert (logs / "thread-1.log").read_text().endswith("\ndropped 0\n")
 
 
+def test_logs_that_cannot_be_made(build, ordered, tmp_path):
+    """Neither the program nor `recover` takes notes away whose logs they cannot make."""
+    program, logs = build("(void)0"), tmp_path / "logs"
+    inner = logs / "thread-1.log.part" / "inner"
+    inner.mkdir(parents=True)
+    said = f"lockreplay_record: {logs}/thread-1.log: Is a directory\n"
+    done = ran(program, THREADS, ROUNDS, 1, logs)
+    assert (done.stderr, done.returncode) == (said, 3)
+    assert recover(program, logs) == (
+        f"{said}lockreplay_record: {logs}/run.notes: Is a directory\n", 3)
+    inner.rmdir()
+    inner.parent.rmdir()
+    assert recover(program, logs) == (f"{KEPT}{logs}\n", 0)
+    assert all(len(moves) >= ROUNDS * 6 for moves in ordered(logs))
+
+
 @pytest.mark.parametrize("lines, fault", [
     (None, "No such file or directory"), (0, "Invalid argument"), (30000, "Invalid argument")])
 def test_nothing_to_recover(build, tmp_path, lines, fault):
@@ -351,3 +367,11 @@ def test_no_room_in_rust(keeper, tmp_path, blocks, rounds):
                         "".join(sorted(done.stderr.splitlines(keepends=True))))
     assert done.returncode == 0
     assert [path.stat().st_size for path in logs.iterdir()] == THREADS * [blocks * BLOCK]
+
+
+@pytest.mark.xdist_group("cargo")
+def test_no_thread_in_rust(keeper, tmp_path):
+    """A run whose thread is refused ends at once, and not after its time of a minute."""
+    done = ran(keeper, tmp_path / "logs", "20", "end", timeout=30,
+               env=environment(RUST_MIN_STACK=str(2**46)))
+    assert done.stderr.startswith("Error: Start(") and done.returncode == 1

@@ -122,6 +122,7 @@ HEAD = "lock mcs threads 2\n"
 IN, OUT = "0 acquire\n0 write\n0 swap\n", "0 release\n0 read\n0 cas\n"
 FOLLOWED = [
     ("mcs", HEAD + IN + OUT, ""),
+    pytest.param("mcs", HEAD + 400 * (IN + OUT), "", id="2400 lines"),
     ("mcs", "# a comment\n\n" + HEAD + IN, ""),
     ("mcs", HEAD + "0 acquire\n0 write\n1 acquire\n", ""),
     ("mcs", HEAD + IN + "0 read\n", "line 5 is '0 read', and thread 0 has ended"),

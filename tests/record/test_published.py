@@ -108,13 +108,14 @@ def compiled(shared):
 @pytest.fixture
 def searched(compiled, tmp_path):
     """Changes an example in C, explores its runs, and returns the message."""
-    def search(example, counts, change):
+    def search(example, counts, change, check=None):
         copy = tmp_path / SOURCES.relative_to(TOP)
         output("cp", "-R", "--parents", SOURCES.relative_to(TOP), tmp_path, cwd=TOP)
         (tmp_path / "record").symlink_to(TOP / "record")
         change(copy / f"{example}.c")
         assert compile_c("gcc", copy / f"{example}.c", tmp_path / "it", "-DLR_MODE=EXPLORE",
-                         "-Wno-unused-function", library=compiled(["-c"], "check.o")) == ""
+                         "-Wno-unused-function",
+                         library=check or compiled(["-c"], "check.o")) == ""
         done = ran(tmp_path / "it", *counts, tmp_path / "logs")
         assert done.returncode == 1
         return done.stdout
@@ -133,6 +134,19 @@ def test_in_c(searched, tmp_path, example, name, counts, fault, more):
     said = searched(example, counts,
                     lambda _: plant(PATCHES / "c" / example / f"{name}.patch", tmp_path))
     assert is_said(said, fault, more), said
+
+
+# With 2, a thread reads its grant while the other one has written its own `locked` since.
+@pytest.mark.parametrize("old, new, rounds, due", [
+    ("LR_READ(locked, locked)", "LR_READ(locked, locked ? 1 : 9)", 2, 0),
+    ("LR_READ(locked, locked)", "LR_READ(locked, locked ? 9 : 0)", 1, 1),
+    ("LR_SWAP(tail, LR_RECORD(lock->records, before))", "LR_SWAP(tail, before ? 9 : 0)", 1, 2)])
+def test_value_by_the_library(searched, library, old, new, rounds, due):
+    """The library does not write the step in place of a refused one. Its value is what the steps
+    before it left in the word."""
+    said = searched("mcs", (2, rounds, 1), lambda source: source.write_text(
+        source.read_text().replace(old, new)), library)
+    assert is_said(said, "FoundOther", f"the published lock has {due}"), said
 
 
 @pytest.mark.parametrize("example, old, new, counts, fault, more", BY_TEXT)

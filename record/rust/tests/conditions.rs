@@ -67,6 +67,18 @@ fn a_mutex_is_tried_in_vain() -> Result<(), Error> {
     Ok(())
 }
 
+/// A thread that only has sections which wait polls.
+#[test]
+fn sections_that_wait_are_no_progress() -> Result<(), Error> {
+    let state = Mutex::new(());
+    let run = Run::of(Lock::RwSimple, 1).mode(Mode::Seed(1)).open()?;
+    let ending = run.threads(LIMIT, |_| loop {
+        state.lock().unwrap().note(Outcome::Waits);
+    })?;
+    assert_eq!(ending, Ending::Hangs(vec![0]));
+    Ok(())
+}
+
 /// Thread 0 polls in the monitor until it is stopped. Thread 1 then gets the mutex, and hears of no
 /// panic.
 #[test]
@@ -177,6 +189,26 @@ fn a_wait_without_a_second_look_is_seen_by_a_wake_for_nothing() -> Result<(), Er
         missed += usize::from(!has_seen);
     }
     assert!(missed > 0);
+    Ok(())
+}
+
+/// A wait for a condition looks again after each wake for nothing.
+#[test]
+fn a_wait_lasts_as_long_as_its_condition() -> Result<(), Error> {
+    for seed in 0..20 {
+        let (open, changed) = (Mutex::new(false), Condvar::new());
+        let run = Run::of(Lock::RwSimple, 2).mode(Mode::Seed(seed)).spurious(2).open()?;
+        let ending = run.threads(LIMIT, |log| {
+            if log.thread() == 1 {
+                (0..20).for_each(|_| switch());
+                *open.lock().unwrap() = true;
+                changed.notify_all();
+            } else {
+                assert!(*changed.wait_while(open.lock().unwrap(), |open| !*open).unwrap());
+            }
+        })?;
+        assert_eq!(ending, Ending::Complete);
+    }
     Ok(())
 }
 

@@ -6,7 +6,7 @@ use std::sync::atomic::Ordering::SeqCst;
 use std::time::Duration;
 
 use lockreplay_record::{
-    AtomicBool, AtomicU8, AtomicUsize, Error, Lock, Mode, Run, RunBuilder, Word,
+    AtomicBool, AtomicU8, AtomicUsize, Ending, Error, Lock, Mode, Run, RunBuilder, Word,
 };
 
 const LIMIT: Duration = Duration::from_secs(60);
@@ -103,5 +103,21 @@ fn counters_begin_where_the_run_says() -> Result<(), Error> {
                0 add next_ticket found 0 left 1\n0 add next_ticket found 1 left 2\n\
                0 write now_serving left 1\n";
     assert_eq!(trace.split_once('\n').map(|(_, rest)| rest), Some(due));
+    Ok(())
+}
+
+/// A thread that comes between the load and the exchange loses no update.
+#[test]
+fn an_update_is_tried_with_what_it_found() -> Result<(), Error> {
+    for seed in 0..20 {
+        let word = AtomicUsize::new(0);
+        let run = Run::of(Lock::Mcs, 2).mode(Mode::Seed(seed)).open()?;
+        let ending = run.threads(LIMIT, |_| {
+            for _ in 0..10 {
+                word.fetch_update(SeqCst, SeqCst, |found| Some(found + 1)).unwrap();
+            }
+        })?;
+        assert_eq!((ending, word.into_inner()), (Ending::Complete, 20));
+    }
     Ok(())
 }

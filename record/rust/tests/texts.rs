@@ -65,11 +65,11 @@ fn a_poll_is_written_twice() -> Result<(), Error> {
     let served = AtomicU8::new(7).noted(Word::NowServing);
     let got = moves(Run::of(Lock::Ticket, 1), || {
         (0..5).for_each(|_| assert_eq!(served.load(SeqCst), 7));
-        served.store(8, SeqCst);
+        (0..3).for_each(|_| served.store(8, SeqCst));
         served.load(SeqCst);
     })?;
-    let read = "read now_serving found 7";
-    assert_eq!(got, [read, read, "write now_serving left 8", "read now_serving found 8"]);
+    let (read, write) = ("read now_serving found 7", "write now_serving left 8");
+    assert_eq!(got, [read, read, write, write, write, "read now_serving found 8"]);
     let state = Mutex::new(());
     let got = moves(Run::of(Lock::RwSimple, 1), || {
         (0..4).for_each(|_| state.lock().unwrap().note(Outcome::Waits));
@@ -167,6 +167,20 @@ fn a_full_log_counts_what_it_drops() -> Result<(), Error> {
     assert_eq!(log, "lock mcs threads 1 bits 64 thread 0\n# thread 0 has not ended\n");
     assert_ne!(number, other);
     assert!(!path.join("run.trace").exists());
+    fs::remove_dir_all(&path).expect("the folder was made");
+    Ok(())
+}
+
+/// A poll that a log with room would leave out is not dropped.
+#[test]
+fn a_full_log_leaves_out_what_any_log_does() -> Result<(), Error> {
+    let path = folder("full-of-polls");
+    let run = Run::of(Lock::Ticket, 1).room(2).open()?;
+    let reads = [7, 7, 7, 7, 0].map(|found| Step::read(Word::NowServing, found));
+    run.threads(LIMIT, |_| reads.into_iter().for_each(note))?;
+    run.save(&path)?;
+    let read = "read now_serving found 7\n";
+    assert!(numbered(&path, "thread-0.log").1.ends_with(&format!("\n{read}{read}dropped 1\n")));
     fs::remove_dir_all(&path).expect("the folder was made");
     Ok(())
 }
