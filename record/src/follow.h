@@ -32,7 +32,6 @@ static inline unsigned lr_choose(lr_run *run, uint64_t ready, unsigned current)
     run->is_at_end = run->at == run->lines_count;
     if (run->is_at_end) return ready ? lr_after(ready, LR_NOBODY) : (unsigned)LR_NOBODY;
     const lr_line *line = &run->lines[run->at];
-    if (run->said[0]) return LR_NOBODY;
     if (run->inside >> line->thread & 1) return line->thread;
     lr_tell(run->said, "line %u is '%u %s', and thread %u has ended", line->number,
             (unsigned)line->thread, lr_word(line->word), (unsigned)line->thread);

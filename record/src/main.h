@@ -51,7 +51,6 @@ static inline int lr_main(const lr_driver *driver, int count, char **words)
     int fault = is_again ? lr_explore_again(driver, threads, rounds, words[4], &explored)
                          : lr_explore(driver, threads, rounds, (unsigned)atoi(words[3]), most,
                                       words[4], &explored);
-    if (fault && is_again && !explored.is_refused) lr_say("%s: %s", words[4], strerror(fault));
     if (!is_again && explored.runs)
         printf("%lu run%s with up to %u preemption%s, %s\n", explored.runs,
                explored.runs == 1 ? "" : "s", explored.preemptions,
@@ -137,7 +136,9 @@ static inline int lr_main_run(const lr_driver *driver, unsigned threads, unsigne
         tasks[t].driver = driver;
         tasks[t].thread = t;
         tasks[t].rounds = rounds;
-        if (pthread_create(&tasks[t].id, NULL, lr_do_task, &tasks[t])) return 3;
+        if (!pthread_create(&tasks[t].id, NULL, lr_do_task, &tasks[t])) continue;
+        fprintf(stderr, "lockreplay_record: no memory for thread %u\n", t);
+        return 3;
     }
     for (unsigned t = 0; t < threads; t++) pthread_join(tasks[t].id, NULL);
     return 0;

@@ -1,10 +1,11 @@
 /* Whose record an address is in, for atomics that note themselves. This comes before the points:
    there is none between an operation and its note. */
 
-/* From now on this is the record of the thread that runs. */
+/* From now on this is the record of the thread that runs. A thread in no run has none. */
 static inline void lr_set_record(const void *first, size_t length)
 {
     lr_extent *record = &lr_self->record;
+    if (lr_self == &lr_outside) return;
     /* Another thread reads this when it notes a pointer. */
     if (record->first && record->first != (uintptr_t)first) lr_touch_all(lr_self->run);
     __atomic_store_n(&record->length, length, __ATOMIC_RELAXED);

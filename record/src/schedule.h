@@ -79,8 +79,9 @@ static inline int lr_read_schedule(lr_run *run, FILE *file, const char *path)
         if (text[0] == '#' || !text[0]) continue;
         if (lock[0]) {
             is_wrong = !lr_read_line(text, run->threads, number, &line);
-            if (!is_wrong && lr_add_line(run, &line)) return ENOMEM;
-            continue;
+            if (is_wrong || !lr_add_line(run, &line)) continue;
+            lr_say("%s: %s", path, strerror(ENOMEM));
+            return ENOMEM;
         }
         is_wrong = !lr_read_header(text, lock, &run->threads, &bits) || run->threads < 1 ||
                    run->threads > LR_THREADS;

@@ -77,7 +77,7 @@ def kinds(lock):
 def sketches():
     for written, lines, end, *runs in rows("sketches"):
         nowhere, number = end.startswith("nowhere "), int(end.split()[-1])
-        if len(runs) != (not nowhere):
+        if bool(runs) == nowhere:
             raise ValueError(f"{written} | {lines}: a run, or `nowhere`")
         length, states = (None, number) if nowhere else (number, None)
         yield Sketch(space(written), lines.split("; "), length, states,

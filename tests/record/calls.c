@@ -1,13 +1,24 @@
 /* Threads that use the recording header wrongly, or wait for one another. BODY calls what a test
-   tries; test_modes.py has the bodies and the messages that are due. */
+   tries; test_words.py has the bodies and the messages that are due. */
+#include <signal.h>
+#include <sys/select.h>
+
 #include "../../record/lockreplay_record.h"
 
 static lr_run *run;
 static int condition, woken;
+static unsigned waited;
 
 static void *again(void *log)
 {
     lr_begin((lr_log *)log);
+    return NULL;
+}
+
+static void *comes_and_goes(void *log)
+{
+    lr_begin((lr_log *)log);
+    lr_end((lr_log *)log);
     return NULL;
 }
 
@@ -19,10 +30,24 @@ static void twice(lr_log *log)
     lr_await(run, 20);
 }
 
+static void *comes(void *log)
+{
+    lr_begin((lr_log *)log);
+    woken = 1;
+    return NULL;
+}
+
 static void *keeps_its_turn(void *log)
 {
     lr_begin((lr_log *)log);
     for (;;) sem_wait(&((lr_log *)log)->turn.comes);
+    return NULL;
+}
+
+static void *switches_for_ever(void *log)
+{
+    lr_begin((lr_log *)log);
+    for (;;) LR_SWITCH();
     return NULL;
 }
 
@@ -38,6 +63,18 @@ static void *polls_for_ever(void *log)
 {
     lr_begin((lr_log *)log);
     for (;;) LR_READ(now_serving, 1);
+    return NULL;
+}
+
+/* Thread 0 polls until thread 1 has polled four times. */
+static void *opens_after_polls(void *of)
+{
+    lr_log *log = (lr_log *)of;
+    lr_begin(log);
+    while (log->thread == 0 && !woken) LR_READ(now_serving, 1);
+    for (int poll = 0; log->thread == 1 && poll < 4; poll++) LR_READ(now_serving, 2);
+    woken |= log->thread == 1;
+    lr_end(log);
     return NULL;
 }
 
@@ -79,7 +116,8 @@ static void *signals_nothing(void *of)
     return NULL;
 }
 
-/* Two threads wait. Then thread 2 wakes one of them or, if `woken` is set, both. */
+/* Two threads wait. Then thread 2 wakes one of them or, if `woken` is set, both; with 2 it then
+   waits itself. */
 static void *waits_or_wakes(void *of)
 {
     lr_log *log = (lr_log *)of;
@@ -91,6 +129,7 @@ static void *waits_or_wakes(void *of)
         LR_BROADCAST(&condition, (void)0);
     else
         LR_SIGNAL(&condition, (void)0);
+    if (woken == 2 && log->thread == 2) LR_WAIT(&condition, (void)0, (void)0, (void)0);
     lr_end(log);
     return NULL;
 }
@@ -99,6 +138,24 @@ static void start(void *(*work)(void *), unsigned threads)
 {
     pthread_t id;
     for (unsigned t = 0; t < threads; t++) pthread_create(&id, NULL, work, lr_log_of(run, t));
+}
+
+/* In strict C11 a signal's handler is gone after its first signal, and not every header is whole. */
+int pthread_kill(pthread_t id, int number);
+
+static void reset_signal(int number) { signal(number, reset_signal); }
+
+/* Who comes first has its turn while the other thread is interrupted. */
+static void interrupts(unsigned thread, unsigned round)
+{
+    (void)round;
+    if (woken++) return;
+    for (int times = 0; times < 20; times++) {
+        struct timeval pause = {0, 2000};
+        pthread_kill(run->logs[!thread].id, SIGUSR1);
+        select(0, NULL, NULL, NULL, &pause);
+    }
+    if (woken > 1) _Exit(9);
 }
 
 /* Takes two steps, before each of which another thread may have its turn. */
@@ -131,6 +188,62 @@ static void wakes(unsigned seeds)
         for (unsigned t = 0; t < 2; t++)
             if (lr_count_of(run->logs[t].ended)) printf("%u", t);
         printf("\n");
+    }
+}
+
+/* Thread 1 waits, and nobody signals. Thread 0 lets it go first until it is awake. */
+static void *counts_turns(void *of)
+{
+    lr_log *log = (lr_log *)of;
+    lr_begin(log);
+    if (log->thread == 1) {
+        LR_WAIT(&condition, (void)0, (void)0, (void)0);
+        woken = 1;
+    }
+    for (; !woken; LR_SWITCH()) waited += run->parked != 0;
+    lr_end(log);
+    return NULL;
+}
+
+/* Prints how many turns thread 1 waits, the sum for so many even seeds. */
+static void wakes_for_nothing(unsigned seeds)
+{
+    for (unsigned seed = 1; seed <= seeds; seed++) {
+        run = lr_open("rw-fifo", 2, 64, 9, 2 * seed, NULL);
+        woken = 0;
+        start(counts_turns, 2);
+        if (lr_wait_for(run, 20)) _Exit(9);
+    }
+    printf("%u\n", waited);
+}
+
+/* Two threads wait, and nobody signals. Thread 2 prints whether one of them still waits when it
+   first sees that another one does not. */
+static void *sees_who_waits(void *of)
+{
+    lr_log *log = (lr_log *)of;
+    lr_begin(log);
+    if (log->thread < 2) {
+        do LR_WAIT(&condition, (void)0, (void)0, (void)0);
+        while (!woken);
+    } else {
+        while (run->parked != 3) LR_SWITCH();
+        woken = 1;
+        while (run->parked == 3) LR_SWITCH();
+        printf("%d\n", run->parked != 0);
+    }
+    LR_BROADCAST(&condition, (void)0);
+    lr_end(log);
+    return NULL;
+}
+
+static void wakes_one_for_nothing(unsigned seeds)
+{
+    for (unsigned seed = 1; seed <= seeds; seed++) {
+        run = lr_open("rw-fifo", 3, 64, 9, seed, NULL);
+        woken = 0;
+        start(sees_who_waits, 3);
+        if (lr_wait_for(run, 20)) _Exit(9);
     }
 }
 
@@ -168,7 +281,9 @@ int main(void)
     (void)orders, (void)make_notes, (void)twice, (void)start, (void)keeps_its_turn,
         (void)waits_for_ever, (void)polls_for_ever;
     (void)wakes_one, (void)polls_without_a_note, (void)signals_nothing, (void)wakes;
-    (void)make_points;
+    (void)make_points, (void)comes, (void)wakes_for_nothing;
+    (void)wakes_one_for_nothing, (void)comes_and_goes, (void)interrupts;
+    (void)switches_for_ever, (void)opens_after_polls;
     run = lr_open("mcs", 2, 64, 8000, 1, NULL);
     BODY;
     return 0;

@@ -1,4 +1,6 @@
-"""Fixtures: the recorders, the judge of their records, and tours."""
+"""Fixtures: the recorders, the judge of their records, logs of two threads, and tours."""
+import re
+
 import pytest
 
 from recorders import RECORDERS, Judge, folder_of, once
@@ -19,6 +21,19 @@ def recorder(request, shared, library, locktrace):
 @pytest.fixture(scope="session")
 def judge(locktrace, lockreplay):
     return Judge(locktrace, lockreplay)
+
+
+@pytest.fixture
+def ordered(locktrace):
+    """Asserts that a folder has the two logs alone, orders them, and returns the moves of each."""
+    def order(logs):
+        assert sorted(path.name for path in logs.iterdir()) == ["thread-0.log", "thread-1.log"]
+        done = ran(locktrace, "order", *sorted(logs.iterdir()), "-o", logs.parent / "ordered")
+        assert done.returncode == 0, done.stderr
+        texts = [(logs / f"thread-{thread}.log").read_text() for thread in range(2)]
+        return [[line for line in text.splitlines()[2:] if re.match("[a-z]", line)]
+                for text in texts]
+    return order
 
 
 @pytest.fixture

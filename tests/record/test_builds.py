@@ -214,6 +214,31 @@ def test_manual(library, tmp_path, compiler, mode, words, said):
     assert output("./ticket", *words, "logs", cwd=tmp_path) == said
 
 
+# A lock in a file of its own, and the program that takes it.
+INCLUDED = f'#include "{TOP}/record/lockreplay_record.h"\nvoid take(void);\n'
+IN_TWO_FILES = {
+    "lock": "void take(void) { LR_CALL(acquire); LR_ADD(next_ticket, 0); }\n",
+    "program": "static void one_round(unsigned, unsigned);\n"
+               "static void one_round(unsigned t, unsigned r) { (void)t, (void)r; take(); }\n"
+               "int main(int count, char **words) {\n"
+               '    const lr_driver driver = {"ticket", 64, NULL, one_round, NULL};\n'
+               "    return lr_main(&driver, count, words);\n}\n",
+}
+
+
+@pytest.mark.parametrize("mode", ["VALUES", "SEED"])
+@pytest.mark.parametrize("compiler", COMPILERS)
+def test_program_of_two_files(tmp_path, compiler, mode):
+    """What a thread notes in one file is in the run that another file began."""
+    for name, text in IN_TWO_FILES.items():
+        (tmp_path / f"{name}.c").write_text(INCLUDED + text)
+    assert compile_c(compiler, tmp_path / "program.c", tmp_path / "it", f"-DLR_MODE={mode}",
+                     tmp_path / "lock.c") == ""
+    assert ran(tmp_path / "it", 1, 1, 1, tmp_path / "logs").stderr == ""
+    log = (tmp_path / "logs" / "thread-0.log").read_text()
+    assert log.endswith("thread 0\nacquire\nadd next_ticket found 0\ndropped 0\n")
+
+
 @pytest.fixture
 def guide(tmp_path):
     """Builds the guide's lock in a mode, as it is or with one text replaced by another."""

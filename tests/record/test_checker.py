@@ -124,12 +124,14 @@ def test_random_texts(both, request):
     assert count < TEXTS or faults >= {0, 3, 6, 7, 8, 9, 10, 11, 12, 13, 16, 17, 18, 20}
 
 
-def test_text_of_each_fault(both):
+@pytest.mark.parametrize("room", [0, 1, 20, 200])
+def test_text_of_each_fault(both, room):
+    """The size is that of the whole text, also if there is room for a part of it."""
     for fault in [*range(21), 99]:
         texts = [ctypes.create_string_buffer(200) for _ in both]
-        sizes = [check.lt_fault_text(fault, text, ctypes.c_size_t(200))
+        sizes = [check.lt_fault_text(fault, text, ctypes.c_size_t(room))
                  for check, text in zip(both, texts)]
-        assert sizes[0] == sizes[1] and texts[0].raw == texts[1].raw
+        assert sizes[0] == sizes[1] > 7 and texts[0].raw == texts[1].raw
 
 
 @pytest.mark.parametrize("compiler", ["gcc", "clang"])

@@ -42,7 +42,7 @@ def test_crash(built, judge, mode, body):
     done = ran(program, 2, 9, 1, logs)
     said = re.sub(r"^endings: .* Assertion `0' failed\.\n", "", done.stderr)
     ran_last = "" if mode == "VALUES" else (
-        r"; thread 1 ran \('(add next_ticket|read now_serving) found \d+' at endings\.c:\d+\)")
+        r"; thread 1 ran \('(add next_ticket|read now_serving) found \d+' at ticket\.h:\d+\)")
     assert re.fullmatch(f"{LEFT}{logs}{ran_last}\n", said), said
     assert done.returncode == ENDS[body]
     texts = {path.name: path.read_text() for path in logs.iterdir()}
@@ -83,10 +83,17 @@ def test_pause(built):
 
 def test_run_that_hangs(built):
     """A run that hangs is refused, though the check accepts all of its moves."""
-    program, logs = built("SEED", "LR_WAIT(&next_ticket, (void)0, (void)0, (void)0)", "-DLR_CHECK")
-    done = ran(program, 2, 9, 1, logs)
-    assert done.stderr.startswith("lockreplay_record: the run hangs: thread 0 ")
-    assert "refused" not in done.stderr and done.returncode == 1
+    program, logs = built("SEED", "LR_WAIT(&next_ticket, (void)0, (void)0, (void)0)", "-DLR_CHECK",
+                          "-DLR_PATIENCE=500")
+    done = ran(program, 12, 9, 1, logs)
+    said, trace = done.stderr.removeprefix("lockreplay_record: "), (logs / "run.trace").read_text()
+    assert re.fullmatch("the run hangs: " + ", ".join(
+        rf"thread {thread} [^,]*" for thread in range(12)) + "; nobody has signalled\n", said)
+    assert len(said) > 512 and f"\n# {said}" in trace and done.returncode == 1
+    for thread in range(12):
+        end = f"\n# thread {thread} has not ended\n"
+        assert (logs / f"thread-{thread}.log").read_text().endswith(end)
+        assert trace.count(end) == 1
 
 
 def test_sections_that_wait(built):
@@ -103,7 +110,7 @@ def test_threads_that_stand_still(built):
     done = ran(program, 2, 9, 1, logs, 1)
     assert re.match(r"lockreplay_record: [12] of 2 threads have not ended, and made no move for 1 "
                     r"s: (thread 0 \(.*\), )?thread 1 \('read now_serving found \d+' at "
-                    r"endings.c:16\)\n$", done.stderr)
+                    r"ticket\.h:14\)\n$", done.stderr)
     assert done.returncode == 1
     assert (logs / "thread-1.log").read_text().endswith("# thread 1 has not ended\n")
 
@@ -152,13 +159,14 @@ def test_full_log(built, judge, mode):
 
 def test_full_log_of_a_thread_that_goes_on(built):
     """Nobody knows what the thread would have noted, so its log does not claim that it hangs. The
-    message names the threads that have not ended, and no other."""
+    message names the threads that have not ended, and no other, with what each noted last."""
     program, logs = built("VALUES", "release(); while (lr_missing(lr_self->run) > 1) {} acquire(); "
-                          "do release(), acquire(); while (!lr_self->dropped); for (;;) {}")
+                          "do release(), acquire(); while (!lr_self->dropped); "
+                          "LR_CALL(downgrade); for (;;) {}")
     done = ran(program, 2, 5, 1, logs, 5)
     said = done.stderr.splitlines()
     assert re.fullmatch(r"lockreplay_record: 1 of 2 threads have not ended, and made no move for 5 "
-                        r"s: thread 1 \('.*' at endings\.c:\d+\)", said[0]), said
+                        r"s: thread 1 \('downgrade' at endings\.c:\d+\)", said[0]), said
     assert done.returncode == 3
     assert (logs / "thread-0.log").read_text().endswith("\ndropped 0\n")
     assert (logs / "thread-1.log").read_text().endswith("\n# thread 1 was stopped\n")
@@ -193,14 +201,15 @@ def test_wrong_folder(built, mode, folder, said):
     assert done.returncode == 3
 
 
-# Refuses to start a second thread in a run, whose number of threads has this name.
+# Refuses to start the second thread.
 REFUSES = """#include <pthread.h>
-#define pthread_create(...) (started == 1 ? 11 : pthread_create(__VA_ARGS__))
+static int created;
+#define pthread_create(...) (created++ == 1 ? 11 : pthread_create(__VA_ARGS__))
 """
 
 
 @pytest.mark.parametrize("mode, words", [
-    ("VALUES", (2, 1, 1, "logs")), ("SEED", (2, 1, 1, "logs")), ("EXPLORE", (2, 1, 1, "logs")),
+    *((mode, (2, 1, 1, "logs")) for mode in ("OFF", "VALUES", "SEED", "EXPLORE")),
     ("EXPLORE", (2, 1, "again", "way")), ("FOLLOW", (".", "logs"))], ids=str)
 def test_no_thread(library, tmp_path, mode, words):
     """Neither a lock nor a schedule is wrong if the system refuses a thread."""

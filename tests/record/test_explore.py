@@ -81,6 +81,7 @@ EXPLORED = [
     ("mcs", None, (2, 1, 0), "2 runs with up to 0 preemptions, all of them accepted"),
     ("mcs", None, (2, 1, 2), "22 runs with up to 2 preemptions, all of them accepted"),
     ("ticket", None, (2, 1, 2), "10 runs with up to 2 preemptions, all of them accepted"),
+    ("ticket", None, (2, 1, 1), " runs with up to 1 preemption, all of them accepted"),
     ("rw_simple", None, (2, 1, 2), "86 runs with up to 2 preemptions, all of them accepted"),
     ("rw_fifo", None, (2, 1, 2), "86 runs with up to 2 preemptions, all of them accepted"),
     # Each thread makes 600 moves, and at each move of the first one there is a choice.
@@ -99,6 +100,11 @@ def test_search_in_c(recorder, tmp_path, example, name, counts, said):
     assert said in done.stdout
     assert done.returncode == (1 if mistake else 0)
     assert (tmp_path / "run.trace").exists() == bool(mistake)
+    if mistake:
+        number, text = int(done.stdout.split(" run")[0]), (tmp_path / "run.trace").read_text()
+        assert text.startswith(f"# run {number:016x}\n")
+        line, place = re.search(r"at line (\d+) of the trace, (\S+:\d+): ", done.stdout).groups()
+        assert f"\n# line {line} is {place}\n" in text
 
 
 @pytest.mark.parametrize("most, said", [
@@ -137,7 +143,8 @@ OPERATORS = {"atomic_fetch_add(&lock->next_ticket, 1)": "lock->next_ticket++",
 
 @pytest.mark.parametrize("old, line", [(old, line) for old, line in zip(OPERATORS, (23, 26, 39))])
 def test_operation_that_is_not_seen(library, tmp_path, old, line):
-    """After accepted runs a message names the line of a note without an atomic operation."""
+    """After accepted runs a message names the line of a note without an atomic operation. A refused
+    run says more."""
     text = (SOURCES / "ticket.c").read_text()
     assert text.count(old) >= 1
     source = tmp_path / "ticket.c"
@@ -147,6 +154,11 @@ def test_operation_that_is_not_seen(library, tmp_path, old, line):
     done = ran(tmp_path / "it", 2, 1, 2, tmp_path / "logs")
     assert done.stdout.endswith(", all of them accepted\n") and done.returncode == 0
     assert done.stderr.startswith(f"lockreplay_record: ticket.c:{line}: no atomic operation was ")
+    source.write_text(source.read_text().replace("(served + 1)", "(served + 2)"))
+    assert compile_c("gcc", source, tmp_path / "it", "-DLR_MODE=EXPLORE", "-I", SOURCES,
+                     library=library) == ""
+    done = ran(tmp_path / "it", 2, 1, 2, tmp_path / "logs")
+    assert (done.stderr, done.returncode) == ("", 1)
 
 
 @pytest.fixture
@@ -174,6 +186,7 @@ def test_wake_for_nothing(planted, tmp_path, flags, is_refused):
     if is_refused:
         again = ran(program, 2, 2, "again", tmp_path / "run.trace")
         assert (again.stdout, again.returncode) == (done.stdout.splitlines(True)[1], 1)
+        assert (done.stderr, again.stderr) == ("", "")
 
 
 REFUSES = """#include <stdlib.h>
@@ -192,6 +205,20 @@ def test_no_memory(library, tmp_path, compiler, kept):
     first, refusal, *_ = done.stdout.splitlines()
     assert first == "1 run with up to 0 preemptions, the last one is refused"
     assert (refusal, done.returncode) == (f"no memory for the run's {kept}s", 1)
+
+
+# An allocation that is refused: of a way, of a trail, and of clocks.
+@pytest.mark.parametrize("refused", [
+    "malloc(size) (NULL)", "calloc(count, size) ((count) == 1 ? NULL : calloc(count, size))",
+    "realloc(old, size) _Generic(old, unsigned *: NULL, default: realloc(old, size))"])
+def test_no_memory_for_the_other_runs(library, tmp_path, refused):
+    (tmp_path / "refuses.h").write_text(f"#include <stdlib.h>\n#define {refused}\n")
+    assert compile_c("gcc", HERE / "unnoted.c", tmp_path / "it", "-DLR_MODE=EXPLORE", "-include",
+                     tmp_path / "refuses.h", "-DSET(n)=(void)n", library=library) == ""
+    done = ran(tmp_path / "it", 2, 1, 1, tmp_path / "logs")
+    said = "1 run with up to 0 preemptions, all of them accepted, and there are more\n"
+    assert (done.stdout, done.stderr, done.returncode) == (
+        said, "lockreplay_record: no memory for the other runs\n", 3)
 
 
 def test_room_of_a_search(planted, tmp_path):
@@ -235,9 +262,15 @@ def test_driver_that_changes(library, tmp_path, threads):
 
 @pytest.mark.parametrize("recorder", ["c"], indirect=True)
 def test_again_without_a_trace(recorder, tmp_path):
-    done = ran(*recorder.command("ticket", "EXPLORE"), 2, 1, "again", tmp_path / "no.trace")
-    assert done.stderr == f"lockreplay_record: {tmp_path}/no.trace: No such file or directory\n"
-    assert (done.stdout, done.returncode) == ("", 3)
+    """The one message is about the trace, or if that is there about the number of threads."""
+    (tmp_path / "a.trace").write_text("# way 1\n")
+    for threads, name, said in (
+            (2, "no.trace", f"{tmp_path}/no.trace: No such file or directory"),
+            (16, "a.trace", "16 threads and counters of 4 bits: there have to be fewer threads than"
+                            " values")):
+        done = ran(*recorder.command("ticket", "EXPLORE"), threads, 1, "again", tmp_path / name)
+        assert done.stderr == f"lockreplay_record: {said}\n"
+        assert (done.stdout, done.returncode) == ("", 3)
 
 
 @pytest.mark.parametrize("example, name, rounds, choices", [
@@ -301,6 +334,24 @@ def test_lost_signal(planted, tmp_path, name, woke):
     assert re.search(rf"\nthe run hangs: .* waits for a signal .*; {woke}\n", done.stdout)
 
 
+# Whoever comes last signals, and whoever is woken does too. The first to be woken is printed.
+WOKEN = ("static int come; LR_LOCK((void)0); if (++come < 3) { "
+         "LR_WAIT(&come, (void)0, (void)0, (void)0); "
+         'if (come++ == 3) { printf("woken: %u\\n", thread); } } '
+         "come == 5 ? (void)(come = 0) : LR_SIGNAL(&come, (void)0); LR_UNLOCK((void)0)")
+
+
+def test_who_is_woken(library, tmp_path):
+    """Three threads come in six orders. Of each two that wait either is woken, which costs no
+    preemption."""
+    assert compile_c("gcc", HERE / "notes.c", tmp_path / "it", "-DLR_MODE=EXPLORE",
+                     '-DLOCK="rw-fifo"', f"-DNOTES={WOKEN}", library=library) == ""
+    done = ran(tmp_path / "it", 3, 1, 0, tmp_path / "logs")
+    *woken, last = done.stdout.splitlines()
+    assert last == "12 runs with up to 0 preemptions, all of them accepted"
+    assert sorted(woken) == sorted(4 * [f"woken: {thread}" for thread in range(3)])
+
+
 # What two threads do. In the first run thread 0 comes first, when both are inside. It leaves a note
 # and a signal, or each leaves a record. In the second run thread 1 comes first.
 SECOND = [
@@ -320,6 +371,20 @@ def test_second_run(library, tmp_path, notes, said):
                      '-DLOCK="rw-fifo"', f"-DNOTES={notes}", library=library) == ""
     done = ran(tmp_path / "it", 2, 1, 0, tmp_path / "logs")
     assert done.stdout.startswith(f"2 runs with up to 0 preemptions, {said}\n"), done.stdout
+
+
+def test_record_that_changes(library, tmp_path):
+    """Thread 0 has another record after its step. The one preemption is tried after which thread 1
+    finds that the first is still its own."""
+    look = "__atomic_load_n(&words[thread], 5)"
+    notes = (f"static int words[2], of[2]; if (thread) {{ (void){look}; "
+             "if (lr_thread_at(lr_self, (uintptr_t)&of[0]) == 0) LR_CALL(release); } "
+             f"for (int i = 0; i < 2 && !thread; i++) {{ (void){look}; "
+             "lr_set_record(&of[i], sizeof of[i]); }")
+    assert compile_c("gcc", HERE / "notes.c", tmp_path / "it", "-DLR_MODE=EXPLORE",
+                     '-DLOCK="mcs"', f"-DNOTES={notes}", library=library) == ""
+    done = ran(tmp_path / "it", 2, 1, 1, tmp_path / "logs")
+    assert "'1 release': NotHolder" in done.stdout and done.returncode == 1, done.stdout
 
 
 @pytest.mark.parametrize("lock, name, threads, warned", [

@@ -1,7 +1,7 @@
-"""Free threads whose process is killed leave logs.
+"""Free threads in C whose process is killed leave logs.
 
-In C, a process makes the logs from the notes of the run. The lock of endings.c is right; a test
-gives it a BODY, which thread 1 runs in its fourth round. In Rust, a run writes its logs as it goes.
+A process makes the logs from the notes of the run. The lock of endings.c is right; a test gives it
+a BODY, which thread 1 runs in its fourth round. test_kept.py has the tests of the Rust crate.
 """
 import os
 import re
@@ -12,7 +12,7 @@ from pathlib import Path
 import pytest
 
 from recorders import WARNINGS
-from tree import PIPE, TOP, environment, ran
+from tree import PIPE, ran
 
 from test_modes import HERE
 
@@ -37,19 +37,6 @@ def build(tmp_path):
     return built
 
 
-@pytest.fixture
-def ordered(locktrace):
-    """Asserts that a folder has the two logs alone, orders them, and returns the moves of each."""
-    def order(logs):
-        assert sorted(path.name for path in logs.iterdir()) == ["thread-0.log", "thread-1.log"]
-        done = ran(locktrace, "order", *sorted(logs.iterdir()), "-o", logs.parent / "ordered")
-        assert done.returncode == 0, done.stderr
-        texts = [(logs / f"thread-{thread}.log").read_text() for thread in range(THREADS)]
-        return [[line for line in text.splitlines()[2:] if re.match("[a-z]", line)]
-                for text in texts]
-    return order
-
-
 def started(program, logs):
     """Starts a run, and waits until thread 1 is in the middle of it."""
     process = subprocess.Popen([program, str(THREADS), str(ROUNDS), "1", logs], stdout=PIPE,
@@ -66,10 +53,6 @@ def holders(path):
                 yield int(folder.parent.name)
         except OSError:
             pass  # the process has ended, or belongs to another user
-
-
-def mapped(process, path):
-    return str(path) in Path(f"/proc/{process.pid}/maps").read_text()
 
 
 def kill_all(process, logs):
@@ -114,8 +97,17 @@ def test_all_killed(build, ordered, tmp_path):
     assert recover(program, logs) == ("", 0)
 
 
-@pytest.mark.parametrize("byte", [0, 255])
-def test_lost_page(build, ordered, tmp_path, byte):
+def note_of(word=0, place=0, part=0, file=1):
+    """The bytes of a note in line 7 of a file, on no other thread's record."""
+    return bytes([*bytes(8), word, place, part, 0, 1, file, 7, 0])
+
+
+@pytest.mark.parametrize("lost, moves", [
+    (bytes(MOVE), 15), (MOVE * b"\xff", 15), (note_of(file=0), 15),
+    # The last of each, and the number after it.
+    (note_of(word=12), 16), (note_of(word=13), 15), (note_of(place=5), 16), (note_of(place=6), 15),
+    (note_of(part=8), 16), (note_of(part=9), 15)])
+def test_lost_page(build, tmp_path, lost, moves):
     """A log ends before bytes that are no note, as if a page had not reached the disk."""
     program, logs = build(GOES_ON), tmp_path / "logs"
     with started(program, logs) as process:
@@ -124,9 +116,10 @@ def test_lost_page(build, ordered, tmp_path, byte):
     first = notes.stat().st_size - THREADS * (ROOM + 2) * (MOVE + 1) + (ROOM + 2 + 2) * MOVE
     with open(notes, "r+b") as file:
         file.seek(first + 15 * MOVE)
-        file.write(bytes([byte]) * MOVE)
+        file.write(lost + bytes(MOVE))
     assert recover(program, logs) == (f"{KEPT}{logs}\n", 0)
-    assert len(ordered(logs)[1]) == 15
+    log = (logs / "thread-1.log").read_text().splitlines()
+    assert len(log) == 2 + moves + 1 and log[-1] == "# thread 1 was stopped"
 
 
 def test_lost_page_of_a_thread_that_has_ended(build, ordered, tmp_path):
@@ -217,6 +210,19 @@ def test_logs_that_cannot_be_made(build, ordered, tmp_path):
     assert all(len(moves) >= ROUNDS * 6 for moves in ordered(logs))
 
 
+def test_logs_that_cannot_be_made_after_a_crash(build, ordered, tmp_path):
+    """Nor does the process that watches the program, which then does not say that it made them."""
+    program, logs = build("abort()"), tmp_path / "logs"
+    inner = logs / "thread-1.log.part" / "inner"
+    inner.mkdir(parents=True)
+    done = ran(program, THREADS, ROUNDS, 1, logs)
+    assert done.stderr == f"lockreplay_record: {logs}/thread-1.log: Is a directory\n"
+    inner.rmdir()
+    inner.parent.rmdir()
+    assert recover(program, logs) == (f"{KEPT}{logs}\n", 0)
+    assert ordered(logs)[1].count("acquire") == 4
+
+
 @pytest.mark.parametrize("lines, fault", [
     (None, "No such file or directory"), (0, "Invalid argument"), (30000, "Invalid argument")])
 def test_nothing_to_recover(build, tmp_path, lines, fault):
@@ -226,6 +232,18 @@ def test_nothing_to_recover(build, tmp_path, lines, fault):
         notes.write_text("of another program\n" * lines)
     assert recover(program, tmp_path) == (f"lockreplay_record: {notes}: {fault}\n", 3)
     assert notes.exists() == (lines is not None)
+
+
+@pytest.mark.parametrize("size", [-1, -MOVE, 4096, 1], ids=str)
+def test_notes_that_were_cut(build, tmp_path, size):
+    """`recover` refuses a file that lost its end, as by a copy to a full disk, and leaves it."""
+    program, logs = build(GOES_ON), tmp_path / "logs"
+    with started(program, logs) as process:
+        kill_all(process, logs)
+    notes = logs / "run.notes"
+    os.truncate(notes, size if size > 0 else notes.stat().st_size + size)
+    assert recover(program, logs) == (f"lockreplay_record: {notes}: Invalid argument\n", 3)
+    assert [path.name for path in logs.iterdir()] == ["run.notes"]
 
 
 def test_notes_of_another_build(build, tmp_path):
@@ -266,112 +284,3 @@ def test_in_memory(build, tmp_path):
     done = ran(program, 3, 400, 1, logs)
     assert (done.stderr, done.returncode) == ("", 0)
     assert len(list(logs.iterdir())) == 3
-
-
-RUST = """
-use std::{env, process, sync::atomic::Ordering::SeqCst, thread, time::Duration};
-
-use lockreplay_record::{call, AtomicU8, Call, Error, Lock, Run, Word};
-
-fn main() -> Result<(), Error> {
-    let words: Vec<String> = env::args().collect();
-    let next = AtomicU8::new(0).noted(Word::NextTicket);
-    let serving = AtomicU8::new(0).noted(Word::NowServing);
-    let acquire = || {
-        let _call = call(Call::Acquire);
-        let ticket = next.fetch_add(1, SeqCst);
-        while serving.load(SeqCst) != ticket {
-            thread::yield_now();
-        }
-    };
-    let release = || {
-        let _call = call(Call::Release);
-        let served = serving.load(SeqCst);
-        serving.store(served.wrapping_add(1), SeqCst);
-    };
-    let rounds: usize = words[2].parse().unwrap();
-    let run = Run::of(Lock::Ticket, 2).bits(8).kept_in(&words[1]).open()?;
-    run.threads(Duration::from_secs(60), |log| {
-        for round in 0..rounds {
-            acquire();
-            release();
-            if log.thread() == 1 && round == 12 {
-                match words[3].as_str() {
-                    "abort" => process::abort(),
-                    "loop" => println!("going"),
-                    _ => {}
-                }
-            }
-        }
-    })?;
-    Ok(())
-}
-"""
-
-
-@pytest.fixture(scope="module")
-def keeper(tmp_path_factory):
-    """A program with a ticket lock in Rust that writes its logs as it goes: FOLDER ROUNDS HOW."""
-    folder = tmp_path_factory.mktemp("keeper")
-    (folder / "src").mkdir()
-    (folder / "src" / "main.rs").write_text(RUST)
-    (folder / "Cargo.toml").write_text(
-        '[package]\nname = "keeper"\nversion = "0.1.0"\nedition = "2021"\n\n[dependencies]\n'
-        f'lockreplay-record = {{ path = "{TOP / "record/rust"}" }}\n')
-    made = ran("/usr/bin/cargo", "build", "--offline", cwd=folder, timeout=600, env=environment(
-        PATH="/usr/bin:/bin", RUSTC="/usr/bin/rustc", CARGO_HOME=str(folder / "cargo")))
-    assert made.returncode == 0, made.stderr
-    return folder / "target" / "debug" / "keeper"
-
-
-@pytest.mark.xdist_group("cargo")
-@pytest.mark.parametrize("how, sign", [("abort", signal.SIGABRT), ("loop", signal.SIGKILL)])
-def test_killed_in_rust(keeper, ordered, tmp_path, how, sign):
-    logs = tmp_path / "logs"
-    logs.mkdir()
-    for name in ("thread-1.log", "thread-5.log", "run.trace"):
-        (logs / name).write_text("of an earlier run\n")
-    process = subprocess.Popen([keeper, logs, "1000000000", how], stdout=PIPE, stderr=PIPE,
-                               text=True)
-    if how == "loop":
-        assert process.stdout.readline() == "going\n"
-        assert mapped(process, logs / "thread-1.log")
-        process.kill()
-    process.communicate()
-    assert process.returncode == -sign
-    assert len(ordered(logs)[1]) >= 13 * 6
-    text = (logs / "thread-1.log").read_text()
-    assert "dropped" not in text and re.search("\n#+$", text)
-
-
-@pytest.mark.xdist_group("cargo")
-def test_kept_to_the_end_in_rust(keeper, ordered, tmp_path):
-    """A run that ends well leaves whole logs, and nothing else."""
-    done = ran(keeper, tmp_path / "logs", "20", "end")
-    assert (done.stderr, done.returncode) == ("", 0)
-    assert [len(moves) >= 20 * 6 for moves in ordered(tmp_path / "logs")] == [True, True]
-    for thread in range(THREADS):
-        assert (tmp_path / "logs" / f"thread-{thread}.log").read_text().endswith("\ndropped 0\n")
-
-
-@pytest.mark.xdist_group("cargo")
-@pytest.mark.parametrize("blocks, rounds", [(1, 200), (300, 3000)], ids=["at first", "later"])
-def test_no_room_in_rust(keeper, tmp_path, blocks, rounds):
-    """A thread that can no longer write its log reports it once, and the run goes on. The log takes
-    what room there is, though the next piece of memory would not fit."""
-    logs = tmp_path / "logs"
-    done = ran("sh", "-c",
-               f"trap '' XFSZ; ulimit -f {blocks}; exec {keeper} {logs} {rounds} end")
-    fault = r"lockreplay_record: .*/thread-%d\.log: File too large \(os error 27\)\n"
-    assert re.fullmatch("".join(sorted(fault % thread for thread in range(THREADS))),
-                        "".join(sorted(done.stderr.splitlines(keepends=True))))
-    assert done.returncode == 0
-    assert [path.stat().st_size for path in logs.iterdir()] == THREADS * [blocks * BLOCK]
-
-
-@pytest.mark.xdist_group("cargo")
-def test_no_thread_in_rust(keeper, tmp_path):
-    """A run whose thread is refused ends at once, and not after its time of a minute."""
-    done = ran(keeper, tmp_path / "logs", "20", "end", timeout=30,
-               env=environment(RUST_MIN_STACK=str(2**46)))
-    assert done.stderr.startswith("Error: Start(") and done.returncode == 1

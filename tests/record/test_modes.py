@@ -1,4 +1,4 @@
-"""The header in C reports wrong modes, notes and calls, and where a lock leaves a schedule.
+"""The header in C reports wrong modes and notes, and where a lock leaves a schedule.
 
 The tables of this file have the expected messages. atomics.c and atomics.cc check the point before
 each atomic operation, in C and in C++.
@@ -26,17 +26,27 @@ WORDS = [
     *((f"-DLR_MODE{value}", NONE) for value in (
         "", "=", "=SEEDD", "=SED", "=VALEUES", "=seed", "=17", "=0", "=EXPLOER", "=NONE")),
     *((f"{mode}{option}", said) for option, modes, said in (
-        ("-DLR_NOISE", "OFF SEED FOLLOW EXPLORE", "LR_NOISE is for LR_MODE=VALUES"),
-        ("-DLR_PCT=3", "OFF VALUES FOLLOW EXPLORE", "LR_PCT is for LR_MODE=SEED"),
+        ("-DLR_NOISE", "OFF SEED FOLLOW EXPLORE",
+         "LR_NOISE is for LR_MODE=VALUES: it holds up threads that run as they like"),
+        ("-DLR_PCT=3", "OFF VALUES FOLLOW EXPLORE",
+         "LR_PCT is for LR_MODE=SEED: it is a way to draw the turns"),
         ("-DLR_PCT=0", "SEED", "LR_PCT is the depth of a mistake: LR_PCT=1 and so on"),
-        ("-DLR_STEPS=9", "OFF VALUES SEED FOLLOW EXPLORE", "LR_STEPS is for LR_PCT"),
-        ("-DLR_SPURIOUS=9", "OFF VALUES FOLLOW", "LR_SPURIOUS is for SEED and EXPLORE"),
-        ("-DLR_CHECK", "OFF VALUES", "LR_CHECK is for SEED, FOLLOW and EXPLORE"),
-        ("-DLR_PATIENCE=9", "OFF VALUES FOLLOW", "LR_PATIENCE is for SEED and EXPLORE"),
-        ("-DLR_MOVES=9", "OFF VALUES SEED FOLLOW", "LR_MOVES is for LR_MODE=EXPLORE"),
-        ("-DLR_REDUCE=0", "OFF VALUES SEED FOLLOW", "LR_REDUCE is for LR_MODE=EXPLORE"),
-        ("-DLR_MAPPED=0", "OFF SEED FOLLOW EXPLORE", "LR_MAPPED is for LR_MODE=VALUES"),
-        ("-DLR_ATOMICS=0", "OFF VALUES FOLLOW", "LR_ATOMICS is for SEED, EXPLORE, and VALUES"),
+        ("-DLR_STEPS=9", "OFF VALUES SEED FOLLOW EXPLORE",
+         "LR_STEPS is for LR_PCT: about how many turns a run has"),
+        ("-DLR_SPURIOUS=9", "OFF VALUES FOLLOW", "LR_SPURIOUS is for SEED and EXPLORE: threads are "
+         "woken for nothing, or with 0 are not"),
+        ("-DLR_CHECK", "OFF VALUES", "LR_CHECK is for SEED, FOLLOW and EXPLORE: `locktrace order` "
+         "checks what VALUES records"),
+        ("-DLR_PATIENCE=9", "OFF VALUES FOLLOW",
+         "LR_PATIENCE is for SEED and EXPLORE: after so many turns in vain a run hangs"),
+        ("-DLR_MOVES=9", "OFF VALUES SEED FOLLOW",
+         "LR_MOVES is for LR_MODE=EXPLORE: room for so many moves of a thread"),
+        ("-DLR_REDUCE=0", "OFF VALUES SEED FOLLOW", "LR_REDUCE is for LR_MODE=EXPLORE: with 0 "
+         "independent steps are made in both orders"),
+        ("-DLR_MAPPED=0", "OFF SEED FOLLOW EXPLORE",
+         "LR_MAPPED is for LR_MODE=VALUES: with 0 a run's notes are in memory alone"),
+        ("-DLR_ATOMICS=0", "OFF VALUES FOLLOW", "LR_ATOMICS is for SEED, EXPLORE, and VALUES with "
+         "LR_NOISE: points before atomic operations"),
     ) for mode in ("", *(f"-DLR_MODE={mode} " for mode in modes.split()))
       if mode or "OFF" in modes),
 ]
@@ -65,58 +75,6 @@ NOTES = [
     ("LR_SECTION(1, enters)", "an outcome is moved, waits, entered or left"),
 ]
 
-HANGS = "the run hangs: thread 1 waits for a signal; nobody has signalled"
-# The BODY of a program with a run of two threads, the modes, and the status and message due.
-CALLS = [
-    ("lr_log_of(run, 2);", "VALUES SEED", 2,
-     "there is no thread 2: the run has the threads 0 to 1"),
-    ("lr_log_of(run, (unsigned)-1);", "VALUES SEED", 2,
-     "there is no thread 4294967295: the run has the threads 0 to 1"),
-    ("twice(lr_log_of(run, 0));", "VALUES SEED", 2,
-     "thread 0 begins twice: each thread has a log of its own"),
-    ("LR_CALL(acquire);", "VALUES SEED", 2,
-     "a step is noted before lr_begin, or after lr_end, at calls.c:LINE"),
-    ("LR_SWITCH();", "SEED", 2, "a hook is called before lr_begin, or after lr_end"),
-    ("lr_end(lr_log_of(run, 1));", "VALUES SEED", 2,
-     "thread 1 ends, and has not begun or has ended before"),
-    ("return (int)lr_await(run, 0);", "VALUES SEED", 2, "0 of 2 threads have called lr_begin"),
-    ("alarm(9); start(keeps_its_turn, 2); return (int)lr_await(run, 1);", "SEED", 2,
-     "thread 1 has its turn and does not give it back: it blocks, or it has ended without "
-     "lr_end, or it polls without a note"),
-    ("start(waits_for_ever, 2); return (int)lr_await(run, 20);", "SEED", 2,
-     "the run hangs: thread 0 waits for a signal, thread 1 waits for a signal; nobody has "
-     "signalled"),
-    ("start(polls_for_ever, 2); return (int)lr_await(run, 20);", "SEED", 2,
-     "the run hangs: thread 0 polls ('read now_serving found 1' at calls.c:LINE), thread 1 polls "
-     "('read now_serving found 1' at calls.c:LINE)"),
-    ("start(wakes_one, 2); return (int)lr_await(run, 20);", "SEED", 0, ""),
-    ("start(waits_for_ever, 2); return (int)lr_await(run, 20);", "SEED -DLR_SPURIOUS=1", 0, ""),
-    ("return lr_open(\"MCS\", 1, 64, 1, 1, NULL) ? 0 : 1;", "VALUES SEED", 1,
-     "there is no lock 'MCS': ticket, mcs, rw-simple or rw-fifo"),
-    ("run->mode++; lr_begin(lr_log_of(run, 0));", "VALUES SEED", 2,
-     "LR_MODE is not the same in all files of the program"),
-    ("start(polls_without_a_note, 2); return (int)lr_await(run, 20);", "SEED", 2,
-     "the run hangs: thread 0 has noted nothing, thread 1 has noted nothing since ('acquire' at "
-     "calls.c:LINE)"),
-    # Only an even seed, or an option, wakes a thread that nobody signals.
-    *((f"run = lr_open(\"mcs\", 2, 64, 9, {seed}, NULL); start(signals_nothing, 2); "
-       "return (int)lr_await(run, 20);", f"SEED{option}", int(hangs), HANGS if hangs else "")
-      for seed, option, hangs in (
-        (1, "", True), (2, "", False), (1, " -DLR_SPURIOUS=9", False),
-        (2, " -DLR_SPURIOUS=0", True))),
-    ("run = lr_open(\"rw-fifo\", 2, 64, 9, 1, NULL); alarm(9); start(keeps_its_turn, 2); "
-     "return (int)lr_await(run, 1);", "SEED", 2,
-     "thread 1 has its turn and does not give it back: it blocks (a monitor's operations go into "
-     "LR_LOCK and LR_WAIT), or it has ended without lr_end, or it polls without a note"),
-    # A thread's first turn, the one after its first read, and those after 50 reads of the same
-    # value and one more.
-    ("run = lr_open(\"mcs\", 1, 64, 9, 1, NULL); start(polls_for_ever, 1); lr_wait_for(run, 20); "
-     "return (int)run->turns;", "SEED -DLR_PATIENCE=50", 52, ""),
-    # Whether an atomic operation passes the turn.
-    *(("run = lr_open(\"mcs\", 1, 64, 9, 1, NULL); lr_begin(lr_log_of(run, 0)); "
-       "(void)__atomic_load_n(&woken, 5); return (int)run->turns - 1;", f"SEED{option}", points, "")
-      for option, points in (("", 1), (" -DLR_ATOMICS=1", 1), (" -DLR_ATOMICS=0", 0))),
-]
 # An example, a schedule, and the message: empty if the example follows the schedule.
 HEAD = "lock mcs threads 2\n"
 IN, OUT = "0 acquire\n0 write\n0 swap\n", "0 release\n0 read\n0 cas\n"
@@ -144,6 +102,8 @@ FOLLOWED = [
     ("rw_fifo", "lock rw-fifo threads 2 bits 64\n0 rlock\n", "not of rw-fifo with 8"),
     ("ck_ticket", "lock ticket threads 2 bits 16\n0 acquire\n0 add\n1 acquire\n",
      "line 4 is '1 acquire', and thread 0 made 'read'"),
+    ("ck_ticket", "lock ticket threads 2 bits 16\n0 acquire\n1 acquire\n0 add\n1 read\n",
+     "line 5 is '1 read', and thread 0 made 'read'"),
     ("ck_ticket", "lock ticket threads 2 bits 16\n0 acquire\n0 add\n",
      "thread 0 made 'read' after the last line, at ck_ticket.c:"),
     ("mcs", f"# {'a long comment ' * 30}\n" + HEAD + IN, ""),
@@ -160,7 +120,7 @@ FOLLOWED = [
 def test_wrong_mode(words, said):
     done = ran("gcc", "-std=c11", "-fsyntax-only", *words.split(),
                TOP / "record" / "lockreplay_record.h")
-    assert done.returncode != 0 and f'#error "{said}' in done.stderr
+    assert done.returncode != 0 and f'#error "{said}"\n' in done.stderr
 
 
 NO_MODE = ("lockreplay_record: built without LR_MODE, so nothing is recorded. Begin with "
@@ -203,18 +163,6 @@ def test_words_that_are_macros(compiler, tmp_path):
     assert (done.stderr, done.returncode) == ("", 0)
 
 
-@pytest.fixture
-def called(tmp_path):
-    """Builds calls.c with a BODY in a mode, and runs it."""
-    def call(body, mode):
-        built = ran("gcc", "-std=c11", "-O1", *WARNINGS, "-Wno-unused", "-pthread",
-                    *f"-DLR_MODE={mode}".split(), f"-DBODY={body}", "-o", tmp_path / "call",
-                    HERE / "calls.c")
-        assert built.stderr == ""
-        return ran("timeout", "30", tmp_path / "call")
-    return call
-
-
 @pytest.mark.parametrize("words", [
     (0, 1, 1, "logs"), (65, 1, 1, "logs"), ("one", 1, 1, "logs"), (0, 1, "again", "run.trace"),
     (65, 1, "again", "run.trace"), (2, 1, 1), (2, 1, 1, "logs", 9, 9)], ids=str)
@@ -242,49 +190,6 @@ def test_words_of_a_program(recorder, tmp_path, mode, words, status):
     assert done.returncode == status
     count = words[0] if status == 0 and mode != "OFF" else 0
     assert len(list(tmp_path.glob("logs/*.log"))) == count
-
-
-# Each BODY in each of its modes.
-@pytest.mark.parametrize("body, mode, status, said", [
-    (body, mode, status, said) for body, modes, status, said in CALLS
-    for mode in ([modes] if " -D" in modes else modes.split())])
-def test_wrong_call(called, body, mode, status, said):
-    """The run has the seed 1, whose first number is odd: so thread 1 begins. The alarm ends a
-    program that waits for much longer than it was told to."""
-    done = called(body, mode)
-    heard = re.sub(r"calls\.c:\d+", "calls.c:LINE", done.stderr)
-    assert (heard, done.returncode) == (f"lockreplay_record: {said}\n" if said else "", status)
-
-
-@pytest.mark.parametrize("depth, due", [
-    (1, "0011 1100"), (2, "0011 0110 1001 1100"), (3, "0011 0101 0110 1001 1010 1100")])
-def test_changes_of_priority(called, depth, due):
-    """Of two threads with two steps each, LR_PCT=d interrupts a thread d - 1 times by some seed,
-    and never more often."""
-    done = called("orders(3000);", f"SEED -DLR_PCT={depth} -DLR_STEPS=9")
-    assert sorted(set(done.stdout.split())) == due.split() and done.returncode == 0
-
-
-@pytest.mark.parametrize("woken, due", [(0, {"0", "1"}), (1, {"01"})])
-def test_who_is_woken(called, woken, due):
-    """A signal wakes either of two threads, by some seed, and a broadcast wakes both."""
-    done = called(f"woken = {woken}; wakes(30);", "SEED -DLR_SPURIOUS=0")
-    assert (set(done.stdout.splitlines()), done.returncode) == (due, 0)
-
-
-@pytest.mark.parametrize("make", ["make_notes", "make_points"])
-@pytest.mark.parametrize("option, one_in", [("LR_NOISE", 8), ("LR_NOISE=40", 40)])
-def test_noise(called, option, one_in, make):
-    """One note or point in `one_in` is drawn, and a half of these are held up by a yield or a
-    sleep. Each thread has others. The bounds are six standard deviations from the mean of 8,000."""
-    done = called(f"{make}(0, 8000); {make}(1, 8000);", f"VALUES -D{option}")
-    held = [[line.split()[1:] for line in done.stdout.splitlines() if line[0] == thread]
-            for thread in "01"]
-    mean = 8000 / (2 * one_in)
-    for of in held:
-        assert abs(len(of) - mean) < 6 * mean ** 0.5, len(of)
-        assert {how for _, how in of} == {"yields", "sleeps"}
-    assert len([it for it in held[0] if it in held[1]]) < len(held[0]) / 2
 
 
 @pytest.mark.parametrize("recorder", ["c"], indirect=True)
@@ -323,18 +228,68 @@ def test_trace_of_a_schedule(tmp_path, lesson):
     assert words_of((tmp_path / "it.trace").read_text()) == words_of(text)
 
 
-def test_no_memory_for_names(tmp_path):
-    """A folder of schedules whose names have no room is not followed at all."""
-    (tmp_path / "refuses.h").write_text("#include <stdlib.h>\n"
-                                        "#define malloc(size) ((void)(size), NULL)\n")
+@pytest.mark.parametrize("refused, said", [
+    ("malloc(size) ((void)(size), NULL)", ["{}: Cannot allocate memory"]),
+    ("realloc(old, size) _Generic(old, lr_line *: NULL, default: realloc(old, size))",
+     ["{}/0.schedule: Cannot allocate memory", "{}: Invalid argument"])], ids=["names", "lines"])
+def test_no_memory_for_schedules(tmp_path, refused, said):
+    """If the names of a folder's schedules have no room, or the lines of one, none is followed."""
+    (tmp_path / "refuses.h").write_text(f"#include <stdlib.h>\n#define {refused}\n")
     assert compile_c("gcc", SOURCES / "ticket.c", tmp_path / "it", "-DLR_MODE=FOLLOW", "-include",
                      tmp_path / "refuses.h") == ""
     for number in range(3):
         (tmp_path / f"{number}.schedule").write_text("lock ticket threads 1 bits 4\n0 acquire\n")
     done = ran(tmp_path / "it", tmp_path, tmp_path)
     assert done.stdout == "0 schedules of 0 moves, 0 not followed\n"
-    assert done.stderr == f"lockreplay_record: {tmp_path}: Cannot allocate memory\n"
+    assert done.stderr == "".join(f"lockreplay_record: {it.format(tmp_path)}\n" for it in said)
     assert done.returncode == 3
+
+
+# A write lock whose holder lets others go first inside of the monitor, and signals.
+MONITOR = f"""#include "{TOP}/record/lockreplay_record.h"
+static int is_taken, is_inside, sections;
+static void comes(void) {{ LR_LOCK((void)0); if (is_inside++) _Exit(9); }}
+static void goes(void) {{ is_inside--; LR_UNLOCK((void)0); LR_SWITCH(); }}
+static void one_call(unsigned thread, int call)
+{{
+    (void)thread;
+    if (call == LR_CALL_wlock) LR_CALL(wlock); else LR_CALL(wunlock);
+    LR_SWITCH();
+    comes();
+    while (call == LR_CALL_wlock && is_taken) {{
+        LR_SECTION(++sections, waits);
+        LR_SWITCH();
+        LR_WAIT(&is_taken, is_inside--, (void)0, is_inside++);
+    }}
+    is_taken = call == LR_CALL_wlock;
+    LR_SIGNAL(&is_taken, (void)0);
+    if (is_taken) LR_SECTION(++sections, entered); else LR_SECTION(++sections, left);
+    LR_SWITCH();
+    goes();
+}}
+int main(int count, char **words)
+{{
+    const lr_driver driver = {{"rw-simple", 64, NULL, NULL, one_call}};
+    return lr_main(&driver, count, words);
+}}
+"""
+
+
+def test_schedule_of_a_monitor(tmp_path):
+    """The schedule alone says when a thread that waits looks again, and nobody has a turn in the
+    middle of a section."""
+    moves = ("0 wlock 0 section 1 wlock 1 section 2 wlock 2 section 1 section 0 wunlock 0 section "
+             "2 section 2 wunlock 1 section 2 section 1 section 1 wunlock 1 section")
+    text = "lock rw-simple threads 3\n" + re.sub(r"(\d \w+) ?", r"\1\n", moves)
+    outcomes = "entered waits waits waits left entered waits left entered left".split()
+    (tmp_path / "it.c").write_text(MONITOR)
+    (tmp_path / "it.schedule").write_text(text)
+    assert compile_c("gcc", tmp_path / "it.c", tmp_path / "it", "-DLR_MODE=FOLLOW") == ""
+    done = ran(tmp_path / "it", tmp_path, tmp_path)
+    assert (done.stdout, done.stderr) == ("1 schedules of 16 moves, 0 not followed\n", "")
+    trace = (tmp_path / "it.trace").read_text()
+    assert words_of(trace) == words_of(text)
+    assert re.findall(r"^\d section \d+ (\w+)$", trace, re.MULTILINE) == outcomes
 
 
 @pytest.mark.parametrize("recorder", ["c"], indirect=True)

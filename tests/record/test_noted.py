@@ -69,6 +69,54 @@ def test_order_in_c_plus_plus(tmp_path, compiler, mode):
     assert (done.stdout, done.returncode) == ("", 0)
 
 
+# The orders of Rust as LLVM names them, and operations that change a word.
+OF_LLVM = {"Relaxed": "monotonic", "Acquire": "acquire", "Release": "release", "AcqRel": "acq_rel",
+           "SeqCst": "seq_cst"}
+IN_LLVM = {"swap": "xchg", "fetch_add": "add", "fetch_sub": "sub", "fetch_and": "and",
+           "fetch_nand": "nand", "fetch_or": "or", "fetch_xor": "xor", "fetch_max": "umax",
+           "fetch_min": "umin"}
+PAIRS = [("Acquire", "Relaxed"), ("AcqRel", "Acquire"), ("Release", "Relaxed"),
+         ("SeqCst", "SeqCst")]
+
+
+def operations_in_rust():
+    """(the call, what LLVM makes of it) of each operation with the orders that it may have."""
+    for order in OF_LLVM:
+        if order not in ("Release", "AcqRel"):
+            yield from ((f"{name}({order})", [("load atomic", order)]) for name in ("load", "peek"))
+        if order not in ("Acquire", "AcqRel"):
+            yield f"store(7, {order})", [("store atomic", order)]
+        for name, made in IN_LLVM.items():
+            yield f"{name}(7, {order})", [(f"atomicrmw {made}", order)]
+    for pair in (f"{order}, {failed}" for order, failed in PAIRS):
+        yield f"compare_exchange(7, 8, {pair})", [("cmpxchg", pair)]
+        yield f"compare_exchange_weak(7, 8, {pair})", [("cmpxchg weak", pair)]
+        yield (f"fetch_update({pair}, |it| Some(it * 3))",
+               [("load atomic", pair.split(", ")[1]), ("cmpxchg weak", pair)])
+
+
+def test_order_in_rust(tmp_path):
+    """In a build without a record each operation has the order that is given."""
+    rows, source = list(operations_in_rust()), TOP / "record" / "rust" / "src"
+    output("cp", "-R", source, tmp_path / "src")
+    (tmp_path / "src" / "it.rs").write_text(
+        (source / "lib.rs").read_text()
+        + "pub mod it { use crate::*; use std::sync::atomic::Ordering::*;\n"
+        + "".join(f"pub fn op_{at}(it: &AtomicU32) -> (u32, impl Sized) {{ ({at}, it.{call}) }}\n"
+                  for at, (call, _) in enumerate(rows)) + "}\n")
+    assert output("/usr/bin/rustc", "--edition=2021", "-Awarnings", "-Copt-level=3",
+                  "-Ccodegen-units=1", "-Cllvm-args=-inline-threshold=100000", "--crate-type=lib",
+                  "--emit=llvm-ir", "-o", tmp_path / "it.ll", tmp_path / "src" / "it.rs") == ""
+    orders = "|".join(OF_LLVM.values())
+    made = {int(at): re.findall(rf"\b(\w+ atomic|atomicrmw \w+|cmpxchg weak|cmpxchg) .*? "
+                                rf"((?:{orders})(?: (?:{orders}))?), align", code)
+            for at, code in re.findall(r"(?s)^; it::it::op_(\d+)\n(.*?)\n}$",
+                                       (tmp_path / "it.ll").read_text(), re.MULTILINE)}
+    due = [[(name, re.sub(r"(\w+),?", lambda order: OF_LLVM[order[1]], given))
+            for name, given in parts] for _, parts in rows]
+    assert [made[at] for at in range(len(rows))] == due
+
+
 def named(form, names):
     return [form.format(name) for name in names.split()]
 
@@ -111,6 +159,20 @@ def test_operation_after_its_point(tmp_path, compiler, mode):
     made = [re.findall(r"(__\w+)\(lr_p((?:, [^()]*)?)\);", it)
             for it in text.split("THE POINT OF")[1:]]
     assert made == [[(name, left)] for name, _, left in calls]
+
+
+@pytest.mark.parametrize("compiler", ["gcc", "clang"])
+def test_value_that_does_not_fit(tmp_path, compiler):
+    """A note has what is in the word, and not what was to be stored there."""
+    notes = ("static _Atomic unsigned char word; static _Atomic _Bool flag; int wide = 258; "
+             "lr_store(&word, wide - 1, LR_TAIL); lr_exchange(&word, wide, LR_TAIL); "
+             "lr_load(&word, LR_TAIL); lr_store(&flag, wide, LR_LOCKED); lr_load(&flag, LR_LOCKED)")
+    assert compile_c(compiler, HERE / "notes.c", tmp_path / "it", "-DLR_MODE=VALUES",
+                     "-Wno-unused-value", '-DLOCK="mcs"', f"-DNOTES={notes}") == ""
+    assert ran(tmp_path / "it", 1, 1, 1, tmp_path / "logs").stderr == ""
+    assert (tmp_path / "logs" / "thread-0.log").read_text().splitlines()[2:] == [
+        "write tail left 1", "swap tail found 1", "read tail found 2",
+        "write locked of 255 left 1", "read locked of 255 found 1", "dropped 0"]
 
 
 @pytest.mark.parametrize("compiler", ["gcc", "g++"])

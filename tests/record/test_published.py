@@ -60,6 +60,7 @@ BY_TEXT = [
 # A lock, what its two threads note, the fault and the message.
 TAKE = "LR_CALL(acquire); LR_WRITE(next, 0); LR_SWAP(tail, thread); "
 QUEUE = f"{TAKE} if (thread) {{ LR_WRITE(locked, 1); LR_WRITE_OF(next, WHOSE, 2); }}"
+STEPS = ("LR_WRITE(next, 0)", "LR_SWAP(tail, 1)", "LR_WRITE(locked, 1)", "LR_WRITE_OF(next, 0, 2)")
 NOBODYS = r"no thread has this record \(lr_own_record says whose it is\)"
 BY_NOTES = [
     *(("rw-simple", "if (!thread) { LR_CALL(wlock); LR_SECTION(1, entered); return; } "
@@ -86,6 +87,21 @@ BY_NOTES = [
      "the published lock has 0: a pointer is noted as LR_RECORD gives it"),
     ("mcs", f"{TAKE} LR_CALL(release); LR_READ(next, 256)", "FoundOther",
      f"the published lock has 0: {NOBODYS}"),
+    # Thread 1 queues behind thread 0, and makes another step in place of each of its own in turn.
+    *(("mcs", f"if (!thread) {{ {TAKE} return; }} LR_CALL(acquire); {'; '.join(STEPS[:count])}; "
+       "LR_CAS(tail, 1)", "WrongStep", f"the published lock's next step is '{due}'")
+      for count, due in enumerate((
+          "write next left 0", "swap tail found 1", "write locked left 1", "write next of 0 left 2",
+          "read locked found 1"))),
+    ("ticket", "LR_CALL(acquire); LR_ADD(next_ticket, 0); LR_READ(now_serving, 0); "
+     "LR_CALL(release); LR_READ(now_serving, 0); LR_READ(now_serving, 0)", "WrongStep",
+     "the published lock's next step is 'write now_serving left 1'"),
+    *((lock, f"LR_CALL(rlock); LR_SECTION(1, entered); LR_CALL({call}); LR_READ(tail, 0)",
+       "WrongLock", f"the published lock's next step is 'section {due}'")
+      for lock, call, due in (("rw-simple", "runlock", "left"), ("rw-fifo", "runlock", "left"))),
+    *((lock, "if (thread) { LR_CALL(wlock); LR_READ(tail, 0); } LR_CALL(rlock); "
+       "LR_SECTION(1, entered)", "WrongLock", f"the published lock's next step is 'section {due}'")
+      for lock, due in (("rw-simple", "waits"), ("rw-fifo", "moved"))),
 ]
 OF_RUST = {
     "links-before-locked": ("OtherWord", "the published lock's step is on 'locked of 2'"),

@@ -11,7 +11,7 @@ import pytest
 from mistakes import IN_RUST
 from recorders import SOURCES, compile_c
 from test_planted import EXPLORED, MISTAKES, build
-from tree import PATIENCE, TOP, ran
+from tree import PATIENCE, TOP, environment, ran
 
 MOST = 10000  # the most runs of a search
 # At each turn of a run a thread waits for a processor, which is long on a busy machine.
@@ -90,6 +90,76 @@ def test_right_lock_in_c(library, tmp_path, example):
                          f"-DLR_REDUCE={reduces}", library=library) == ""
         done = ran(program, *EXPLORED, tmp_path / "logs", MOST, timeout=LONG)
         assert done.stdout == f"{runs} runs with up to 2 preemptions, all of them accepted\n"
+
+
+# Each operation is on a word of the thread's own, and what the lock does has no point.
+OWN_WORDS = """#include <stdatomic.h>
+#undef atomic_load
+#undef atomic_store
+#undef atomic_exchange
+#undef atomic_fetch_add
+#undef atomic_compare_exchange_strong
+static int own_words[64];
+#define LOOK() (void)__atomic_load_n(&own_words[lr_thread()], 5)
+#define atomic_load(p) (LOOK(), *(p))
+#define atomic_store(p, v) (LOOK(), *(p) = (v))
+#define atomic_exchange(p, v) \\
+    __extension__({ LOOK(); __typeof__(v) found = *(p); *(p) = (v); found; })
+#define atomic_fetch_add(p, v) (LOOK(), (*(p) += (v)) - (v))
+#define atomic_compare_exchange_strong(p, e, d) (LOOK(), *(p) == *(e) ? (*(p) = (d), 1) : 0)
+"""
+
+
+@pytest.mark.slow
+@pytest.mark.parametrize("example", ["mcs", "ticket"])
+def test_steps_on_other_words(library, tmp_path, example):
+    """Steps are dependent by the words of their notes alone, so there are as many runs."""
+    (tmp_path / "own.h").write_text(OWN_WORDS)
+    assert compile_c("gcc", SOURCES / f"{example}.c", tmp_path / "it", "-DLR_MODE=EXPLORE",
+                     "-include", tmp_path / "own.h", "-Wno-unused-value", library=library) == ""
+    done = ran(tmp_path / "it", *EXPLORED, tmp_path / "logs", MOST, timeout=LONG)
+    runs = RUNS_IN_C[example][1]
+    assert done.stdout == f"{runs} runs with up to 2 preemptions, all of them accepted\n"
+
+
+LOADS = ["__atomic_load_n(word, 5)", "__atomic_load(word, &own, 5)"]
+CHANGES = [
+    "__atomic_store_n(word, 1, 5)", "__atomic_store(word, &own, 5)",
+    "__atomic_exchange_n(word, 1, 5)", "__atomic_exchange(word, &own, &other, 5)",
+    "__atomic_compare_exchange_n(word, &own, 1, 0, 5, 5)",
+    "__atomic_compare_exchange(word, &own, &other, 0, 5, 5)",
+    "__atomic_fetch_add(word, 1, 5)", "__atomic_test_and_set(word, 5)",
+    "__sync_fetch_and_add(word, 1)", "__sync_val_compare_and_swap(word, 0, 1)",
+    "__sync_lock_release(word)",
+]
+# Two threads make an operation twice, on one word or each on a word of its own beside it.
+TWICE = f"""#include <stdlib.h>
+#include "{TOP}/record/lockreplay_record.h"
+static char words[2];
+static void one_round(unsigned thread, unsigned round)
+{{
+    char *word = &words[getenv("APART") ? thread : 0], own = 0, other = 0;
+    for (int i = 0; i < 2; i++) (void)OPERATION;
+    (void)own, (void)other, (void)round;
+}}
+int main(int count, char **words)
+{{
+    const lr_driver driver = {{"mcs", 64, NULL, one_round, NULL}};
+    return lr_main(&driver, count, words);
+}}
+"""
+
+
+@pytest.mark.slow
+@pytest.mark.parametrize("operation", LOADS + CHANGES)
+def test_words_beside_one_another(library, tmp_path, operation):
+    """If the steps are independent, the two orders of the threads are enough."""
+    (tmp_path / "it.c").write_text(TWICE)
+    assert compile_c("gcc", tmp_path / "it.c", tmp_path / "it", "-DLR_MODE=EXPLORE",
+                     f"-DOPERATION={operation}", library=library) == ""
+    for apart, is_enough in ({}, operation in LOADS), ({"APART": "1"}, True):
+        done = ran(tmp_path / "it", 2, 1, 9, tmp_path / "logs", env=environment(**apart))
+        assert (said_by(done)[0] == 2) == is_enough, (apart, done.stdout)
 
 
 @pytest.mark.slow

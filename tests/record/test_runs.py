@@ -8,8 +8,9 @@ no order.
 import pytest
 
 from mistakes import IN_C, IN_RUST
-from recorders import RECORDERS, schedule_of
+from recorders import RECORDERS, SOURCES, compile_c, schedule_of
 from signs import moves_of
+from tree import ran
 
 pytestmark = pytest.mark.slow
 
@@ -52,6 +53,16 @@ def test_right_lock_by_priorities(recorder, judge, tmp_path, example):
     found = [waits(recorder, judge, tmp_path / str(seed), example, "pct", seed)
              for seed in recorder.runs["pct"][2]]
     assert any(found)
+
+
+@pytest.mark.parametrize("example", RECORDERS["c"].examples)
+def test_right_lock_in_c_by_priorities(library, tmp_path, example):
+    """Whoever has the greatest priority waits for others, and is passed over meanwhile."""
+    assert compile_c("gcc", SOURCES / f"{example}.c", tmp_path / "it", "-DLR_MODE=SEED",
+                     "-DLR_PCT=3", "-DLR_STEPS=150", "-DLR_CHECK", library=library) == ""
+    for seed in range(1, 21):
+        done = ran(tmp_path / "it", 3, 9, seed, tmp_path / "logs")
+        assert (done.stderr, done.returncode) == ("", 0), seed
 
 
 @pytest.mark.parametrize("recorder, example", EXAMPLES, indirect=["recorder"])

@@ -36,15 +36,12 @@ impl Records {
     /// Makes this the thread's record. Returns whether it had another one.
     pub(crate) fn set<T: ?Sized>(&self, thread: usize, record: &T) -> bool {
         let first = (record as *const T).cast::<u8>() as usize;
-        let own = self.0.get(thread).map(|extent| (extent, extent.first.load(Ordering::Relaxed)));
-        match own {
-            Some((extent, before)) if before != first => {
-                extent.length.store(std::mem::size_of_val(record).max(1), Ordering::Relaxed);
-                extent.first.store(first, Ordering::Relaxed);
-                before != 0
-            }
-            _ => false,
-        }
+        self.0.get(thread).map_or(false, |extent| {
+            let before = extent.first.load(Ordering::Relaxed);
+            extent.length.store(std::mem::size_of_val(record).max(1), Ordering::Relaxed);
+            extent.first.store(first, Ordering::Relaxed);
+            before != 0 && before != first
+        })
     }
 
     /// The thread in whose record an address is. The record of `own` is looked at first.

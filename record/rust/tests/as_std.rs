@@ -109,6 +109,8 @@ macro_rules! as_std {
                 *mutex.lock().unwrap() += 1;
                 let held = mutex.lock().unwrap();
                 assert!(matches!(mutex.try_lock(), Err(TryLockError::WouldBlock)));
+                assert!(!mutex.is_poisoned());
+                assert_eq!(format!("{held:?}"), "2");
                 drop(held);
                 assert_eq!(*mutex.try_lock().unwrap(), 2);
                 *mutex.get_mut().unwrap() = 5;
@@ -120,7 +122,7 @@ macro_rules! as_std {
 
             #[test]
             fn of_a_panic() {
-                let mutex = Mutex::new(1);
+                let mut mutex = Mutex::new(1);
                 let panicked = thread::scope(|scope| {
                     let holds = || {
                         let _held = mutex.lock().unwrap();
@@ -131,6 +133,31 @@ macro_rules! as_std {
                 assert!(panicked && mutex.is_poisoned());
                 assert!(matches!(mutex.try_lock(), Err(TryLockError::Poisoned(_))));
                 assert_eq!(*mutex.lock().unwrap_or_else(PoisonError::into_inner), 1);
+                assert_eq!(*mutex.get_mut().unwrap_err().into_inner(), 1);
+                assert_eq!(mutex.into_inner().unwrap_err().into_inner(), 1);
+            }
+
+            /// The thread for which another one waits panics in the monitor.
+            #[test]
+            fn of_a_panic_during_a_wait() {
+                let (open, changed) = (Mutex::new(false), Condvar::new());
+                let panics = || {
+                    let mut held = open.lock().unwrap();
+                    *held = true;
+                    changed.notify_all();
+                    panic!("a panic of this test");
+                };
+                thread::scope(|scope| {
+                    let mut held = open.lock().unwrap();
+                    let panicking = scope.spawn(panics);
+                    let poisoned = loop {
+                        match changed.wait(held) {
+                            Ok(again) if !*again => held = again,
+                            other => break other.unwrap_err(),
+                        }
+                    };
+                    assert!(*poisoned.into_inner() && panicking.join().is_err());
+                });
             }
 
             #[test]
@@ -146,8 +173,42 @@ macro_rules! as_std {
                     changed.notify_one();
                 });
             }
+
+            /// A thread that waits for a mutex or a condition takes no time of a processor.
+            #[test]
+            #[cfg(target_os = "linux")]
+            fn of_a_wait() {
+                let (open, changed) = (Mutex::new(false), Condvar::new());
+                let held = open.lock().unwrap();
+                thread::scope(|scope| {
+                    let waits = || {
+                        let mut held = open.lock().unwrap();
+                        while !*held {
+                            held = changed.wait(held).unwrap();
+                        }
+                        crate::time_of_a_processor()
+                    };
+                    let waiter = scope.spawn(waits);
+                    thread::sleep(crate::PAUSE);
+                    drop(held);
+                    thread::sleep(crate::PAUSE);
+                    *open.lock().unwrap() = true;
+                    changed.notify_one();
+                    assert!(waiter.join().unwrap() < crate::PAUSE / 4);
+                });
+            }
         }
     };
+}
+
+#[cfg(target_os = "linux")]
+const PAUSE: std::time::Duration = std::time::Duration::from_millis(400);
+
+/// What the calling thread has had until now: the system counts it in nanoseconds.
+#[cfg(target_os = "linux")]
+fn time_of_a_processor() -> std::time::Duration {
+    let text = std::fs::read_to_string("/proc/thread-self/schedstat").unwrap();
+    std::time::Duration::from_nanos(text.split(' ').next().unwrap().parse().unwrap())
 }
 
 as_std!(of_the_standard_library, std::sync::atomic, std::sync);

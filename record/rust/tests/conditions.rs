@@ -2,7 +2,9 @@
 // SPDX-License-Identifier: Apache-2.0 OR MIT
 #![cfg(feature = "record")]
 
+use std::panic::{catch_unwind, AssertUnwindSafe};
 use std::sync::atomic::{AtomicUsize, Ordering::SeqCst};
+use std::sync::TryLockError;
 use std::thread;
 use std::time::Duration;
 
@@ -79,8 +81,17 @@ fn sections_that_wait_are_no_progress() -> Result<(), Error> {
     Ok(())
 }
 
+/// Takes the mutex once more when it is dropped, as a lock does that is given back.
+struct TakesAgain<'a>(&'a Mutex<()>);
+
+impl Drop for TakesAgain<'_> {
+    fn drop(&mut self) {
+        drop(self.0.lock().unwrap());
+    }
+}
+
 /// Thread 0 polls in the monitor until it is stopped. Thread 1 then gets the mutex, and hears of no
-/// panic.
+/// panic; nor does a thread that unwinds.
 #[test]
 fn a_thread_that_is_stopped_poisons_nothing() -> Result<(), Error> {
     let (mutex, has_it) = (Mutex::new(()), AtomicBool::new(false));
@@ -89,6 +100,7 @@ fn a_thread_that_is_stopped_poisons_nothing() -> Result<(), Error> {
         while log.thread() == 1 && !has_it.load(SeqCst) {
             thread::yield_now();
         }
+        let _again = (log.thread() == 0).then(|| TakesAgain(&mutex));
         let _held = mutex.lock().unwrap();
         has_it.store(true, SeqCst);
         while has_it.load(SeqCst) {
@@ -96,6 +108,26 @@ fn a_thread_that_is_stopped_poisons_nothing() -> Result<(), Error> {
         }
     })?;
     assert_eq!(ending, Ending::Stopped(vec![0, 1]));
+    Ok(())
+}
+
+/// A thread that panics in the monitor, and catches that, poisons it as one outside of a run does.
+#[test]
+fn a_panic_in_the_monitor_is_heard_of() -> Result<(), Error> {
+    for mode in [Mode::Seed(1), Mode::Ordered, Mode::Free] {
+        let mutex = Mutex::new(());
+        let run = Run::of(Lock::RwSimple, 1).mode(mode).open()?;
+        let ending = run.threads(LIMIT, |_| {
+            let panics = || {
+                let _held = mutex.lock().unwrap();
+                panic!("a panic of this test");
+            };
+            assert!(catch_unwind(AssertUnwindSafe(panics)).is_err());
+            assert!(matches!(mutex.try_lock(), Err(TryLockError::Poisoned(_))));
+            assert!(mutex.lock().is_err() && mutex.is_poisoned());
+        })?;
+        assert_eq!(ending, Ending::Complete);
+    }
     Ok(())
 }
 
@@ -181,7 +213,8 @@ fn waits_once(seed: u64, spurious: usize) -> Result<(bool, String), Error> {
 fn a_wait_without_a_second_look_is_seen_by_a_wake_for_nothing() -> Result<(), Error> {
     let mut missed = 0;
     for seed in 0..20 {
-        assert!(waits_once(seed, 0)?.0);
+        let (has_seen, trace) = waits_once(seed, 0)?;
+        assert!(has_seen && trace.contains(&format!("# seed {seed}\n# spurious 0\nlock ")));
         let (has_seen, trace) = waits_once(seed, 2)?;
         assert_eq!(waits_once(seed, 2)?, (has_seen, trace.clone()));
         let header = format!("# seed {seed}\n# spurious 2\nlock rw-simple threads 2 bits 64\n");

@@ -6,7 +6,8 @@ use std::sync::atomic::{AtomicUsize, Ordering::SeqCst};
 use std::time::Duration;
 
 use lockreplay_record::{
-    AtomicBool, AtomicU8, Condvar, Ending, Error, Lock, Mutex, Run, RunBuilder, Word,
+    note, operation, own_record, AtomicBool, AtomicPtr, AtomicU8, Condvar, Ending, Error, Lock,
+    Mode, Mutex, Run, RunBuilder, Step, Word,
 };
 
 const LIMIT: Duration = Duration::from_secs(60);
@@ -47,6 +48,150 @@ fn each_run_comes_once_and_those_with_fewer_preemptions_first() -> Result<(), Er
     Ok(())
 }
 
+/// The orders in which two threads can make two steps each: whose each move is.
+const ALL: [&str; 6] = ["0011", "0101", "0110", "1001", "1010", "1100"];
+
+/// Those in which they make these steps.
+fn orders(setup: RunBuilder, work: impl Fn(&[AtomicU8; 2], usize) + Sync) -> Vec<String> {
+    let mut found = Vec::new();
+    for run in setup.explore(9) {
+        let (run, atomics) = (run.unwrap(), [AtomicU8::new(0), AtomicU8::new(0)]);
+        let twice = |thread| (0..2).for_each(|_| work(&atomics, thread));
+        assert_eq!(run.threads(LIMIT, |log| twice(log.thread())).unwrap(), Ending::Complete);
+        let trace = run.trace().unwrap();
+        found.push(trace.lines().skip(2).map(|line| &line[..1]).collect());
+    }
+    found.sort_unstable();
+    found
+}
+
+/// Steps of two threads are made in each order if they are on one atomic or note one word, and one
+/// of them may change it. Else one order is enough, unless all are asked for.
+#[test]
+fn steps_that_are_made_in_each_order() {
+    let (next, own) = (Step::write(Word::Next, 0), Step::write(Word::Locked, 0));
+    let rows = [
+        ([next, next], [0, 1], true, false),
+        ([next, next.of(0)], [0, 1], true, true),
+        ([next.of(1), next.of(0)], [0, 1], true, false),
+        ([next.of(1), next], [0, 1], true, true),
+        ([next, own.of(0)], [0, 1], true, false),
+        ([Step::swap(Word::Tail, 0), Step::cas(Word::Tail, true)], [0, 1], true, true),
+        ([Step::read(Word::Tail, 0), Step::cas(Word::Tail, true)], [0, 1], false, true),
+        ([Step::read(Word::Tail, 0), Step::read(Word::Tail, 0)], [0, 1], false, false),
+        ([Step::read(Word::Tail, 0), Step::read(Word::Tail, 0)], [0, 0], false, false),
+        ([Step::read(Word::Tail, 0), Step::read(Word::Tail, 0)], [0, 0], true, true),
+        ([next, next], [1, 1], true, true),
+        ([next, next], [1, 1], false, true),
+    ];
+    for (steps, on, changes, are_all) in rows {
+        for reduces in [true, false] {
+            let setup = Run::of(Lock::Mcs, 2).reduced(reduces);
+            let found = orders(setup, |atomics, thread| {
+                operation(|| {
+                    let atomic = &atomics[on[thread]];
+                    if changes {
+                        atomic.fetch_add(1, SeqCst);
+                    } else {
+                        atomic.load(SeqCst);
+                    }
+                    note(steps[thread]);
+                });
+            });
+            let due = if are_all || !reduces { &ALL[..] } else { &["0011", "1100"] };
+            assert_eq!(found, due, "{steps:?} on {on:?}");
+        }
+    }
+}
+
+/// Each operation but a load may change its atomic, also where it is not noted.
+#[test]
+fn each_operation_may_change_its_atomic() {
+    type Operation = fn(&AtomicU8) -> u8;
+    let rows: [(Operation, bool); 13] = [
+        (|it| it.load(SeqCst), false),
+        (|it| it.peek(SeqCst), false),
+        (|it| it.swap(1, SeqCst), true),
+        (|it| it.compare_exchange(0, 1, SeqCst, SeqCst).unwrap_or(1), true),
+        (|it| it.compare_exchange_weak(0, 1, SeqCst, SeqCst).unwrap_or(1), true),
+        (|it| it.fetch_add(1, SeqCst), true),
+        (|it| it.fetch_sub(1, SeqCst), true),
+        (|it| it.fetch_and(1, SeqCst), true),
+        (|it| it.fetch_nand(1, SeqCst), true),
+        (|it| it.fetch_or(1, SeqCst), true),
+        (|it| it.fetch_xor(1, SeqCst), true),
+        (|it| it.fetch_max(1, SeqCst), true),
+        (|it| (it.store(1, SeqCst), 1).1, true),
+    ];
+    for (at, (make, changes)) in rows.into_iter().enumerate() {
+        let found = orders(Run::of(Lock::Mcs, 2), |[atomic, _], _| {
+            operation(|| {
+                make(atomic);
+                note(Step::read(Word::Tail, 0));
+            });
+        });
+        assert_eq!(found, if changes { &ALL[..] } else { &["0011", "1100"] }, "row {at}");
+    }
+}
+
+/// A step without an atomic may touch anything.
+#[test]
+fn notes_alone_are_made_in_each_order() {
+    let words = [Word::NextTicket, Word::NowServing];
+    let note_alone = |_: &_, thread: usize| operation(|| note(Step::write(words[thread], 0)));
+    let found = orders(Run::of(Lock::Ticket, 2), note_alone);
+    assert_eq!(found, ALL);
+}
+
+/// Thread 0 sets a flag for a moment. Thread 1 looks at it without a step of its own.
+#[test]
+fn a_peek_is_seen() -> Result<(), Error> {
+    let mut seen = Vec::new();
+    for run in Run::of(Lock::Ticket, 2).explore(1) {
+        let (flag, other) = (AtomicBool::new(false), AtomicBool::new(false));
+        let is_seen = AtomicUsize::new(0);
+        run?.threads(LIMIT, |log| {
+            if log.thread() == 0 {
+                flag.store(true, SeqCst);
+                flag.store(false, SeqCst);
+            } else {
+                other.load(SeqCst);
+                is_seen.fetch_add(usize::from(flag.peek(SeqCst)), SeqCst);
+            }
+        })?;
+        seen.push(is_seen.into_inner());
+    }
+    assert!(seen.contains(&1), "{seen:?}");
+    Ok(())
+}
+
+/// Thread 0 has another record after its step. Thread 1 notes a pointer to the first one, which is
+/// nobody's before and afterwards.
+#[test]
+fn a_record_that_changes_is_seen() -> Result<(), Error> {
+    let records = [0_u8, 1];
+    let mut found = Vec::new();
+    for run in Run::of(Lock::Mcs, 2).explore(1) {
+        let (run, other) = (run?, AtomicU8::new(0));
+        let tail = AtomicPtr::new(std::ptr::null_mut()).noted(Word::Tail);
+        run.threads(LIMIT, |log| {
+            if log.thread() == 0 {
+                for record in &records {
+                    other.load(SeqCst);
+                    own_record(record);
+                }
+            } else {
+                tail.store(&records[0] as *const u8 as *mut u8, SeqCst);
+            }
+        })?;
+        found.push(run.trace()?.lines().last().unwrap_or("").to_owned());
+    }
+    found.sort_unstable();
+    found.dedup();
+    assert_eq!(found, ["1 write tail left 1", "1 write tail left 256"]);
+    Ok(())
+}
+
 /// A thread that waits is passed over until the other one has done what it waits for, so each run
 /// ends. If nobody does it, no run does.
 #[test]
@@ -69,27 +214,40 @@ fn a_poll_in_vain_is_passed_over() -> Result<(), Error> {
     Ok(())
 }
 
-/// Thread 0 has looked twice in vain, and gets on as soon as the other one has made a step: it adds
+/// Thread 0 looks until thread 1 has opened. Whether it looked twice in vain, and nevertheless adds
 /// before thread 1 does.
+fn is_freed(run: &Run) -> Result<bool, Error> {
+    let (looks, open) = (AtomicUsize::new(0), AtomicBool::new(false));
+    let word = AtomicU8::new(0).noted(Word::NextTicket);
+    let ending = run.threads(LIMIT, |log| {
+        if log.thread() == 0 {
+            while !open.load(SeqCst) {
+                looks.fetch_add(1, SeqCst);
+            }
+        } else {
+            open.store(true, SeqCst);
+        }
+        word.fetch_add(1, SeqCst);
+    })?;
+    assert_eq!(ending, Ending::Complete);
+    Ok(looks.into_inner() == 2 && run.trace()?.contains("\n0 add next_ticket found 0"))
+}
+
+/// Who has looked twice in vain gets on as soon as the other one has made a step. The first look
+/// after it is not in vain.
 #[test]
 fn a_step_frees_those_who_polled_in_vain() -> Result<(), Error> {
-    let mut is_found = false;
-    for run in Run::of(Lock::Ticket, 2).explore(1) {
-        let (run, looks, open) = (run?, AtomicUsize::new(0), AtomicBool::new(false));
-        let word = AtomicU8::new(0).noted(Word::NextTicket);
-        run.threads(LIMIT, |log| {
-            if log.thread() == 0 {
-                while !open.load(SeqCst) {
-                    looks.fetch_add(1, SeqCst);
-                }
-            } else {
-                open.store(true, SeqCst);
-            }
-            word.fetch_add(1, SeqCst);
-        })?;
-        is_found |= looks.into_inner() == 2 && run.trace()?.contains("\n0 add next_ticket found 0");
+    for reduces in [true, false] {
+        let runs = Run::of(Lock::Ticket, 2).reduced(reduces).explore(1);
+        let freed = runs.map(|run| is_freed(&run?)).collect::<Result<Vec<bool>, Error>>()?;
+        assert!(freed.contains(&true), "{reduces}");
     }
-    assert!(is_found);
+    let by_priorities = |seed| -> Result<bool, Error> {
+        let mode = Mode::Pct { seed, depth: 1, steps: 9 };
+        is_freed(&Run::of(Lock::Ticket, 2).mode(mode).open()?)
+    };
+    let freed = (0..20).map(by_priorities).collect::<Result<Vec<bool>, Error>>()?;
+    assert!(freed.contains(&true) && freed.contains(&false));
     Ok(())
 }
 
@@ -186,23 +344,29 @@ fn wakes_for_nothing_are_explored() -> Result<(), Error> {
     Ok(())
 }
 
-/// Threads that do less in each later run: a choice that is due does not come up.
+/// In the first run each thread makes three stores, and then thread 0 none and the others six. Of
+/// two threads a choice that is due does not come up, of three it is not possible.
 #[test]
 fn a_driver_that_changes_is_noticed() -> Result<(), Error> {
-    let runs = AtomicUsize::new(0);
-    let mut explored = Run::of(Lock::Ticket, 2).explore(1);
-    let said = loop {
-        match explored.next().expect("it is noticed before the end") {
-            Err(error) => break error.to_string(),
-            Ok(run) => {
-                let word = AtomicU8::new(0);
-                let steps = 3_usize.saturating_sub(runs.fetch_add(1, SeqCst));
-                run.threads(LIMIT, |_| (0..steps).for_each(|_| word.store(1, SeqCst)))?;
+    for threads in [2, 3] {
+        let mut runs = 0;
+        let mut explored = Run::of(Lock::Ticket, threads).explore(1);
+        let said = loop {
+            match explored.next().expect("it is noticed before the end") {
+                Err(error) => break error.to_string(),
+                Ok(run) => {
+                    let word = AtomicU8::new(0);
+                    let stores = if runs == 0 { [3; 3] } else { [0, 6, 6] };
+                    let made =
+                        |thread: usize| (0..stores[thread]).for_each(|_| word.store(1, SeqCst));
+                    run.threads(LIMIT, |log| made(log.thread()))?;
+                    runs += 1;
+                }
             }
-        }
-    };
-    assert_eq!(said, "the driver does not do the same after the same turns");
-    assert!(explored.next().is_none());
+        };
+        assert_eq!(said, "the driver does not do the same after the same turns");
+        assert!(explored.next().is_none());
+    }
     Ok(())
 }
 

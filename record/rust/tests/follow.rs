@@ -70,6 +70,17 @@ fn a_schedule_may_end_in_a_call() -> Result<(), Error> {
     Ok(())
 }
 
+/// After the last line a thread comes to its end, though it makes an operation between calls.
+#[test]
+fn an_operation_after_the_last_call_is_made() -> Result<(), Error> {
+    let said = departure(TAKEN, |lock, log| {
+        make_calls(lock, log);
+        operation(|| lock.next_ticket.peek(SeqCst));
+    })?;
+    assert_eq!(said, "Complete");
+    Ok(())
+}
+
 #[test]
 fn another_move_ends_the_run() -> Result<(), Error> {
     let rows = [
@@ -186,6 +197,24 @@ fn a_section_is_a_turn() -> Result<(), Error> {
     Ok(())
 }
 
+/// A thread whose last section was its schedule's last line leaves the monitor, whatever it does
+/// there.
+#[test]
+fn a_monitor_is_left_after_the_last_line() -> Result<(), Error> {
+    let state = Mutex::new(());
+    let text = "lock rw-simple threads 2 bits 8\n0 rlock\n0 section\n1 rlock\n1 section\n";
+    let (ending, _) = follow(text, |log| {
+        while let Some(due) = log.next_call() {
+            let _call = call(due);
+            let mut held = state.lock().unwrap();
+            held.note(Outcome::Entered);
+            operation(|| ());
+        }
+    })?;
+    assert_eq!(ending, Ending::Complete);
+    Ok(())
+}
+
 #[test]
 fn a_schedule_says_whose_it_is() -> Result<(), Error> {
     for (bits, due) in [("", None), (" bits 8", Some(8))] {
@@ -215,6 +244,14 @@ fn a_text_that_is_no_schedule_is_refused() {
         ("lock clh threads 2\n", 1),
         ("lock mcs threads 0\n", 1),
         ("lock ticket threads 4 bits 2\n", 1),
+        ("lock mcs threads 65\n", 1),
+        ("lock mcs threads 2 bits\n", 1),
+        ("lock mcs threads 2 bits x\n", 1),
+        ("lock mcs threads 2 bits 65\n", 1),
+        ("lock mcs threads 2 bits 8 or 9\n", 1),
+        ("lock mcs threads 2 or 3\n", 1),
+        ("lock mcs threads two\n", 1),
+        ("lock mcs threads 2\nlock mcs threads 2\n", 2),
         ("lock mcs threads 2\n2 acquire\n", 2),
         ("\nlock mcs threads 2\n0 acquire\n0 aquire\n", 4),
         ("lock mcs threads 2\n0\n", 2),

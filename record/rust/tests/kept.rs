@@ -61,7 +61,7 @@ fn kept_logs_are_those_that_are_saved() -> Result<(), Error> {
 fn a_stopped_thread_leaves_its_lines() -> Result<(), Error> {
     let kept = folder("stopped");
     let (run, lock) = (kept_in(&kept)?, TicketLock::new());
-    let ending = run.threads(Duration::from_millis(500), |_log| lock.make(Call::Acquire))?;
+    let ending = run.threads(Duration::from_secs(2), |_log| lock.make(Call::Acquire))?;
     assert!(matches!(ending, Ending::Stopped(missing) if missing.len() == 1));
     let waited = "acquire\nadd next_ticket found 1 left 2\nread now_serving found 0\n\
                   read now_serving found 0\n";
@@ -94,5 +94,18 @@ fn a_run_may_be_saved_where_it_is_kept() -> Result<(), Error> {
     run.save(&kept)?;
     assert!(logs(&kept).iter().all(|log| log.ends_with("\ndropped 0\n")));
     fs::remove_dir_all(kept).expect("nobody uses it");
+    Ok(())
+}
+
+/// No file can be made there, and the error names the first one.
+#[test]
+#[cfg(target_os = "linux")]
+fn a_file_that_cannot_be_made_is_named() -> Result<(), Error> {
+    let saved = Run::of(Lock::Mcs, 1).open()?.save("/proc/self");
+    let kept = kept_in(Path::new("/proc/self")).map(drop);
+    for result in [saved, kept] {
+        let said = result.expect_err("no file can be made there").to_string();
+        assert_eq!(said, "/proc/self/thread-0.log: No such file or directory (os error 2)");
+    }
     Ok(())
 }

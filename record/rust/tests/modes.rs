@@ -8,12 +8,12 @@ mod ticket;
 use std::env;
 use std::process::Command;
 use std::sync::atomic::Ordering::SeqCst;
-use std::sync::Mutex;
+use std::sync::mpsc;
 use std::thread;
 use std::time::{Duration, Instant};
 
 use lockreplay_record::{
-    operation, switch, AtomicBool, AtomicU8, Call, Ending, Error, Lock, Mode, Run, Word,
+    operation, switch, AtomicBool, AtomicU8, Call, Ending, Error, Lock, Log, Mode, Run, Word,
 };
 use ticket::TicketLock;
 
@@ -111,23 +111,33 @@ fn few_changes_of_priority_are_enough() -> Result<(), Error> {
     Ok(())
 }
 
-/// Without a change the thread goes first that has the greatest priority. Each has it by some seed.
+/// Without a change the thread goes first that has the greatest priority, and each has it by some
+/// seed. A change comes at one of the first `steps` turns. The first turn has nobody to interrupt,
+/// the second one comes before the first step, and the third one between a thread's two steps.
 #[test]
 fn priorities_are_drawn() -> Result<(), Error> {
-    let orders = (0..40).map(|seed| -> Result<String, Error> {
-        let word = AtomicU8::new(0).noted(Word::NextTicket);
-        let mode = Mode::Pct { seed, depth: 1, steps: 12 };
-        let run = Run::of(Lock::Ticket, 3).bits(8).room(2).mode(mode).open()?;
-        run.threads(LIMIT, |_| {
-            word.fetch_add(1, SeqCst);
-            word.fetch_add(1, SeqCst);
-        })?;
-        Ok(run.trace()?.lines().skip(3).map(|line| &line[..1]).collect())
-    });
-    let mut orders = orders.collect::<Result<Vec<String>, Error>>()?;
-    orders.sort_unstable();
-    orders.dedup();
-    assert_eq!(orders, ["001122", "002211", "110022", "112200", "220011", "221100"]);
+    let rows: [(usize, usize, usize, &[&str]); 4] = [
+        (3, 1, 12, &["001122", "002211", "110022", "112200", "220011", "221100"]),
+        (2, 2, 2, &["0011", "1100"]),
+        (2, 2, 3, &["0011", "0110", "1001", "1100"]),
+        (2, 3, 5, &["0011", "0101", "0110", "1001", "1010", "1100"]),
+    ];
+    for (threads, depth, steps, due) in rows {
+        let orders = (0..200).map(|seed| -> Result<String, Error> {
+            let word = AtomicU8::new(0).noted(Word::NextTicket);
+            let mode = Mode::Pct { seed, depth, steps };
+            let run = Run::of(Lock::Ticket, threads).bits(8).room(2).mode(mode).open()?;
+            run.threads(LIMIT, |_| {
+                word.fetch_add(1, SeqCst);
+                word.fetch_add(1, SeqCst);
+            })?;
+            Ok(run.trace()?.lines().skip(3).map(|line| &line[..1]).collect())
+        });
+        let mut orders = orders.collect::<Result<Vec<String>, Error>>()?;
+        orders.sort_unstable();
+        orders.dedup();
+        assert_eq!(orders, due);
+    }
     Ok(())
 }
 
@@ -292,12 +302,12 @@ fn a_try_in_vain_is_no_progress() -> Result<(), Error> {
     Ok(())
 }
 
+/// By turns no time ends the run, however slow the machine is. Else it ends soon after its time.
 #[test]
 fn threads_that_poll_for_ever_are_stopped() -> Result<(), Error> {
-    let begun = Instant::now();
     for mode in [Mode::Seed(1), Mode::Free, Mode::Noise(1), Mode::Ordered] {
-        let open = AtomicBool::new(false);
-        let limit = if mode == Mode::Seed(1) { LIMIT } else { LONG };
+        let (open, begun) = (AtomicBool::new(false), Instant::now());
+        let limit = if mode == Mode::Seed(1) { LIMIT * 9 } else { LONG };
         let run = Run::of(Lock::Mcs, 3).mode(mode.clone()).open()?;
         let ending = run.threads(limit, |log| {
             while log.thread() != 1 && !open.load(SeqCst) {
@@ -305,31 +315,26 @@ fn threads_that_poll_for_ever_are_stopped() -> Result<(), Error> {
             }
         })?;
         assert_eq!(ending, cut_short(&mode, vec![0, 2]), "{mode:?}");
+        assert!(begun.elapsed() < limit + LIMIT);
     }
-    assert!(begun.elapsed() < LIMIT);
     Ok(())
 }
 
-/// One operation in eight is held up, and others in each thread. A yield may end at once, so fewer
-/// are seen to last.
+/// Thread 0 is in an operation when the time is over. Those that wait for its end are stopped too.
 #[test]
-fn each_thread_has_a_noise_of_its_own() -> Result<(), Error> {
-    let held = [(); 2].map(|()| Mutex::new(Vec::new()));
-    let run = Run::of(Lock::Ticket, 2).mode(Mode::Noise(1)).open()?;
-    run.threads(LIMIT, |log| {
+fn who_waits_for_an_operation_is_stopped() -> Result<(), Error> {
+    let run = Run::of(Lock::Ticket, 4).mode(Mode::Ordered).open()?;
+    let (tell, told) = mpsc::channel();
+    let work = |log: &Log| {
+        operation(|| thread::sleep(if log.thread() == 0 { 2 * LONG } else { LONG / 100 }));
         let word = AtomicU8::new(0);
-        let lasts = |_| {
-            let begun = Instant::now();
-            word.load(SeqCst);
-            begun.elapsed() > Duration::from_micros(20)
-        };
-        *held[log.thread()].lock().unwrap() = (0..2000).map(lasts).collect();
-    })?;
-    let [one, other] = held.map(|it| it.into_inner().unwrap());
-    let count = one.iter().filter(|&&lasts| lasts).count();
-    let both = one.iter().zip(&other).filter(|(&one, &other)| one && other).count();
-    assert!((40..=500).contains(&count), "{count} of 2,000");
-    assert!(both * 2 < count, "{both} of {count}");
+        loop {
+            word.fetch_add(1, SeqCst);
+        }
+    };
+    thread::spawn(move || tell.send(run.threads(LONG, work)));
+    let ending = told.recv_timeout(LIMIT).expect("nobody waits for ever")?;
+    assert_eq!(ending, Ending::Stopped(vec![0, 1, 2, 3]));
     Ok(())
 }
 
@@ -343,6 +348,28 @@ fn threads_of_ones_own_enter_a_run() -> Result<(), Error> {
     drop(entered);
     assert_eq!(handle.join().expect("it does not panic")?, 1);
     assert_eq!(run.wait(LIMIT), vec![]);
+    Ok(())
+}
+
+/// Both threads end while they are waited for, or thread 0 polls until it is stopped.
+#[test]
+fn who_is_missing_after_a_wait() -> Result<(), Error> {
+    for (limit, missing) in [(LIMIT, vec![]), (LONG, vec![0])] {
+        let run = Run::of(Lock::Ticket, 2).open()?;
+        let work = move |run: Run, thread| {
+            let _log = run.enter(thread).expect("it is free");
+            let word = AtomicBool::new(false);
+            thread::sleep(LONG / 10);
+            while thread == 0 && limit == LONG && !word.load(SeqCst) {}
+        };
+        let started = [0, 1].map(|thread| {
+            let run = run.clone();
+            thread::spawn(move || work(run, thread))
+        });
+        assert_eq!(run.wait(limit), missing);
+        let stopped = started.map(|thread| thread.join().is_err());
+        assert_eq!(stopped, [0, 1].map(|thread| missing.contains(&thread)));
+    }
     Ok(())
 }
 

@@ -3,10 +3,12 @@
 #![cfg(feature = "record")]
 
 use std::sync::atomic::Ordering::SeqCst;
+use std::sync::Barrier;
 use std::time::Duration;
 
 use lockreplay_record::{
-    AtomicBool, AtomicU8, AtomicUsize, Ending, Error, Lock, Mode, Run, RunBuilder, Word,
+    own_record, AtomicBool, AtomicPtr, AtomicU8, AtomicUsize, Ending, Error, Lock, Mode, Run,
+    RunBuilder, Word,
 };
 
 const LIMIT: Duration = Duration::from_secs(60);
@@ -56,6 +58,25 @@ fn each_operation_has_its_line() -> Result<(), Error> {
     Ok(())
 }
 
+/// A number with a sign is noted as the one that has the same bits.
+#[test]
+fn each_number_has_its_bits() -> Result<(), Error> {
+    macro_rules! left {
+        ($(($atomic:ident, $value:expr)),*) => { [$({
+            let word = lockreplay_record::$atomic::new(0).noted(Word::Tail);
+            moves(Run::of(Lock::Mcs, 1), || word.store($value, SeqCst))?
+        }),*] };
+    }
+    let got = [
+        left!((AtomicU8, !0), (AtomicU16, !0), (AtomicU32, !0), (AtomicU64, !0), (AtomicUsize, !0)),
+        left!((AtomicI8, -1), (AtomicI16, -1), (AtomicI32, -1), (AtomicI64, -1), (AtomicIsize, -1)),
+    ];
+    let widest = u64::MAX;
+    let due = [255, 65_535, 4_294_967_295, widest, widest];
+    assert_eq!(got, [(); 2].map(|()| due.map(|value| [format!("write tail left {value}")])));
+    Ok(())
+}
+
 #[test]
 fn each_operation_on_a_flag_has_its_line() -> Result<(), Error> {
     type Operation = fn(&AtomicBool, bool) -> bool;
@@ -73,6 +94,32 @@ fn each_operation_on_a_flag_has_its_line() -> Result<(), Error> {
             let got = moves(Run::of(Lock::Mcs, 1), || assert_eq!(operation(&flag, value), found))?;
             assert_eq!(got, [format!("swap tail found {} left {left}", u8::from(found))]);
         }
+    }
+    Ok(())
+}
+
+/// Its value is what was found there when it was noted.
+static LOOKED_UP: AtomicU8 =
+    AtomicU8::new(0).noted_as(Word::Tail, |_| u64::from(LOOKED_UP.peek(SeqCst)));
+
+/// What an operation leaves is looked up before it: afterwards another thread may change it.
+#[test]
+fn values_are_looked_up_before_they_are_left() -> Result<(), Error> {
+    type Operation = fn();
+    let rows: [(&str, Operation); 4] = [
+        ("write tail left 3", || LOOKED_UP.store(5, SeqCst)),
+        ("swap tail found 5 left 3", || assert_eq!(LOOKED_UP.swap(5, SeqCst), 3)),
+        ("cas tail found 5 left 3 done", || {
+            assert_eq!(LOOKED_UP.compare_exchange(3, 5, SeqCst, SeqCst), Ok(3));
+        }),
+        ("cas tail found 5 left 3 done", || {
+            assert!(LOOKED_UP.fetch_update(SeqCst, SeqCst, |_| Some(5)).is_ok());
+        }),
+    ];
+    for (due, operation) in rows {
+        LOOKED_UP.store(3, SeqCst);
+        let got = moves(Run::of(Lock::Mcs, 1), operation)?;
+        assert_eq!(got.last().map(String::as_str), Some(due));
     }
     Ok(())
 }
@@ -119,5 +166,39 @@ fn an_update_is_tried_with_what_it_found() -> Result<(), Error> {
         })?;
         assert_eq!((ending, word.into_inner()), (Ending::Complete, 20));
     }
+    Ok(())
+}
+
+/// Two threads have had one record, which each of them takes for its own.
+#[test]
+fn a_record_of_two_threads_is_each_ones_own() -> Result<(), Error> {
+    let record = AtomicPtr::new(std::ptr::null_mut()).noted(Word::Next);
+    let both = Barrier::new(2);
+    let run = Run::of(Lock::Mcs, 2).mode(Mode::Ordered).open()?;
+    run.threads(LIMIT, |_| {
+        own_record(&record);
+        both.wait();
+        record.store(&record as *const AtomicPtr<u8> as *mut u8, SeqCst);
+    })?;
+    let trace = run.trace()?;
+    let mut lines = Vec::from_iter(trace.lines().skip(2));
+    lines.sort_unstable();
+    assert_eq!(lines, ["0 write next left 1", "1 write next left 2"]);
+    Ok(())
+}
+
+/// A record may begin where a smaller one did, as a whole does with its first part.
+#[test]
+fn a_record_that_grows_has_its_new_end() -> Result<(), Error> {
+    let words = [0_u8, 1];
+    let tail = AtomicPtr::new(std::ptr::null_mut()).noted(Word::Tail);
+    let store = || tail.store(&words[1] as *const u8 as *mut u8, SeqCst);
+    let got = moves(Run::of(Lock::Mcs, 1), || {
+        own_record(&words[0]);
+        store();
+        own_record(&words);
+        store();
+    })?;
+    assert_eq!(got, ["write tail left 256", "write tail left 1"]);
     Ok(())
 }

@@ -116,8 +116,63 @@ fn another_step() {
     is_after("WrongLock", next, &said_of(Lock::Ticket, Call::Acquire, &swap));
 }
 
+/// Thread 1 queues behind thread 0, and makes another step in place of each of its own in turn.
+#[test]
+fn each_step_of_a_thread_that_queues() {
+    let [clear, swap] = [Step::write(Word::Next, 0), Step::swap(Word::Tail, 0)];
+    let steps = [
+        (clear, "write next left 0"),
+        (swap.with_found(1), "swap tail found 1"),
+        (Step::write(Word::Locked, 1), "write locked left 1"),
+        (Step::write(Word::Next, 2).of(0), "write next of 0 left 2"),
+        (Step::read(Word::Locked, 1), "read locked found 1"),
+    ];
+    for (count, (_, due)) in steps.iter().enumerate() {
+        let said = said(
+            Lock::Mcs,
+            || (),
+            |(), thread| {
+                let _call = call(Call::Acquire);
+                if thread == 0 {
+                    [clear, swap].iter().for_each(|step| note(*step));
+                } else {
+                    steps.iter().take(count).for_each(|(step, _)| note(*step));
+                    note(Step::cas(Word::Tail, true));
+                }
+            },
+        );
+        is_after("WrongStep", &format!("the published lock's next step is '{due}'"), &said);
+    }
+}
+
+/// A section and a step of a ticket lock, each in place of the other.
+#[test]
+fn each_other_step() {
+    let read = Step::read(Word::NowServing, 0);
+    let said = said(
+        Lock::Ticket,
+        || (),
+        |(), _| {
+            let acquire = call(Call::Acquire);
+            [Step::add(Word::NextTicket, 0), read].iter().for_each(|step| note(*step));
+            drop(acquire);
+            let _release = call(Call::Release);
+            [read, read].iter().for_each(|step| note(*step));
+        },
+    );
+    is_after("WrongStep", "the published lock's next step is 'write now_serving left 1'", &said);
+    let next = "the published lock's next step is 'section entered'";
+    is_after("WrongLock", next, &said_of(Lock::RwFifo, Call::ReadLock, &[read]));
+}
+
 #[test]
 fn another_word() {
+    let on = "the published lock's step is on 'now_serving'";
+    let steps = [Step::add(Word::NextTicket, 0), Step::read(Word::NextTicket, 0)];
+    is_after("OtherWord", on, &said_of(Lock::Ticket, Call::Acquire, &steps));
+    let on = "the published lock's step is on 'next_ticket'";
+    let step = Step::add(Word::NowServing, 0);
+    is_after("OtherWord", on, &said_of(Lock::Ticket, Call::Acquire, &[step]));
     let on = "the published lock's step is on 'next of 0'";
     let step = Step::write(Word::Locked, 0);
     is_after("OtherWord", on, &said_of(Lock::Mcs, Call::Acquire, &[step]));
@@ -199,6 +254,52 @@ fn a_search_ends_with_a_panic() {
     assert_eq!(said, "run 1: it hangs: threads [0, 1] wait");
 }
 
+/// A refusal has the moves of the run, each with its line in the trace and its place.
+#[test]
+fn a_refusal_lists_the_moves() {
+    let first = line!();
+    let round = |_: &(), _| {
+        let _call = call(Call::Acquire);
+        note(Step::add(Word::NextTicket, 5));
+    };
+    let search = || explore(Run::of(Lock::Ticket, 1).bits(8), 0, || (), round);
+    let said = catch_unwind(search).expect_err("no ticket was taken");
+    let place = |line: u32| format!("tests/published.rs:{}", first + line);
+    let due = format!(
+        "run 1: refused at line 4 of the trace, {}, '0 add next_ticket found 5': FoundOther: \
+         the lock has another value in the word: the published lock has 0\n    \
+         3 0 acquire                              {}\n    \
+         4 0 add next_ticket found 5              {}",
+        place(3),
+        place(2),
+        place(3)
+    );
+    assert_eq!(said.downcast_ref::<String>(), Some(&due));
+}
+
+/// A thread sleeps for longer than a run may take, and is stopped at its next operation.
+#[test]
+fn a_run_that_does_not_end() {
+    let sleeps = |word: &AtomicU8, _| {
+        std::thread::sleep(Duration::from_secs(12));
+        word.store(1, SeqCst);
+    };
+    let search = || explore(Run::of(Lock::Ticket, 1), 0, || AtomicU8::new(0), sleeps);
+    let said = catch_unwind(search).expect_err("its time is over");
+    let due = "run 1: it did not end in 10s: thread 0 has its turn and does not give it back: it \
+               blocks, or it polls without this crate's atomics";
+    assert_eq!(said.downcast_ref::<String>().map(String::as_str), Some(due));
+}
+
+#[test]
+fn free_threads_have_no_order() {
+    for (mode, has_order) in [(Mode::Free, false), (Mode::Noise(1), false), (Mode::Ordered, true)] {
+        let said = Run::of(Lock::Ticket, 1).mode(mode).open().unwrap().check();
+        let due = "of free threads `locktrace order` finds the order";
+        assert_eq!(said.map_err(|error| error.to_string()).err(), (!has_order).then(|| due.into()));
+    }
+}
+
 /// A run that hangs names the last notification, and whom it woke: not the thread that still waits.
 #[test]
 fn a_lost_notification() {
@@ -266,5 +367,20 @@ fn another_end_of_a_thread() {
         (2, true, "thread 0 goes on with a call that is over"),
     ] {
         assert_eq!(said_of_end(&steps[..count], goes_on), due);
+    }
+}
+
+/// Nobody knows the last steps of a thread whose log was full.
+#[test]
+fn a_full_log_has_no_end() {
+    for (room, due) in [(1, ""), (2, "thread 0 has ended inside a call")] {
+        let run = Run::of(Lock::Ticket, 1).bits(8).mode(Mode::Seed(1)).room(room).open().unwrap();
+        let adds = |_: &_| {
+            let _call = call(Call::Acquire);
+            note(Step::add(Word::NextTicket, 0));
+        };
+        run.threads(LIMIT, adds).unwrap();
+        let said = run.check().map_or_else(|error| error.to_string(), |()| String::new());
+        assert_eq!(said, due);
     }
 }

@@ -171,16 +171,19 @@ fn a_full_log_counts_what_it_drops() -> Result<(), Error> {
     Ok(())
 }
 
-/// A poll that a log with room would leave out is not dropped.
+/// A poll that a log with room would leave out is not dropped, wherever the log became full.
 #[test]
 fn a_full_log_leaves_out_what_any_log_does() -> Result<(), Error> {
     let path = folder("full-of-polls");
-    let run = Run::of(Lock::Ticket, 1).room(2).open()?;
-    let reads = [7, 7, 7, 7, 0].map(|found| Step::read(Word::NowServing, found));
-    run.threads(LIMIT, |_| reads.into_iter().for_each(note))?;
-    run.save(&path)?;
-    let read = "read now_serving found 7\n";
-    assert!(numbered(&path, "thread-0.log").1.ends_with(&format!("\n{read}{read}dropped 1\n")));
+    for room in 0..3 {
+        let run = Run::of(Lock::Ticket, 1).room(room).open()?;
+        let reads = [7, 7, 7, 7, 0].map(|found| Step::read(Word::NowServing, found));
+        run.threads(LIMIT, |_| reads.into_iter().for_each(note))?;
+        run.save(&path)?;
+        let (reads, dropped) = ("read now_serving found 7\n".repeat(room), 3 - room);
+        let (_, log) = numbered(&path, "thread-0.log");
+        assert!(log.ends_with(&format!(" thread 0\n{reads}dropped {dropped}\n")), "{log}");
+    }
     fs::remove_dir_all(&path).expect("the folder was made");
     Ok(())
 }
@@ -340,7 +343,10 @@ fn a_run_that_cannot_be_is_refused() {
         "4 threads are too many for counters of 2 bits: there must be fewer threads than a \
          counter has values",
     );
-    assert!(open(3, 2).is_ok());
+    for (threads, bits) in [(3, 2), (1, 2), (1, 64), (63, 6), (64, 7), (64, 64)] {
+        assert!(open(threads, bits).is_ok(), "{threads} {bits}");
+    }
+    assert!(open(64, 6).is_err());
     let room = usize::MAX;
     let due = format!("no memory for 2 logs of {room} moves each");
     refuses(Run::of(Lock::Mcs, 2).room(room).open(), &due);
@@ -369,7 +375,8 @@ fn the_systems_error_is_the_source() -> Result<(), Error> {
     let run = Run::of(Lock::Mcs, 1).open()?;
     let kept = Run::of(Lock::Mcs, 1).kept_in("/dev/null/logs").open().map(drop);
     let read = Schedule::read("/dev/null/no.schedule").map(drop);
-    for result in [run.save("/dev/null/logs"), kept, read] {
+    let start = Err(Error::Start(std::io::Error::from_raw_os_error(20)));
+    for result in [run.save("/dev/null/logs"), kept, read, start] {
         let error = result.expect_err("no folder is there");
         let source = error.source().expect("the system says why");
         assert_eq!(source.to_string(), "Not a directory (os error 20)");
