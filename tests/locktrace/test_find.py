@@ -280,8 +280,8 @@ def test_sketch(tracer, lockreplay, sketch):
     assert [line for _, _, line in said] == sketch.lines
     states = [0, *(transition.after for transition in walk(space, run))]
     for how, number, line in said:
-        made = output.splitlines()[int(number) - 1].split()
         if how == "line":
+            made = output.splitlines()[int(number) - 1].split()
             assert [line.split()[0] in ("*", made[0]), line.split()[1]] == [True, made[1]]
         elif how == "after line":
             state = states[int(number) - len(sketch.lines) - 2]

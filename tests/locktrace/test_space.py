@@ -50,6 +50,15 @@ def test_counts(tracer, row, counts, _):
     "no counters": ("mcs 2 --format json",
                     '{"lock":"mcs","threads":2,"rounds":"any","bits":64,"states":89,'
                     '"transitions":178,"depth":18,"dead_ends":0}\n'),
+    # of each value of the counters as many as with 2 bits, whose counts are in spaces.txt
+    "counters that pass a byte": ("ticket 2 --rounds any --bits 9 --format json",
+                                  '{"lock":"ticket","threads":2,"rounds":"any","bits":9,'
+                                  '"states":14336,"transitions":28672,"depth":3073,'
+                                  '"dead_ends":0}\n'),
+    "a count that passes a byte": ("rw-fifo 2 --rounds any --bits 9 --format json",
+                                   '{"lock":"rw-fifo","threads":2,"rounds":"any","bits":9,'
+                                   '"states":27136,"transitions":66560,"depth":2051,'
+                                   '"dead_ends":0}\n'),
     "a drawing": ("ticket 1 --format dot", TICKET_DRAWN),
 })
 def test_format(tracer, words, due):

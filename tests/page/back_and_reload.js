@@ -20,3 +20,16 @@ const forgetTexts = () => Object.keys(localStorage)
 const damaged = () => (byId('damaged').hidden ? '' : text('#damaged'));
 const goTo = (fragment) => { location.hash = fragment; };
 const href = () => location.href;
+
+// Before the page's script: what a damaged browser has stored, and one that stores nothing.
+function storeAndLoad(key, text) {
+  if (location.protocol !== 'file:') return;
+  localStorage.clear();
+  localStorage.setItem(key, text);
+}
+
+function withoutStorage() {
+  for (const name of ['getItem', 'setItem', 'removeItem']) {
+    Storage.prototype[name] = () => { throw new DOMException('', 'SecurityError'); };
+  }
+}

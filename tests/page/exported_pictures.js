@@ -14,9 +14,10 @@ async function caught(act) {
   return new Uint8Array(await saved);
 }
 
-async function taken(what, parts) {
+async function taken(what, parts, moves) {
   click('#show-take');
   tick(parts);
+  if (moves) askMoves(...moves);
   return new TextDecoder().decode(await caught(() => click(`[data-take=${what}]`)));
 }
 
@@ -29,10 +30,10 @@ function areaOf(svg) {
 
 // Draws a picture in a frame of its own: the font families of its texts, the bands under the move,
 // and the texts that are inside the picture and those that are not.
-async function alone(parts, what = 'svg') {
+async function alone(parts, what = 'svg', moves = null) {
   const frame = document.createElement('iframe');
   document.body.append(frame);
-  frame.contentDocument.body.innerHTML = await taken(what, parts);
+  frame.contentDocument.body.innerHTML = await taken(what, parts, moves);
   const inFrame = (selector) => all(selector, frame.contentDocument);
   const families = inFrame('text')
     .map((one) => frame.contentWindow.getComputedStyle(one).fontFamily.split(',')[0]);
@@ -44,6 +45,37 @@ async function alone(parts, what = 'svg') {
     .filter((one) => inside(rect(one), whole) === is).map((one) => one.textContent));
   frame.remove();
   return { families: [...new Set(families)].sort(), bands, lanes, inside: within, outside };
+}
+
+const around = (areas) => ({
+  left: Math.min(...areas.map(({ left }) => left)), top: Math.min(...areas.map(({ top }) => top)),
+  right: Math.max(...areas.map(({ right }) => right)),
+  bottom: Math.max(...areas.map(({ bottom }) => bottom)),
+});
+
+// Where a picture in a picture is, by its size and the place of its group.
+function placeOf(svg) {
+  const [left, top] = svg.parentNode.getAttribute('transform').match(/[\d.]+/g).map(Number);
+  const [width, height] = ['width', 'height'].map((name) => Number(svg.getAttribute(name)));
+  return { left, top, right: left + width, bottom: top + height };
+}
+
+// Where the title, the numbers, the lanes, the signs, memory, the code and the whole picture are.
+async function partsOf(parts) {
+  const frame = document.createElement('iframe');
+  document.body.append(frame);
+  frame.contentDocument.body.innerHTML = await taken('svg', parts);
+  const inFrame = (selector) => all(selector, frame.contentDocument);
+  const [svg] = inFrame('body > svg');
+  const { a, e, f } = svg.getScreenCTM();
+  const whole = svg.viewBox.baseVal;
+  const [numbers, lanes, memory] = inFrame('body > svg > g > svg').map(placeOf);
+  const [title, signs, code] = ['.picture-title', 'body > svg > g > g > .note', '.code-text']
+    .map((selector) => around(inFrame(selector).map(rect).map(({ left, top, right, bottom }) => ({
+      left: (left - e) / a, top: (top - f) / a, right: (right - e) / a, bottom: (bottom - f) / a,
+    }))));
+  frame.remove();
+  return [title, numbers, lanes, signs, memory, code, { right: whole.width, bottom: whole.height }];
 }
 
 // The background colour of a picture, as the browser draws it.
@@ -65,7 +97,45 @@ async function animation(from, to) {
   const image = new Image();
   image.src = `data:image/png;base64,${btoa(lettersOf(bytes))}`;
   await image.decode();
-  return { ...chunksOf(bytes), width: image.naturalWidth };
+  return {
+    ...chunksOf(bytes), width: image.naturalWidth, sizes: await sizesOf(bytes),
+    data: await Promise.all(framesOf(bytes).map(markOf)),
+  };
+}
+
+// The packed data of each frame of a picture.
+function framesOf(bytes) {
+  const view = new DataView(bytes.buffer);
+  const frames = [];
+  for (let at = 8; at < bytes.length; at += view.getUint32(at) + 12) {
+    const [kind, length] = [lettersOf(bytes.subarray(at + 4, at + 8)), view.getUint32(at)];
+    if (kind === 'fcTL' || (kind === 'IDAT' && !frames.length)) frames.push([]);
+    const from = at + 8 + (kind === 'fdAT' ? 4 : 0);
+    if (/^(IDAT|fdAT)$/.test(kind)) frames.at(-1).push(...bytes.subarray(from, at + 8 + length));
+  }
+  return frames.map((frame) => Uint8Array.from(frame));
+}
+
+// How many bytes a frame of the picture has, and how many each of its frames has.
+async function sizesOf(bytes) {
+  const view = new DataView(bytes.buffer);
+  const [width, height, channels] = [view.getUint32(16), view.getUint32(20),
+    { 2: 3, 6: 4 }[bytes[25]]];
+  const sizes = framesOf(bytes).map(async (frame) => (await new Response(new Blob([frame]).stream()
+    .pipeThrough(new DecompressionStream('deflate'))).arrayBuffer()).byteLength);
+  return [height * (1 + width * channels), ...await Promise.all(sizes)];
+}
+
+// A frame as a text that is short.
+async function markOf(frame) {
+  const hash = new Uint8Array(await crypto.subtle.digest('SHA-256', frame));
+  return btoa(lettersOf(hash));
+}
+
+// The picture of the shown state as points.
+async function pointsOf() {
+  click('#show-take');
+  return markOf(framesOf(await caught(() => click('[data-take=png]')))[0]);
 }
 
 // The kind of each chunk, and for how many seconds each frame is shown.
@@ -100,4 +170,11 @@ async function noticed(what, from, to) {
   askMoves(from, to);
   await caught(() => click(`[data-take=${what}]`));
   return text('#notice');
+}
+
+// The strip of these moves.
+async function stripOf(from, to) {
+  click('#show-take');
+  askMoves(from, to);
+  return new TextDecoder().decode(await caught(() => click('[data-take=strip]')));
 }

@@ -39,6 +39,7 @@ function line() {
     : bar !== null && inside(rect(bar), page);
 }
 
+const lanesHeight = () => rect(byId('lanes')).height;
 const header = () => document.querySelector('header').checkVisibility();
 
 function inView() {

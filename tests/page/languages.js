@@ -11,6 +11,8 @@ function atEachPlace(name, take) {
 
 const untranslated = () => port.untranslated();
 const language = () => document.documentElement?.lang;
+// Before it begins, a page has the language of its frame, English.
+const hasBegunIn = (name) => isThere() && language() === name;
 const said = (name) => atEachPlace(name, () => document.querySelector('main').textContent);
 
 function cutNow() {

@@ -59,5 +59,32 @@ const pressThere = (name, held) => {
   window.opened.dispatchEvent(new KeyboardEvent('keydown', { key: name, [held]: true }));
 };
 const languageThere = () => window.opened.document.documentElement.lang;
+const windowThere = () => {
+  const { title, body, head } = window.opened.document;
+  return [title, body.className, head.textContent.includes(
+    document.querySelector('style').textContent)];
+};
 const themeThere = () => window.opened.document.documentElement.dataset.theme;
 const closeThere = () => window.opened.close();
+
+// The sentence on each move, with the answer to its question shown.
+const sentences = (last) => Array.from({ length: last }, (_, at) => {
+  go(at + 1);
+  if (document.querySelector('#now .question details:not([open])')) key('a');
+  return text('#now .say:not(.own-say), #now details.aside > p.aside');
+});
+
+// The second window at each move: the paragraphs below each heading; and the facts there and here.
+const presentedAt = (last) => Array.from({ length: last + 1 }, (_, move) => {
+  go(move);
+  const { body } = window.opened.document;
+  const parts = { '': [] };
+  let heading = '';
+  for (const one of all('h1, h2, p', body)) {
+    if (one.tagName === 'H2') heading = plain(one.textContent);
+    (parts[heading] ??= []).push(...(one.tagName === 'H2' ? [] : [plain(one.textContent)]));
+  }
+  const facts = [body.querySelector('.facts'), document.querySelector('#now .facts')];
+  return [parts, facts.map((one) => all('[data-holders], [data-queue]', one)
+    .map((fact) => plain(fact.textContent)))];
+});

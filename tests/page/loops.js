@@ -6,6 +6,14 @@ const isRunning = () => attribute('#run', 'aria-pressed') === 'true';
 const isSaid = (part) => said().some((one) => one.includes(part));
 
 // How many arrows back and heads of arrows there are, and the moves before which there is a line.
+// How many columns the line at which the moves begin is before the mark of a move.
+function beforeMark(move) {
+  const [one, next] = [move, move + 1].map((at) => (
+    rect(document.querySelector(`#lanes [data-move="${at}"] .target`))));
+  return (one.left + one.width / 2 - rect(document.querySelector('.loop-begins')).left)
+    / (next.left - one.left);
+}
+
 const signs = () => [count('#numbers .loop'), count('#numbers .loop-tip'),
   all('#lanes [data-loop]').map((one) => Number(one.dataset.loop))];
 

@@ -55,3 +55,23 @@ function belowLines() {
   return all('#lanes .unlinked').map((one) => (
     (top(one) - top(one.closest('g').querySelector('.lane-line'))) / (second - first)));
 }
+
+// How much higher the picture of memory is than its room, which then scrolls.
+function memoryBeyond() {
+  const { scrollHeight, clientHeight } = byId('memory-picture');
+  return scrollHeight - clientHeight;
+}
+
+// How far each fold at the monitor is beside the column of the threads there.
+function besideColumn() {
+  const middle = (one) => (rect(one).left + rect(one).right) / 2;
+  const [first] = all('#memory-picture .token:has(+ .wants) circle');
+  return all('#memory-picture .fold:has(+ .wants) rect')
+    .map((one) => Math.round(middle(one) - middle(first)));
+}
+
+// How far each text of a fold is within its frame, at its left and at its right.
+const folds = () => all('#memory-picture .fold > text').map((one) => {
+  const [text, frame] = [one, one.parentNode.querySelector('rect')].map(rect);
+  return [text.left - frame.left, frame.right - text.right];
+});

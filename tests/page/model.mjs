@@ -22,6 +22,7 @@ import { spansOf, unlinkedSpans } from '../../page/src/model/spans.js';
 import { learnKinds } from '../../page/src/model/kinds.js';
 import { lockOf } from '../../page/src/locks/locks.js';
 import { sentence } from '../../page/src/locks/sentences.js';
+import { sheetPlan } from '../../page/src/view/sheet_plan.js';
 import { kindsOf } from '../../page/build/kinds.mjs';
 import { bytesOf, examples, machineOf, module } from './node.mjs';
 
@@ -50,8 +51,8 @@ LOCK_NAMES.forEach((name, lock) => {
 });
 
 // A mark is a name's first letter, or the number if other names begin with it.
-const names = new Names(new Map([[0, 'Ann'], [1, 'bert'], [2, 'Bob']]));
-assert.deepEqual([0, 1, 2, 3].map((thread) => names.mark(thread)), ['A', '1', '2', '3']);
+const names = new Names(new Map([[0, 'Ann'], [1, 'bert'], [2, 'Bob'], [9, 'Tom']]));
+assert.deepEqual([0, 1, 2, 3, 9].map((thread) => names.mark(thread)), ['A', '1', '2', '3', 'T']);
 assert.deepEqual([0, 3].map((thread) => names.of(thread)), ['Ann', 'thread 3']);
 assert.deepEqual([1, 12].map((thread) => names.short(thread)), ['bert', 'T12']);
 assert.equal(names.few([2, 3, 0, 1, 4]), 'Bob, thread 3, Ann, bert, thread 4');
@@ -149,3 +150,35 @@ for (const { name, text } of examples()) {
   }
 }
 assert.ok(asked > 60, String(asked));
+
+// By the number of threads: how many columns a strip has, and how many strips a sheet has. Of more
+// threads than five, strips are wider and drawn smaller.
+const SHEETS = {
+  2: [16, 3], 3: [16, 2], 4: [16, 1], 5: [16, 1], 6: [41, 2], 7: [41, 1], 8: [41, 1], 16: [41, 1],
+};
+const planOf = (threads, count, move, blank = false) => {
+  const calls = Array.from({ length: threads }, (_, thread) => [`${thread} acquire`,
+    `${thread} add`]).flat();
+  const polls = Array.from({ length: Math.max(0, count - calls.length) }, () => '1 read');
+  const played = new Run(machine, bytesOf([`lock ticket threads ${threads}`, ...calls, ...polls, '']
+    .slice(0, count + 1).join('\n')));
+  const session = new Session(machine, lines);
+  session.open(played.text, null, move, played);
+  return sheetPlan(session.view({ blank }));
+};
+for (const [threads, [inStrip, perSheet]] of Object.entries(SHEETS)) {
+  const { strip } = planOf(Number(threads), 40, 20);
+  assert.deepEqual([strip.inStrip, strip.perSheet], [inStrip, perSheet], threads);
+}
+// 133 moves take three sheets of strips, seven of the table, and two others. The shown move is in
+// their middle, but for the first and the last moves.
+const PARTS = [[0, 1, 133], [66, 1, 133], [67, 1, 133], [68, 2, 134], [750, 684, 816],
+  [1450, 1368, 1500], [1500, 1368, 1500]];
+for (const [move, from, to] of PARTS) {
+  const plan = planOf(2, 1500, move);
+  assert.deepEqual([plan.from, plan.to], [from, to], String(move));
+}
+// On an exercise sheet columns are as wide as the moves need, within bounds.
+assert.deepEqual([10, 25, 60].map((count) => planOf(2, count, 0, true).strip)
+  .map(({ column, inStrip }) => [column, inStrip]), [[70, 15], [43, 25], [34, 32]]);
+assert.deepEqual([planOf(2, 0, 0).from, planOf(2, 0, 0).to], [1, 0]);

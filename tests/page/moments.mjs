@@ -157,8 +157,8 @@ function checkSoonFaults(machine) {
   };
   assert.deepEqual(answerTo({}), [FOUND.run, 4]);
   assert.deepEqual(answerTo({ moves: 3 }), [FOUND.longRun, 0]);
-  // a row has 10 cells
-  assert.deepEqual(answerTo({ cells: 10 * 4 - 1 }), [FOUND.tooLarge, 4]);
+  // a row has 15 cells
+  assert.deepEqual(answerTo({ cells: 15 * 4 - 1 }), [FOUND.tooLarge, 4]);
   assert.equal(answerTo({}, { rounds: 256 })[0], FOUND.notAsked);
   assert.equal(answerTo({}, {}, ['0 acquire', '0 lost'])[0], FOUND.notAsked);
   assert.equal(answerTo({ numbers: 0 })[0], 8);
@@ -172,8 +172,8 @@ function checkFaults(machine) {
   };
   assert.deepEqual(answerTo(['# a comment', '', '* cas failed']), [FOUND.run, 9]);
   assert.deepEqual(answerTo(['* cas failed'], { moves: 8 }), [FOUND.longRun, 0]);
-  // a row has 13 cells
-  assert.deepEqual(answerTo(['* cas failed'], { cells: 13 * 20 }), [FOUND.tooLarge, 21]);
+  // a row has 18 cells
+  assert.deepEqual(answerTo(['* cas failed'], { cells: 18 * 20 }), [FOUND.tooLarge, 21]);
   assert.deepEqual(answerTo(['* cas', '', '* cas lost']), [FOUND.badLine, 3]);
   assert.deepEqual(answerTo(new Array(256).fill('0 cas')), [FOUND.manyLines, 256]);
   for (const other of [{ threads: 65 }, { threads: 0 }, { threads: 4, bits: 2 }, { rounds: 256 }]) {

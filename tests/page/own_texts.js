@@ -3,10 +3,36 @@
 const verdictHas = (part) => text('#verdict').includes(part);
 const verdictEnds = (part) => text('#verdict').endsWith(part);
 
+// Of the line that is marked its number, how far that is from its line of the text, and whether it
+// is in view; and the numbers of all lines in view.
+function marked() {
+  const [area, row] = [byId('text'), document.querySelector('#gutter .here')];
+  const { borderTopWidth, paddingTop, lineHeight } = getComputedStyle(area);
+  const [edge, room, line] = [borderTopWidth, paddingTop, lineHeight].map(parseFloat);
+  const numberOf = (one) => Number(/\d+/.exec(one.textContent)[0]);
+  const top = rect(area).top + edge + room - area.scrollTop;
+  const rows = all('#gutter div div').map((one) => [numberOf(one), one]);
+  const isBeside = (one) => rect(one).top > rect(area).top - 1
+    && rect(one).bottom < rect(area).bottom + 1;
+  return {
+    number: numberOf(row), isSeen: isBeside(row),
+    seen: rows.filter(([, one]) => isBeside(one)).map(([at]) => at),
+    far: rows.map(([at, one]) => Math.round(rect(one).top - top - (at - 1) * line)),
+    most: Math.floor((area.clientHeight - 2 * room) / line),
+  };
+}
+
+const scrollText = (top) => { byId('text').scrollTop = top; };
+
 function dropFile(letters) {
   const data = new DataTransfer();
   data.items.add(new File([letters], 'mine.txt'));
   document.body.dispatchEvent(new DragEvent('drop', {
     dataTransfer: data, bubbles: true, cancelable: true,
   }));
+}
+
+// From now on no file can be read, as after another program has removed it.
+function readNothing() {
+  Blob.prototype.arrayBuffer = () => Promise.reject(new DOMException('', 'NotFoundError'));
 }

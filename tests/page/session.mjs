@@ -10,6 +10,7 @@ import { readFileSync } from 'node:fs';
 import { LOCK_NAMES, PHASES } from '../../page/src/machine/codes.js';
 import { codeOf, linesOf, wordsOf } from '../../page/src/machine/locks_code.js';
 import { learnWords } from '../../page/src/machine/word_names.js';
+import { LOCKS } from '../../page/src/locks/locks.js';
 import { commonMoves, otherLock } from '../../page/src/model/compare_runs.js';
 import { firstOf, kindsOf, learnKinds } from '../../page/src/model/kinds.js';
 import {
@@ -22,7 +23,7 @@ import { holdersText, lastLine, queueText } from '../../page/src/model/report.js
 import { Run, runOf } from '../../page/src/model/run.js';
 import { headerLine, Session } from '../../page/src/model/session.js';
 import { unlinkedAfter } from '../../page/src/model/spans.js';
-import { LANGUAGES } from '../../page/src/texts/language.js';
+import { LANGUAGES, sources } from '../../page/src/texts/language.js';
 import { texts } from '../../page/src/texts/texts.js';
 import { kindsOf as moduleKinds } from '../../page/build/kinds.mjs';
 import { bytesOf, examples, machineOf, module } from './node.mjs';
@@ -166,6 +167,9 @@ assert.deepEqual(stale(...TWO.slice(0, 9), '0 acquire', ...TWO.slice(10)).stale,
 assert.deepEqual(stale(...TWO.slice(0, 7), '0 acquire', ...TWO.slice(7)).stale, [1, 3, 4, 5]);
 assert.deepEqual(stale(...TWO.slice(0, 5), 'lock ticket threads 3', ...TWO.slice(6)).stale,
   [1, 3, 4, 5]);
+for (const head of ['lock ticket threads 2 bits 8', 'lock mcs threads 2']) {
+  assert.deepEqual(stale(...TWO.slice(0, 5), head, ...TWO.slice(6)).stale, [1, 3, 4, 5], head);
+}
 const edited = stale(...TWO.slice(0, 9), '0 acquire', ...TWO.slice(10));
 assert.deepEqual([edited.remarks.title, edited.remarks.ask.size, edited.remarks.say.get(2)],
   ['between', 0, 'A ticket.']);
@@ -328,7 +332,34 @@ const FILES = [
 for (const [others, kept, said] of FILES) {
   assert.equal(texts.own.several('a', others, kept), said);
 }
-assert.equal(LOCK_NAMES[run.kind], 'ticket');
+assert.equal(LOCK_NAMES[run.kind], LOCKS[run.kind].name);
+
+// A text has in both languages the same values, numbers, quotes and sign at its end, in the same
+// order, except for the key Pos1, the name of a panel, and numbers that begin at 0 again.
+const OTHERWISE = [
+  'page.keys.list.1.0', 'page.own.several', 'rwFifo.wraps', 'ticket.captions.wraps', 'ticket.wraps',
+];
+const PART = /<[\w.]+>|\{\w+\}|\d+|[“„”]|[.?!:…]$/g;
+// A value that a text takes, and its own values, by their names or in a list.
+const valueOf = (at) => new Proxy(new String(`<${at}>`), {
+  get(letters, name) {
+    if (name === Symbol.iterator) return () => [`<${at}.1>`, `<${at}.2>`].values();
+    const own = letters[name];
+    if (own === undefined && typeof name === 'string') return `<${at}.${name}>`;
+    return own instanceof Function ? own.bind(letters) : own;
+  },
+});
+const values = [1, 2, 3].map(valueOf);
+const partsIn = (said) => (said instanceof Function ? said(...values) : said).match(PART) ?? [];
+const inOrder = (said) => [...new Set(partsIn(said))].join(' ').replace(/[“„”]/g, '"');
+const otherwise = (english, other, path) => {
+  if (english instanceof Object && !(english instanceof Function)) {
+    return Object.keys(english).filter((name) => name in other)
+      .flatMap((name) => otherwise(english[name], other[name], [...path, name]));
+  }
+  return inOrder(english) === inOrder(other) ? [] : [path.join('.')];
+};
+assert.deepEqual(otherwise(sources, de, []).sort(), OTHERWISE);
 
 // Each text of a lesson, a refusal or a fault has a German translation.
 const german = JSON.parse(readFileSync(

@@ -146,14 +146,14 @@ function inMode(mode) {
   if (mode !== now) click(`#mode-${mode === 'lessons' ? now : mode}`);
 }
 
-function swipe(by, fingers = 1, id = 'lanes') {
+function swipe(by, fingers = 1, id = 'lanes', down = 0) {
   const node = byId(id);
-  const touch = (x, finger = 0) => (
-    new Touch({ identifier: finger, target: node, clientX: x, clientY: 300 }));
+  const touch = (x, finger = 0, y = 300) => (
+    new Touch({ identifier: finger, target: node, clientX: x, clientY: y }));
   const touches = Array.from({ length: fingers }, (_, finger) => touch(200 + 60 * finger, finger));
   const begin = { touches, changedTouches: touches, bubbles: true };
   node.dispatchEvent(new TouchEvent('touchstart', begin));
-  const end = { changedTouches: [touch(200 + by)], bubbles: true };
+  const end = { changedTouches: [touch(200 + by, 0, 300 + down)], bubbles: true };
   node.dispatchEvent(new TouchEvent('touchend', end));
 }
 

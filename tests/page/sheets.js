@@ -26,6 +26,29 @@ function sheet() {
   };
 }
 
+// Of the first memory on the sheet: the names of words, whether each is at its box, the names of
+// threads, and the fields of each record, whose boxes are in its frame.
+function blankMemory() {
+  const svg = document.querySelector('#paper .figure svg');
+  document.body.append(svg);
+  const box = (one) => one.getBBox();
+  const words = all('.word-name', svg);
+  const boxes = all('.word', svg);
+  const isAt = (one) => boxes.some((other) => Math.abs(box(other).x - box(one).x) < 2
+    && box(other).y > box(one).y + 8 && box(other).y < box(one).y + 30);
+  const records = all('.frame', svg).map((frame) => {
+    const { x, y, width, height } = box(frame);
+    const isIn = (one) => box(one).x >= x && box(one).x + box(one).width <= x + width
+      && box(one).y >= y && box(one).y + box(one).height <= y + height;
+    return [all('.name', svg).filter(isIn), all('.field', svg).filter(isIn)]
+      .map((those) => those.map(({ textContent }) => textContent).join())
+      .concat(boxes.filter(isIn).length);
+  });
+  const found = [words.map(({ textContent }) => textContent), words.every(isAt), records];
+  svg.remove();
+  return found;
+}
+
 // How these are drawn, each look once.
 const looksOf = (selector) => [...new Set(all(`#paper ${selector}`).map((one) => {
   const { fill, stroke, strokeDasharray, strokeWidth } = getComputedStyle(one);

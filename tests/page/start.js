@@ -10,6 +10,9 @@ const cards = () => all('#lessons .lock-card').map((card) => ({
   lessons: all('[data-lesson]', card).map((one) => [one.dataset.lesson, plain(one.textContent)]),
 }));
 
+// Whether each picture of a card is as wide as the card.
+const pictures = () => all('#lessons .live')
+  .map((one) => Math.abs(rect(one.querySelector('svg')).width - rect(one).width) < 2);
 const refusals = () => [count('.refusals [data-lesson]'), document.querySelector('.refusals').open];
 const ways = () => all('[data-way]').map((one) => one.dataset.way);
 const chosen = () => document.activeElement.dataset.lesson ?? null;
@@ -47,3 +50,6 @@ function hasten() {
   const { setInterval } = window;
   window.setInterval = (act, wait) => setInterval(act, wait / 10);
 }
+
+// Each marked word in a part, with the term that explains it.
+const terms = (part) => all(`${part} .term`).map((one) => [one.textContent, one.dataset.term]);

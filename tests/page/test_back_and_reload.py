@@ -76,6 +76,7 @@ def test_a_paste_without_a_text(page):
 def test_a_text_that_is_dropped(page):
     page.open(LESSON)
     text = MINE.replace(b"\xe9", b"e")
+    assert not page.js("bring", "dragover", "dataTransfer", {}), "the browser lets it be dropped"
     page.js("drop", text.decode())
     shows(page, text)
 
@@ -142,6 +143,7 @@ def test_damaged_links(page, fragment, part):
     """The page reports the damage, and the address stays until another schedule is opened."""
     page.open(fragment)
     assert part in page.js("damaged")
+    assert page.js("count", "#lessons[open]") == (part != "has no end"), "what there is, is shown"
     page.press("ArrowRight")
     page.js("leave")
     assert page.js("address") == fragment
@@ -279,3 +281,30 @@ def test_the_last_hundred_are_kept(page):
     page.press("Escape", "o")
     titles = [text.split(" at move ")[0] for text in page.js("texts", "[data-kept]")]
     assert titles == [f"of {number}" for number in range(103, 3, -1)], titles
+
+
+@cases("damage", {
+    "kept": ("lockreplay.kept", "{"), "done": ("lockreplay.done", "]"),
+    "theme": ("lockreplay.theme", "pink")})
+def test_what_the_browser_stores_may_be_damaged(page, damage):
+    """The start opens all the same, and a schedule is kept again."""
+    page.before("storeAndLoad", *damage)
+    page.open()
+    assert page.js("count", "#lessons[open] .lock-card") == 4
+    assert page.js("keptNames") == []
+    page.show(MINE)
+    page.lesson("ticket-hand-over", 10)
+    page.press("Escape", "o")
+    assert len(page.js("keptNames")) == 1
+
+
+def test_without_storage(page):
+    """A browser that stores nothing shows lessons and schedules, and keeps none."""
+    page.before("withoutStorage")
+    page.open()
+    assert page.js("count", "#lessons[open] .lock-card") == 4
+    page.show(MINE)
+    page.press("d")
+    page.lesson("ticket-hand-over", 10)
+    page.press("Escape", "o")
+    assert page.js("keptNames") == [] and page.js("theme") in ("dark", "light")

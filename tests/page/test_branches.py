@@ -90,3 +90,30 @@ def test_the_same_calls_on_the_other_lock(page):
     assert shown["lines"] == [
         "there: 6 2 section entered hold r0,2 queue -",
         "here: 6 2 section waits hold r0 queue 1"], shown
+
+
+def test_one_comparison_after_another(page):
+    """C goes from the original to the other lock, and then to no comparison."""
+    page.open("#lesson=fifo-reader-waits-behind-writer&move=6")
+    page.press("g", "0")
+    page.js("inMode", "lessons")
+    for title in ["A reader may not pass an announced writer First difference: move 7",
+                  "Simple read-write lock First difference: move 4"]:
+        page.press("c")
+        shown = page.js("compared")
+        assert shown["shown"] and shown["title"] == f"Compared with: {title}", shown
+    page.press("c")
+    assert not page.js("compared")["shown"]
+
+
+def test_a_chosen_schedule_goes_with_its_lock(page):
+    """After a lesson of another lock, the reader chooses anew."""
+    page.open("#lesson=mcs-record-used-again&move=5")
+    page.press("c")
+    page.click("#choose-other [data-other='0']")
+    assert page.js("compared")["shown"]
+    page.lesson("ticket-hand-over", 5)
+    assert not page.js("compared")["shown"]
+    page.lesson("mcs-record-used-again", 5)
+    page.press("c")
+    assert page.js("count", "#choose-other[open]") == 1 and not page.js("compared")["shown"]

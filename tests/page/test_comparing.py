@@ -136,3 +136,48 @@ def test_a_first_move_that_differs(page):
     page.click("#choose-other [data-other='1']")
     assert page.js("compared")["first"] == (
         "Compared with: Tickets wrap around First difference: move 1")
+
+
+REFUSED = "lock ticket threads 2\n0 acquire\n0 read\n"
+
+
+def compared_with(page, text, other):
+    """Shows a schedule beside another one, which was shown before and is chosen."""
+    page.open("#lesson=ticket-hand-over&move=0&future")
+    page.show(f"#! title Other\n{other}")
+    page.show(text)
+    page.js("leave")
+    page.press("Escape", "c")
+    page.js("click", "#choose-other [data-other='0']")
+
+
+def test_a_refused_move_beside_an_accepted_one(page):
+    """The refused move of the other run is crossed out in the column of the move that is shown, and
+    both lines are below the lanes."""
+    compared_with(page, "lock ticket threads 2\n0 acquire\n0 add\n", REFUSED)
+    page.go(2)
+    shown = page.js("compared")
+    assert shown["first"] == "Compared with: Other First difference: move 2", shown
+    assert page.js("texts", "#other .compared code") == [
+        "there: refused line 4 WrongStep next add", "here: 2 0 add moved hold - queue 0"]
+    assert page.js("count", "#other [data-refused]") == 1 and page.js("count", "#other .differs")
+
+
+def test_a_run_that_goes_on_until_it_is_refused(page):
+    """Two runs differ at the move after the last of the shorter one, also if that is refused."""
+    compared_with(page, "lock ticket threads 2\n0 acquire\n", REFUSED)
+    assert page.js("compared")["first"] == "Compared with: Other First difference: move 2"
+    compared_with(page, "lock ticket threads 2\n0 acquire\n",
+                  "lock ticket threads 2\n0 acquire\n")
+    assert page.js("compared")["first"] == "Compared with: Other No difference"
+
+
+def test_columns_for_the_longer_run(page):
+    """Each move of the longer run has a column beside those of the shorter one."""
+    turns = ["0 acquire", "0 add", "0 read", "0 release", "0 read", "0 write"]
+    head = "lock ticket threads 2\n"
+    compared_with(page, head + "\n".join(turns[:2]) + "\n", head + "\n".join(turns) + "\n")
+    page.go(2)
+    shown = page.js("compared")
+    assert len(shown["there"]) == 6 and len(shown["here"]) == 2, shown
+    assert sorted(shown["there"])[:2] == sorted(shown["here"]), shown

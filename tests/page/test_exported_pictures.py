@@ -7,6 +7,7 @@ import xml.etree.ElementTree
 import pytest
 
 from contrast import luminance
+from tree import cases
 
 LATE_LINK = "#lesson=mcs-late-link&move=9"
 EVERYTHING = ["title", "legend", "code", "answer"]
@@ -42,6 +43,22 @@ def test_what_was_chosen(page):
     for part in ["The late link", "acquire(me):", "in the queue, not linked", "no link", "entered"]:
         assert part in words(whole), part
     assert float(whole.get("height")) > float(tree_of(page).get("height")) + 30
+
+
+@pytest.mark.parametrize("lesson, moves", [
+    ("ticket-wraps-at-2-bits", [5, 23]), ("mcs-third-linked-before-second", [8, 14]),
+    ("simple-second-writer", [3, 6]), ("fifo-counts-wrap-at-2-bits", [9, 16])])
+def test_it_says_what_the_page_says(page, lesson, moves):
+    """The numbers, the lanes and memory have the same words in the picture as on the page, but for
+    words that are shorter where there is less room."""
+    page.open(f"#lesson={lesson}")
+    for move in moves:
+        page.go(move)
+        page.press("a")
+        said = page.js("texts", ":is(#numbers, #lanes, #memory-picture) text")
+        words_of = [sorted("".join(one.split()) for one in those if "own variable" not in one)
+                    for those in (texts(tree_of(page)), said)]
+        assert words_of[0] == words_of[1], move
 
 
 def test_the_band_has_no_gap(page):
@@ -82,11 +99,12 @@ def test_an_open_question_is_asked_about(page):
 
 @pytest.mark.parametrize("lesson, move", [
     ("mcs-late-link", 9), ("fifo-reader-waits-behind-writer", 6)])
-@pytest.mark.parametrize("what, parts", [("svg", ["code"]), ("strip", [])])
-def test_nothing_is_outside(page, lesson, move, what, parts):
+@pytest.mark.parametrize("what, parts, moves", [
+    ("svg", ["code"], None), ("strip", [], None), ("strip", [], [0, 15])])
+def test_nothing_is_outside(page, lesson, move, what, parts, moves):
     """All lines of the code are inside the picture, and all memories are inside the strip."""
     page.open(f"#lesson={lesson}&move={move}")
-    shown = page.js("alone", parts, what)
+    shown = page.js("alone", parts, what, moves)
     assert len(shown["inside"]) > 16 and shown["outside"] == [], shown
 
 
@@ -98,6 +116,35 @@ def test_which_moves_are_offered(page):
         page.press("t")
         assert [page.js("value", f"#take-{end}") for end in ("from", "to")] == offered, move
         page.press("Escape")
+
+
+@pytest.mark.parametrize("lesson, first, last", [
+    ("ticket-wraps-at-2-bits", 3, 6), ("mcs-record-used-again", 1, 4),
+    ("fifo-writer-enters-at-once", 0, 3)])
+def test_a_strip_says_what_memory_says(page, lesson, first, last):
+    """Each picture of a strip has the words of memory after its move."""
+    page.open(f"#lesson={lesson}")
+    strip = xml.etree.ElementTree.fromstring(page.js("stripOf", first, last))
+    pictures = [one for one in strip.findall("{*}g") if one.find(".//{*}svg") is not None]
+    assert len(pictures) == last - first + 1
+    for move, picture in enumerate(pictures, first):
+        page.go(move)
+        page.press("a")
+        head, *words_of = texts(picture)
+        assert head.startswith(f"{move} ")
+        said = page.js("texts", "#memory-picture text")
+        assert sorted("".join(one.split()) for one in words_of if "own var" not in one) == sorted(
+            "".join(one.split()) for one in said if "own var" not in one), move
+
+
+def test_which_moves_are_taken(page):
+    """The numbers may be in any order. What is no number is 0, and beyond the last move is that."""
+    page.open("#lesson=mcs-late-link&move=3")
+    for asked, taken in [((9, 6), "6 7 8 9"), ((-5, 2), "0 1 2"), ((15, 99), "15 16"),
+                         (("", 1), "0 1"), ((4, 4), "4"), ((16, 16), "16")]:
+        said = texts(xml.etree.ElementTree.fromstring(page.js("stripOf", *asked)))
+        assert " ".join(one.split()[0] for one in said if one[0].isdigit()
+                        and len(one.split()) > 1) == taken, asked
 
 
 def test_a_strip_from_the_start(page):
@@ -118,6 +165,22 @@ def test_a_strip(page):
     assert said.count("tail") == 4 and said.count("no link") == 3, said
 
 
+@pytest.mark.parametrize("lesson, move", [
+    ("ticket-wraps-at-2-bits", 23), ("mcs-third-linked-before-second", 12),
+    ("simple-second-writer", 6), ("fifo-reader-waits-behind-writer", 6)])
+def test_parts_are_apart(page, lesson, move):
+    """From top to bottom a picture has its title, the numbers just above the lanes, the signs, and
+    memory, with the code beside it."""
+    page.open(f"#lesson={lesson}&move={move}")
+    title, numbers, lanes, signs, memory, code, whole = page.js("partsOf", EVERYTHING)
+    assert title["bottom"] <= numbers["top"] + 8 and abs(numbers["bottom"] - lanes["top"]) < 1
+    for above, below in [(lanes, signs), (signs, memory)]:
+        assert 5 <= below["top"] - above["bottom"] <= 40, (above, below)
+    assert 8 <= whole["bottom"] - max(memory["bottom"], code["bottom"]) <= 30
+    assert code["left"] >= memory["right"] and code["right"] <= whole["right"] - 10
+    assert abs(code["top"] - memory["top"]) < 20
+
+
 def test_an_animation(page):
     """An animation is an APNG with a frame for each move, which the browser shows."""
     page.open(LATE_LINK)
@@ -126,6 +189,59 @@ def test_an_animation(page):
     assert kinds.count("fcTL") == 4 and kinds[:3] == ["IHDR", "acTL", "fcTL"], kinds
     assert kinds.count("fdAT") >= 3 and kinds[-1] == "IEND" and shown["width"] > 1000
     assert shown["seconds"] == [1.2, 1.2, 1.2, 3], "the last one stays for longer"
+
+
+def test_frames_have_one_size(page):
+    """Each frame of an animation fills the picture, though its own picture may be lower."""
+    page.open()
+    page.show("lock rw-simple threads 7\n" + "".join(f"{one} wlock\n" for one in range(7)), 1)
+    low = float(tree_of(page).get("height"))
+    page.go(7)
+    assert float(tree_of(page).get("height")) > low + 20
+    size, *frames = page.js("animation", 1, 7)["sizes"]
+    assert frames == [size] * 7
+
+
+def test_each_frame_is_of_its_move(page):
+    """The frames are the pictures that the page makes of these moves one by one."""
+    page.open("#lesson=mcs-record-used-again&move=0")
+    one_by_one = []
+    for move in (1, 2, 4):
+        page.go(move)
+        one_by_one.append(page.js("pointsOf"))
+    frames = page.js("animation", 1, 4)["data"]
+    assert len(set(frames)) == 4
+    assert [frames[0], frames[1], frames[3]] == one_by_one
+
+
+# By hand: the bands of the move in the numbers and in the lanes, the bar of the call, its mark, two
+# words, and the place of the next ticket; the line of the lane; the numbers 1, 0, 0 and 0, and the
+# names of the thread, of the call, of both words and of the next place, with the note above it.
+SHAPES = {"rectangle": 7, "svg {": 1, "circle[": 0, "\\node": 10}
+
+
+def test_shapes_for_latex(page):
+    """A picture for LaTeX has each shape that is seen, and no other."""
+    page.open()
+    page.show("lock ticket threads 1\n0 acquire\n", 1)
+    text = page.js("taken", "tikz", [])
+    assert "\\pagestyle{empty}\n\\begin{document}\n" in text, "no number of a page"
+    lines = [line for line in text.splitlines()
+             if line.startswith("\\path") or line.startswith("\\node") and not line.endswith("{};")]
+    assert {shape: sum(shape in line for line in lines) for shape in SHAPES} == SHAPES, lines
+
+
+@cases("theme, holds, queue, fails", {
+    "light": ("light", (29, 90, 168), (251, 227, 176), (185, 47, 24)),
+    "dark": ("dark", (106, 174, 255), (74, 58, 23), (255, 129, 103))})
+def test_colours_for_latex(page, theme, holds, queue, fails):
+    """The bars of who holds and of who waits, and the cross of the compare-and-swap that fails."""
+    page.open(f"{LATE_LINK}&theme={theme}")
+    lines = page.js("taken", "tikz", []).splitlines()
+    for option, (red, green, blue), shape in [
+            ("fill", holds, "rectangle"), ("fill", queue, "rectangle"), ("draw", fails, "svg {")]:
+        colour = f"{option}={{rgb,255:red,{red};green,{green};blue,{blue}}}"
+        assert any(colour in line and shape in line for line in lines), (colour, lines)
 
 
 def test_dashes_for_latex(page):

@@ -1,4 +1,5 @@
 """Exports: pictures, the report and a frame; and what the page says about itself."""
+import re
 import xml.etree.ElementTree
 
 import pytest
@@ -47,6 +48,18 @@ def test_the_report_and_the_schedule(page, what, name):
     assert page.js("take", what) == [name, (EXAMPLES / f"mcs-late-link.{what}").read_text("ascii")]
 
 
+@pytest.mark.parametrize("what, name", [
+    ("tikz", "mcs-late-link-9.tex"), ("strip", "mcs-late-link-9.strip.svg"),
+    ("animated", "mcs-late-link-9.moves.png")])
+def test_names_of_files(page, what, name):
+    """A file has the names of the lesson and of the move, and a schedule of one's own has one."""
+    page.open(LATE_LINK)
+    page.press("t")
+    assert page.js("take", what)[0] == name
+    page.show("lock ticket threads 1\n0 acquire\n", 1)
+    assert page.js("take", what)[0] == name.replace("mcs-late-link-9", "schedule-1")
+
+
 @pytest.mark.parametrize("look", ["", "&hall&future&show=time,now&theme=dark"])
 def test_the_frame(page, look):
     """The frame has its own look in place of that of the page."""
@@ -84,6 +97,28 @@ def test_who_it_is(page):
         assert f"docs/{name}" in said and (TOP / "docs" / name).exists()
 
 
+def test_what_the_page_has_of_itself(page):
+    """The code of each lock is folded below the words for it, and a button leads to the plans."""
+    page.open("#lesson=mcs-late-link&move=3")
+    page.js("click", "#show-about")
+    assert page.js("texts", "#about summary, #about [data-plans]") == [
+        "The locks as code", "Lesson plans for teachers"]
+    assert page.js("texts", "#about details h3") == [
+        "Ticket lock", "MCS queue lock", "Simple read-write lock", "FIFO read-write lock"]
+    locks = (TOP / "docs" / "LOCKS.md").read_text("utf-8")
+    shown_code = page.js("texts", "#about pre")
+    for name, shown in zip(["ticket", "mcs", "rw-simple", "rw-fifo"], shown_code):
+        block = locks.split(f"```{name}\n")[1].split("\n```")[0]
+        assert shown == " ".join(re.sub(r" *-- .*", "", block).split()), name
+    assert page.js("texts", "#about [aria-pressed=true]") == ["English"]
+    assert page.js("texts", "#about [lang]") == ["English", "Deutsch"]
+
+
+# Of a call, and of a step with each outcome.
+PLAIN = {1: "a call begins", 2: "the call goes on", 3: "the thread holds from this move on",
+         10: "a failed poll", 15: "the thread no longer holds"}
+
+
 def test_words_of_the_report(page):
     """The page shows the outcome in the word of the report, and in plain words beside it."""
     page.open(LATE_LINK)
@@ -91,3 +126,6 @@ def test_words_of_the_report(page):
         "#now .outcome", "#now .plain", "#code h2", "#now dt:last-of-type"]]
     assert shown == ["cas fails", "the compare-and-swap fails", "Code: this move and next steps",
                      "Queue"]
+    for move, plain in PLAIN.items():
+        page.go(move)
+        assert page.text("#now .plain") == plain, move

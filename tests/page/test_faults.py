@@ -37,6 +37,7 @@ FAULTS = [
     (f"{CALLED}0 a\u200bdd\n", 3, 1, ["U+200B", "Write “0 add”"]),
     (f"{CALLED}0 a\0dd\n", 3, 1, ["U+0000", "Write “0 add”"]),
     (f"{HEADER}0 \u0430cquire\n", 2, 0, ["“\u0430” is not an ASCII character, but U+0430"]),
+    (f"{HEADER}0 \U0001f600\n", 2, 0, ["“\U0001f600” is not an ASCII character, but U+1F600"]),
     ("lock mcs threads 2\r0 acquire\r", 1, 0, ["carriage returns (CR) alone"]),
     ("l\0o\0c\0k\0", 1, 0, ["UTF-16"]),
     (f"{CALLED}00 add\n", 3, 1, ["no leading zero"]),
@@ -81,7 +82,9 @@ def test_what_is_said(page):
         assert shown["moves"] == count, (text, shown)
         for part in parts:
             assert part in shown["verdict"], (text, part, shown["verdict"])
-        assert ("before it can be stepped through" in shown["verdict"]) == (count > 0), text
+        moves = "move" if count == 1 else f"{count} moves"
+        assert (f"The {moves} before it can be stepped through." in shown["verdict"]) == (
+            "stepped through" in shown["verdict"]) == (count > 0), text
         if count:
             page.js("go", 0)
             page.js("click", "#forward")

@@ -35,11 +35,13 @@ def shown_lines(page):
 def test_a_kind_is_found(page):
     """The page opens the run at its last move, the one of the kind. Undo brings the lesson back."""
     page.open(HAND_OVER)
+    page.press("g")
     assert "cas failed" in ask(page, lock="mcs", kind="12")
     page.becomes("release: failed compare-and-swap", "text", "#title")
     assert page.js("count", "#find[open]") == 0
     shown, lines = shown_lines(page)
     assert shown["place"] == shown["moves"] == 9 and not shown["refused"], shown
+    assert shown["mode"] == "lessons", "a panel that was open is closed"
     assert lines[0] == "lock mcs threads 2" and lines[-1].endswith(" cas"), lines
     page.press("u")
     assert page.shown()["lesson"] == "ticket-hand-over"
@@ -62,6 +64,16 @@ def test_each_lock_lists_its_kinds(page, lock, count):
     page.press("m")
     page.js("fill", [["lock", lock]])
     assert len(set(page.js("kinds"))) == count
+
+
+def test_bounds_of_numbers(page):
+    """The fields of Find and of a new schedule take the numbers that the machine takes."""
+    page.open(HAND_OVER)
+    for field, bounds in {
+            "#find-form [name=threads]": ["1", "64"], "#find-form [name=bits]": ["2", "64"],
+            "#new [name=threads]": ["1", "64"], "#new [name=bits]": ["2", "64"],
+            "#find-rounds": ["1", "255"]}.items():
+        assert [page.js("attribute", field, end) for end in ("min", "max")] == bounds, field
 
 
 def test_lines_go_with_their_lock(page):
@@ -161,6 +173,9 @@ BOTH_LOCKED = "0 write locked of 1\n1 write locked of 0"
                NO_LINE),
     "a last not": ({"lock": "ticket", "threads": "2", "sketch": "0 add\nnot 1\n"},
                    "“not” holds up to the next line, and there is none."),
+    "a last not before blanks": (
+        {"lock": "ticket", "threads": "2", "sketch": "0 add\nnot 1\n  \n"},
+        "“not” holds up to the next line, and there is none."),
     "an outcome that no step has": (
         {"lock": "mcs", "threads": "2", "rounds": "1", "sketch": "* write waits"},
         "No run of 2 threads, each of which takes the lock at most once, has these lines: all 76 "

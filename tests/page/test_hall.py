@@ -42,6 +42,19 @@ def test_by_key(page):
     page.becomes("#lesson=mcs-late-link&move=10", "address")
 
 
+def test_how_tall_lanes_are(page):
+    """The lanes of many threads are lower above memory, which needs more room, than above another
+    part."""
+    page.open(LATE_LINK)
+    page.show("lock ticket threads 64\n" + "".join(f"{one} acquire\n" for one in range(64)), 64)
+    page.press("h")
+    heights = {}
+    for part in ["time", "memory", "now", "time"]:
+        page.js("choosePart", part)
+        heights[" ".join(page.js("parts"))] = page.js("lanesHeight")
+    assert heights["time now"] > 1.1 * heights["time memory"], heights
+
+
 def test_two_parts_are_chosen(page):
     """Hall mode shows two parts. A chosen third part replaces the first."""
     page.open(f"{LATE_LINK}&hall")

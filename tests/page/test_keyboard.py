@@ -87,6 +87,9 @@ def test_speed(page):
                        (",", "0.5"), (".", "1")]:
         page.press(key)
         assert page.js("value", "#speed") == speed, key
+    page.js("focus", "#speed")
+    page.press("ArrowDown")
+    assert page.js("value", "#speed") == "2", "chosen from the list"
 
 
 def test_speed_while_moves_run(page):

@@ -6,7 +6,7 @@ import re
 import pytest
 
 from reports import LESSONS, moves_of
-from tree import EXAMPLES
+from tree import EXAMPLES, cases
 
 GERMAN = "#lesson=mcs-late-link&move=0&lang=de"
 TRANSLATIONS = json.loads((EXAMPLES / "lessons.de.json").read_text("utf-8"))
@@ -61,6 +61,11 @@ def test_pictures_fit(page, width, height, look):
             assert not any(page.js("cut", name)), name
 
 
+def english(page):
+    """Waits until the page has begun anew, in English."""
+    page.wait(lambda: page.tried(page.js, "hasBegunIn", "en"), lambda: "it stays German")
+
+
 def test_by_the_address_and_back(page):
     """The address keeps the language, and the dialog about the page changes it."""
     page.open("#lesson=mcs-late-link&move=9&lang=de")
@@ -69,8 +74,17 @@ def test_by_the_address_and_back(page):
     page.becomes("#lesson=mcs-late-link&move=10&lang=de", "address")
     page.js("click", "#show-about")
     page.js("click", "#about [data-lang=en]")
-    page.wait(lambda: page.tried(page.js, "language") == "en", lambda: "it stays German")
+    english(page)
     page.becomes("#lesson=mcs-late-link&move=10&lang=en", "address")
+
+
+@pytest.mark.parametrize("link", ["#lang=de&lesson=none", "#lesson=none&lang=de"])
+def test_another_language_of_a_damaged_link(page, link):
+    """The language that is chosen at the start replaces that of a link which stays as it is."""
+    page.open(link)
+    page.js("click", "#lessons [data-lang=en]")
+    english(page)
+    assert page.js("addressEnds", "lesson=none&lang=en")
 
 
 @pytest.mark.parametrize("wanted, language", [
@@ -113,6 +127,17 @@ def test_how_threads_stand(page):
     assert page.js("signs") == SIGNS
 
 
+@cases("moves, said", {
+    "writer": ("0 wlock\n0 section\n", "findet keinen Leser und das flag gelöscht, setzt es und"),
+    "poll": ("1 rlock\n1 section\n0 wlock\n0 section\n",
+             "fragt ab und wartet: readers ist 1, und das flag ist 0; beide müssen 0 sein"),
+    "reader": ("0 rlock\n0 section\n", "findet keinen Schreiber und trägt sich ein")})
+def test_what_a_section_found(page, moves, said):
+    page.open(GERMAN)
+    page.show(f"lock rw-simple threads 2\n{moves}", moves.count("\n"))
+    assert f"Thread 0 {said}" in page.text("#now")
+
+
 # Synonyms that German texts must not use. The words for these things are Record, Zähler, drinnen,
 # Reihenfolge, Kopfzeile (a queue has a Kopf, its head), Trace, wieder bei 0.
 OTHER_WORDS = re.compile(
@@ -135,6 +160,21 @@ def test_titles_of_what_is_refused(page):
     said = page.text(".refusals")
     for part in ["Busy: ein Aufruf", "WrongStep: ein read, wo", "BadThreads: 65 Threads"]:
         assert part in said
+
+
+@pytest.mark.parametrize("call, holds", [("rlock", "zum Lesen"), ("wlock", "zum Schreiben")])
+def test_who_holds_at_a_refused_move(page, call, holds):
+    page.open(GERMAN)
+    page.show(f"lock rw-simple threads 2\n0 {call}\n0 section\n1 runlock\n", 3)
+    assert f"Thread 0 hält die Sperre {holds}." in page.text("#now")
+
+
+@pytest.mark.parametrize("moves, said", [
+    (1, "Der Zug davor lässt sich zeigen."), (2, "Die 2 Züge davor lassen sich zeigen.")])
+def test_moves_before_a_fault(page, moves, said):
+    page.open(GERMAN)
+    page.show("".join(["lock ticket threads 2\n", *["0 acquire\n", "0 add\n"][:moves], "0 go\n"]))
+    assert said in page.text("#verdict")
 
 
 def test_the_card_of_mcs(page):

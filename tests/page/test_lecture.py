@@ -97,6 +97,8 @@ def test_the_clock(page):
     """The clock shows the minutes left in the plan, and after its end the minutes over."""
     begin(page, "mcs")
     assert re.fullmatch(r"10:00|9:5\d", page.js("step")["clock"])
+    assert [page.js("attribute", f"#lecture {part}", "title") for part in ("b", "span")] == [
+        "Minutes left", "MCS queue lock"]
     page.js("wait", 11)
     page.until("clockBegins", "−1:")
 
@@ -173,12 +175,51 @@ def test_a_second_window(page):
     said = page.until("presented")
     assert "The tail alone, and Bob's own pred" in said and "The next move" in said, said
     assert "Next step: The late link, 9" in said, said
+    assert page.js("windowThere") == ["lockreplay: for the presenter", "presenter", True]
     page.js("pressThere", "n")
     assert page.js("step")["place"] == 9
     page.press("d")
     assert page.js("themeThere") == page.js("theme") != ""
     page.js("wait", 11)
     page.until("clockThereBegins", "−1:")
+    page.js("closeThere")
+
+
+def test_what_the_second_window_says_at_each_move(page):
+    """It has the sentences on the move and on the next one, who holds, and the question's answer,
+    before the hall sees them."""
+    remarks = {}
+    for name, text in re.findall(r"^#! ((?:ask|answer) \d+) (?:hide [a-z ]+ : )?(.+)$", (
+            EXAMPLES / "mcs-late-link.schedule").read_text("ascii"), re.MULTILINE):
+        remarks[name] = f"{remarks[name]} {text}" if name in remarks else text
+    page.before("keepWindows")
+    page.open("#lesson=mcs-late-link&move=0")
+    sentences = ["", *page.js("sentences", 16), ""]
+    page.press("2")
+    page.until("presented")
+    for move, (shown, facts) in enumerate(page.js("presentedAt", 16)):
+        parts = {"": ["The late link", f"{move} of 16"]}
+        if move:
+            parts["This move"] = [sentences[move]]
+        if f"ask {move}" in remarks:
+            parts["Question:"] = [remarks[f"ask {move}"], remarks[f"answer {move}"]]
+        if move < 16:
+            parts["The next move"] = [sentences[move + 1]]
+        assert shown == parts, move
+        assert facts[0] == facts[1], move
+    page.js("closeThere")
+
+
+def test_the_second_window_beside_a_text_without_a_lock(page):
+    """It stays as it is until the text has a lock again."""
+    page.before("keepWindows")
+    page.open("#lesson=mcs-late-link&move=3")
+    page.press("2")
+    said = page.until("presented")
+    page.show("no lock\n")
+    assert page.shown()["title"] == "Your own schedule" and page.js("presented") == said
+    page.show("#! title Mine\nlock ticket threads 1\n0 acquire\n", 1)
+    assert page.js("presented").startswith("Mine 1 of 1 This moveThread 0 calls acquire")
     page.js("closeThere")
 
 

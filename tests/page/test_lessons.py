@@ -164,6 +164,8 @@ def test_who_has_polled_in_vain(page):
     page.show("lock rw-simple threads 3\n0 rlock\n0 section\n1 wlock\n1 section\n2 rlock\n", 5)
     assert page.js("texts", "#memory-picture .wants + .note") == ["failed poll"]
     assert page.js("texts", "#memory-picture .wants:has(+ .note) title") == ["wants to write"]
+    page.go(4)
+    assert page.js("texts", "#memory-picture .wants + .note") == ["failed poll"], "its first"
     page.go(3)
     assert page.js("texts", "#memory-picture .wants + .note") == [], "it has not polled yet"
 

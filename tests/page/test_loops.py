@@ -75,6 +75,8 @@ def test_signs(page):
     page.open()
     page.show(STARVES, 0)
     assert page.js("signs") == [1, 1, [2]]
+    page.show(STARVES, 6)
+    assert abs(page.js("beforeMark", 2) - 0.5) < 0.1, "it is between two columns"
     page.show(ALONE, 3)
     assert page.js("signs") == [1, 1, [1]]
     page.show(ENDS, 1)

@@ -2,6 +2,7 @@
 import pytest
 
 from reports import moves_replayed, numbers_of
+from tree import cases
 
 # Calls after which all threads wait for the holder; or all read, and the last waits to write.
 CALLS = {
@@ -42,6 +43,32 @@ def test_what_moves_is_in_view(page, lockreplay, lock, threads):
             assert shown["moving"] and shown["threads"] == threads, where
         if threads > 8:
             assert any(letter.isdigit() for letter in shown["note"]), where
+
+
+# A reader that leaves is drawn twice: inside, and at the monitor. A writer polls in no queue.
+@cases("lock, move, drawn", {
+    "ticket": ("ticket", "14 read", 28), "mcs": ("mcs", "14 read", 28),
+    "rw-simple": ("rw-simple", "14 section", 28), "rw-fifo": ("rw-fifo", "14 runlock", 29)})
+def test_what_moves_in_the_middle(page, lock, move, drawn):
+    """A thread that would be folded is drawn, listed and in view while it moves."""
+    page.open()
+    text, count = schedule(lock, 28)
+    page.js("open", [f"{text}{move}\n", "lessons", count + 1])
+    shown = page.js("drawn")
+    assert shown["moving"] and shown["laneInView"] and shown["threads"] == drawn, shown
+    assert page.js("count", "#now .pill[data-thread='14']") == (lock != "rw-simple")
+
+
+@pytest.mark.parametrize("lock", CALLS)
+def test_words_of_folds(page, lock):
+    """How many threads are not drawn is said in the middle of their frame, and memory has room."""
+    page.open()
+    text, count = schedule(lock, 64)
+    page.js("open", [text, "lessons", count])
+    folds = page.js("folds")
+    assert folds and all(abs(left - right) < 2 and left > -1 for left, right in folds), folds
+    assert page.js("memoryBeyond") <= 0
+    assert page.js("besideColumn") == [0] * (lock == "rw-simple")
 
 
 def test_who_is_not_linked(page):
@@ -132,6 +159,20 @@ def test_no_value_is_cut(page, lock, moves, mode):
     text = "\n".join([f"lock {lock} threads 2", *moves]) + "\n"
     page.js("open", [text, mode, len(moves)])
     assert page.js("cut") == []
+
+
+@cases("polls, key, said", {
+    "no such thread": (1, "7", "Choose who moves next. The machine plays what you choose."),
+    "full": (65531, "0", "A schedule has at most 65,536 moves.")})
+def test_a_digit_that_chooses_nothing(page, polls, key, said):
+    """The key of a thread that the lock does not have, and any after the most moves."""
+    page.open()
+    before = "lock ticket threads 3\n0 acquire\n0 add\n0 read\n1 acquire\n1 add\n"
+    page.js("open", [before + polls * "1 read\n", "play", polls + 5])
+    page.press(key)
+    shown = page.shown()
+    assert shown["place"] == shown["moves"] == polls + 5 and shown["mode"] == "play"
+    assert page.text("#choices .hint") == said
 
 
 @pytest.mark.parametrize("lock, call, line", [

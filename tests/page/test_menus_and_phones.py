@@ -2,6 +2,8 @@
 windows."""
 import pytest
 
+from tree import cases
+
 LESSON = "#lesson=mcs-late-link&move=3"
 ONE = "lock mcs threads 2\n0 acquire\n"
 
@@ -126,12 +128,17 @@ def test_a_finger(page):
     assert page.js("small") == []
 
 
-def test_two_fingers(page):
-    """Two fingers zoom the page, and make no step."""
+@cases("swipe, place", {
+    "two fingers": ((-120, 2), 10), "short": ((-40,), 10), "steep": ((-120, 1, "lanes", 80), 10),
+    "steep up": ((120, 1, "lanes", -80), 10), "slanted": ((-120, 1, "lanes", 40), 11),
+    "beside the lanes": ((120, 1, "now"), 9)})
+def test_which_swipe_steps(page, swipe, place):
+    """One finger makes a step that moves far enough, and at least twice as far across as down. Two
+    fingers zoom the page."""
     page.resize(390, 844)
     page.open("#lesson=mcs-late-link&move=10")
-    page.js("swipe", -120, 2)
-    assert page.js("place") == 10
+    page.js("swipe", *swipe)
+    assert page.js("place") == place
 
 
 def test_a_finger_in_the_text(page):

@@ -16,6 +16,7 @@ def test_typed(page):
                            "1 sektion"]).replace("\n", "\ue007"))
     page.until("verdictHas", "Did you mean “section”?")
     assert page.shown()["moves"] == 3
+    assert page.text("#subtitle").startswith("Simple read-write lock, 2 threads")
 
 
 @pytest.mark.parametrize("data, said, count", [
@@ -47,6 +48,18 @@ def test_a_file_that_was_changed(page, tmp_path):
         assert page.js("value", "#file") == ""
 
 
+@pytest.mark.parametrize("language, said", [
+    ("en", ["The header is accepted. No move yet.", "The one move is accepted.",
+            "All 2 moves are accepted."]),
+    ("de", ["Die Kopfzeile ist angenommen. Noch kein Zug.", "Der eine Zug ist angenommen.",
+            "Alle 2 Züge sind angenommen."])])
+def test_how_much_is_accepted(page, language, said):
+    page.open(f"#lang={language}")
+    for count, sentence in enumerate(said):
+        page.show("".join(HEAD.decode().splitlines(True)[:count + 1]))
+        assert page.text("#verdict .good") == sentence
+
+
 def test_a_title_by_default(page):
     """Without a title, the first comment is the title, up to its first colon or full stop."""
     page.open()
@@ -65,6 +78,22 @@ def test_the_line_of_the_move(page):
     page.shown(position="3 of 3")
     page.press("ArrowUp")
     page.shown(position="2 of 3")
+
+
+def test_numbers_beside_a_long_text(page):
+    """The line of the move is scrolled to, and each line in view has its number beside it."""
+    page.open()
+    page.show("lock ticket threads 2\n0 acquire\n0 add\n1 acquire\n1 add\n" + "1 read\n" * 200)
+    for move in (0, 150, 204, 3):
+        page.go(move)
+        page.js("blur")
+        shown = page.js("marked")
+        assert shown["number"] == move + 1 and shown["isSeen"] and set(shown["far"]) == {0}, shown
+        first, last = shown["seen"][0], shown["seen"][-1]
+        assert shown["seen"] == list(range(first, last + 1)), shown
+        assert len(shown["seen"]) >= shown["most"] - 1 > 5, shown
+    page.js("scrollText", 1100)
+    page.becomes("51", "text", "#gutter div div")
 
 
 def test_the_line_of_a_refused_move(page):
@@ -86,6 +115,15 @@ def test_dropped_and_pasted(page):
     page.until("verdictEnds", "end 1")
     page.js("paste", "lock rw-fifo threads 1\n0 rlock\n0 section\n")
     page.until("verdictEnds", "end 2")
+
+
+def test_a_file_that_cannot_be_read(page):
+    """The page says so, and what it shows stays."""
+    page.open("#lesson=mcs-late-link&move=9")
+    page.js("readNothing")
+    page.js("dropFile", "lock mcs threads 1\n0 acquire\n")
+    page.becomes("The file could not be read.", "text", "#notice")
+    page.shown(place=9)
 
 
 def test_saved(page, tmp_path):

@@ -114,6 +114,24 @@ def test_memory_and_code(page):
     assert page.js("words", "#paper td:nth-child(2)") == "Ann (0)"
 
 
+@cases("lesson, moves", {
+    "ticket": ("ticket-wraps-at-2-bits", [0, 5, 23]), "mcs": ("mcs-late-link", [3, 10, 14]),
+    "simple": ("simple-second-writer", [2, 5]), "fifo": ("fifo-counts-wrap-at-2-bits", [7, 15])})
+def test_memory_on_paper(page, lesson, moves):
+    """A sheet has the memory and the line of code of the move that is shown on the page."""
+    page.open(f"#lesson={lesson}")
+    for move in moves:
+        page.go(move)
+        page.press("a")
+        page.js("drawPaper")
+        for there, here in [("#memory-picture text", "#paper .figure svg text"),
+                            ("#code-lines .here code", "#paper .code .here code"),
+                            ("#memory-says", "#paper .figure svg + p")]:
+            said, printed = (sorted(one for one in page.js("texts", part)
+                                    if "own variable" not in one) for part in (there, here))
+            assert said == printed, (move, there)
+
+
 def test_an_exercise_sheet(page):
     """An exercise sheet has the moves of threads, and blanks for the outcomes and the answers."""
     page.open(LATE_LINK)

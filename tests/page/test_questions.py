@@ -53,6 +53,8 @@ def test_where_questions_are(page):
     page.open("#lesson=mcs-late-link&move=16")
     asked = [move for name, move, _ in QUESTIONS if name == "mcs-late-link"]
     assert page.js("marked") == {"numbers": asked, "slider": asked}
+    page.show(OWN, 5)
+    assert page.js("marked") == {"numbers": [3, 4, 5], "slider": [3, 4, 5]}, "5 is the last move"
 
 
 def test_who_holds_is_not_drawn(page):
@@ -94,6 +96,16 @@ def test_the_form_of_before_is_valid(page, move, question, hidden):
     found = [part for part in ("sentence", "facts", "caption") if not shown[part]]
     assert found == hidden, shown
     assert page.text("#now .question p") == f"Question: {question}"
+
+
+@pytest.mark.parametrize("part, parts", [
+    ("sentence", ["sentence"]), ("facts", ["facts", "report"]), ("memory", ["caption"])])
+def test_one_part_is_hidden(page, part, parts):
+    """The report's line is one of the facts, and no part hides another."""
+    page.open()
+    page.show(OWN.replace("hide sentence facts", f"hide {part}"), 4)
+    shown = page.js("beside")
+    assert [one for one in ("sentence", "facts", "report", "caption") if not shown[one]] == parts
 
 
 WAITS = "A question waits here: A shows its answer, another → goes on."

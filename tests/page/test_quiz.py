@@ -47,8 +47,23 @@ def test_a_wrong_answer_is_told_why(page):
     assert "0 right, 1 wrong" in page.text("#now .score")
     page.lesson("ticket-hand-over")
     assert "0 right, 1 wrong" in page.text("#now .score")
-    report = page.js("saved")
-    assert "A reader may not pass" in report and "\n- " in report, report
+
+
+def test_the_points_of_each_schedule(page):
+    """The file for the teacher has the points of each schedule above its answers, and of all."""
+    begin(page, LESSON)
+    kind = page.js("asked")["kind"]
+    page.js("answer", "waits" if kind == "outcome" else "w2")
+    page.lesson("ticket-hand-over")
+    shown = page.js("asked")
+    truth = moves_of(LESSONS["ticket-hand-over"])[shown["move"] - 1][TRUTH[shown["kind"]]]
+    page.js("answer", truth)
+    head, wrong, right = page.js("saved").split("\n\n")
+    assert head.endswith("\n# Points: 0 (1 right, 1 wrong)"), head
+    assert wrong.startswith("# A reader may not pass an announced writer\n"
+                            "# Points: 0 (0 right, 1 wrong)\n- "), wrong
+    assert right.splitlines()[1] == "# Points: 1 (1 right, 0 wrong)", right
+    assert right.splitlines()[2].startswith("+ ") and right.rstrip().endswith(f": {truth}"), right
 
 
 def test_a_wrong_answer_takes_a_point(page):
@@ -121,6 +136,7 @@ def test_what_there_is_to_do(page, look, box):
     assert page.text(f"{box} .quiz-how").startswith("Go on with →: before move 2 it is asked"), box
     page.press("ArrowRight")
     assert page.js("count", f"{box} .quiz-how") == 0 and page.js("count", "#quiz-form") == 1
+    assert page.text("#quiz-form button") == "CheckEnter"
     page.press("Escape", "q")
     page.go(10)
     page.press("q")

@@ -33,6 +33,46 @@ def test_marks_and_places(page):
         assert shown["places"] - shown["arrows"] == 2 * shown["pictures"], (name, shown)
 
 
+WORDS = {
+    "ticket-hand-over": (["next_ticket", "now_serving"], []),
+    "mcs-late-link": (["tail"], [["Ann", "next,locked", 2], ["Bob", "next,locked", 2]]),
+    "simple-downgrade": (["readers", "flag"], []),
+    "fifo-downgrade": (["readAcquires", "readReleases", "flag"], [])}
+
+
+@pytest.mark.parametrize("name", WORDS)
+def test_words_to_be_filled_in(page, name):
+    """The blank memory has each word of the lock, and records with their fields."""
+    page.open(f"#lesson={name}&move=0")
+    page.js("sheet")
+    words, records = WORDS[name]
+    assert page.js("blankMemory") == [words, True, records]
+
+
+def test_after_which_moves_memory_is_asked_for(page):
+    """Memory is drawn after the moves whose questions hide it, at most two, or after any move. Of
+    more the one after the first third and the one after the second are asked for."""
+    page.open()
+    asked = 0
+    for name in LESSONS:
+        schedule = (EXAMPLES / f"{name}.schedule").read_text("latin-1")
+        moves = sorted({int(move) for move, parts in re.findall(
+            r"^#! ask (\d+) hide ([a-z ]+) : ", schedule, re.MULTILINE) if "memory" in parts})
+        if len(moves) > 2:
+            moves = [moves[len(moves) // 3], moves[2 * len(moves) // 3]]
+        page.lesson(name)
+        page.js("sheet")
+        asked += len(moves)
+        assert page.js("texts", "#paper .figure.blanks > div:not(.code) > h3") == [
+            f"Memory after move {move}" for move in moves or ["____"]], name
+    assert asked > 8
+    page.show("#! ask 1 hide facts standing : Who?\n#! ask 2 hide facts memory : What?\n"
+              "lock ticket threads 1\n0 acquire\n0 add\n0 read\n")
+    page.js("sheet")
+    assert page.js("texts", "#paper .figure.blanks > div:not(.code) > h3") == [
+        "Memory after move 2"]
+
+
 def test_the_mark_that_is_explained(page):
     """The legend explains the blank as it is drawn in the lanes."""
     page.open("#lesson=mcs-late-link&move=0")

@@ -1,7 +1,10 @@
 """The start says what the page is, and has four cards with lessons, and ways to go on."""
+import re
+
 import pytest
 
-from tree import EXAMPLES
+from test_each_state import Replay
+from tree import EXAMPLES, cases
 
 LOCKS = ["ticket", "mcs", "rw-simple", "rw-fifo"]
 REFUSED = ("refused", "fault")
@@ -28,6 +31,22 @@ def test_without_a_link(page):
     assert first.endswith("10 moves, about 3 min"), first
     assert page.js("refusals") == [12, False]
     assert page.js("ways") == ["own", "play", "find", "plans"]
+    said = page.js("texts", "#lessons .ways button > span")
+    for part, one in zip(["Write, open", "who moves", "Search", "lesson plans"], said, strict=True):
+        assert part in one, said
+
+
+def test_how_long_each_lesson_takes(page):
+    """A card counts ten seconds for a move, also for a refused one, and thirty for a question."""
+    page.open()
+    said = {name: text for card in page.js("cards") for name, text in card["lessons"]}
+    assert len(said) > 12
+    for name, text in said.items():
+        schedule = (EXAMPLES / f"{name}.schedule").read_text("latin-1")
+        questions = len(set(re.findall(r"^#! ask (\d+) ", schedule, re.MULTILINE)))
+        moves = len(re.findall(r"^\d", schedule, re.MULTILINE))
+        minutes = max(1, int((10 * moves + 30 * questions) / 60 + 0.5))
+        assert text.endswith(f" {moves} moves, about {minutes} min"), (name, text)
 
 
 def test_a_link_opens_its_lesson(page):
@@ -62,6 +81,13 @@ def test_the_point_of_a_schedule_of_ones_own(page):
     assert page.text("#now .own-say") == "Who comes first."
 
 
+def test_a_click_on_no_choice(page):
+    """A click on a heading of the start changes nothing."""
+    page.open()
+    page.click("#lessons .lock-card h3")
+    assert page.js("isOpen") and page.js("lessonNow") == "ticket-hand-over"
+
+
 def test_behind_the_start(page):
     """If the start is closed, the first lesson is shown, before its first move."""
     page.open()
@@ -90,6 +116,8 @@ def test_the_end_of_a_lesson(page):
     page.open("#lesson=ticket-hand-over&move=10")
     last = page.text("#now .last")
     assert "What to keep: Take a number, wait until it is shown" in last, last
+    button = page.text("#now [data-next]")
+    assert button.startswith("Next: The order is that of tickets, not of calls"), button
     page.press("ArrowRight", "Enter")
     assert page.js("lessonNow") == "ticket-order-of-tickets"
     # A lesson that was only begun is not ticked off.
@@ -144,6 +172,19 @@ def test_terms_are_explained(page):
         assert said and meaning in said and is_seen, (term, said)
 
 
+def test_which_term_a_word_is(page):
+    """A word is marked if it is a term of the glossary or a form of one, the longest term first,
+    and not if it is a part of another word."""
+    page.open()
+    page.show("#! say 1 Who Holds words and steps moves, polls, and is linked after a failed poll; "
+              "a holder of a word, no keyword and no step-by-step.\n"
+              "lock ticket threads 1\n0 acquire\n", 1)
+    assert page.js("terms", "#now .own-say") == [
+        ["Holds", "holder"], ["words", "word"], ["steps", "step"], ["moves", "move"],
+        ["polls", "poll"], ["linked", "link"], ["failed poll", "failed poll"],
+        ["holder", "holder"], ["word", "word"]]
+
+
 def test_a_term_at_the_foot_of_the_window(page):
     """Where there is no room below a term, its explanation is above it."""
     page.open("#lesson=ticket-hand-over&move=6")
@@ -170,6 +211,27 @@ def test_one_card_plays_at_a_time(page):
     page.becomes([], "clocks")
 
 
+# By lock the lesson with the most questions, and the move of the middle one.
+PICTURED = {
+    "ticket": ("ticket-wraps-at-2-bits", 23), "mcs": ("mcs-late-link", 9),
+    "rw-simple": ("simple-writer-after-readers", 9),
+    "rw-fifo": ("fifo-reader-waits-behind-writer", 10),
+}
+
+
+@cases("media", {"reduced": {"prefers-reduced-motion": "reduce"}})
+def test_what_cards_show(page):
+    """A card shows the memory of its lesson at a question. It stays so for who wants no motion."""
+    page.before("keepClocks")
+    page.open()
+    page.js("atCard", "mcs", "pointerenter")
+    assert page.js("clocks") == []
+    for lock, (name, move) in PICTURED.items():
+        replay = Replay((EXAMPLES / f"{name}.schedule").read_bytes())
+        assert page.js("attribute", f"[data-live={lock}] svg", "aria-label") == (
+            replay.caption(replay.states[move])), lock
+
+
 def test_a_card_plays_again(page):
     """The card plays its lesson, and begins it anew after the last move."""
     page.before("hasten")
@@ -177,3 +239,11 @@ def test_a_card_plays_again(page):
     for said in ["It is the turn of ticket 1.",
                  "No ticket is in use."]:
         page.becomes(said, "attribute", "[data-live=ticket] svg", "aria-label")
+
+
+@pytest.mark.parametrize("width", [390, 1440])
+def test_how_wide_pictures_are(page, width):
+    """The picture of a card is as wide as the card, on a phone too."""
+    page.resize(width, 844)
+    page.open()
+    assert page.js("pictures") == [True] * 4

@@ -30,6 +30,15 @@ def test_without_colour(page):
     assert words and all(words), words
 
 
+@cases("moves, word", {
+    "reads": ("0 rlock\n0 section\n1 wlock\n" + "1 section\n" * 3, "reads"),
+    "writes": ("1 wlock\n1 section\n0 rlock\n" + "0 section\n" * 3, "writes")})
+def test_a_word_in_a_bar(page, moves, word):
+    page.open()
+    page.show(f"lock rw-simple threads 2\n{moves}", 6)
+    assert page.js("wordsInBars") == [[word, True]]
+
+
 MOVES = "0 acquire\n0 write\n0 swap\n1 acquire\n1 write\n1 swap\n"
 NAMES = "#! name 0 Wilhelmina\n#! name 1 Montgomery\n"
 LONGER_NAMES = "#! name 0 Wilhelmina of the second row\n#! name 1 Montgomery of the first row\n"
@@ -126,6 +135,16 @@ def test_the_wheel(page):
     assert sides == [[0, -1], [1, 0], [0, 1], [-1, 0]], places
 
 
+@pytest.mark.parametrize("lock", ["ticket", "rw-fifo"])
+def test_which_words_have_a_wheel(page, lock):
+    """A wheel has each number of words of at most five bits."""
+    page.open()
+    for bits, places in [(2, 4), (3, 8), (5, 32), (6, 0), (64, 0)]:
+        page.show(f"lock {lock} threads 2 bits {bits}\n")
+        assert page.js("texts", "#memory-picture .place text") == [
+            str(place) for place in range(places)], bits
+
+
 TICKETS = "0 acquire\n0 add\n1 acquire\n1 add\n"
 
 
@@ -159,6 +178,46 @@ def test_the_hands(page, text, inner, outer):
     page.show(text, 2)
     assert page.js("hands") == {"inner": [0, -1], "outer": [1, 0]}
     assert page.js("wordsOfHands") == {"inner": inner, "outer": outer}
+
+
+# The elements and classes of each sign; those of the lanes, which a lock's legend has in part.
+SIGNS = {
+    "called": "rect.call-mark", "moved: the call goes on": "circle.step",
+    "waits: failed poll": "circle.step.waits", "entered": "path.step", "left": "rect.step",
+    "cas fails": "circle.step.fails path.cross", "in a call": "rect.span.call",
+    "in the queue": "rect.span.queue hatch", "holds": "rect.span.holds",
+    "reads": "rect.span.reads ruled", "writes": "rect.span.writes",
+    "in the queue, not linked": "path.unlinked", "the write that ended a wait": "path.arrow",
+}
+OTHER_SIGNS = {
+    "read by this move": "rect.word.read", "written by this move": "rect.word.changed",
+    "a thread’s own variable, not a word of memory": "rect.own", "a link": "path.link",
+    "in the queue, but not linked": "path.link.missing",
+    "threads that are not drawn, and how many": "rect.own text", "below a step: what it found":
+    "text", "a question at this move": "path.tick.ask",
+    "on the slider: a thread enters": "rect.tick.enters",
+    "on the slider: a cas fails, or a move is refused": "path.tick.fails",
+    "these moves repeat for ever": "path.loop path.loop-tip",
+}
+OF_EACH_LOCK = ["called", "moved: the call goes on", "waits: failed poll", "entered", "left",
+                "in a call", "the write that ended a wait"]
+OF_A_LOCK = {
+    "ticket": ["in the queue", "holds"],
+    "mcs": ["in the queue", "holds", "cas fails", "in the queue, not linked"],
+    "rw-simple": ["reads", "writes"], "rw-fifo": ["in the queue", "reads", "writes"],
+}
+
+
+def test_what_signs_mean(page):
+    """Each legend has the signs of its lock, and the list of keys has all signs."""
+    page.open()
+    for lock, own in OF_A_LOCK.items():
+        page.show(f"lock {lock} threads 1\n")
+        assert page.js("signs", "#legend") == {
+            label: SIGNS[label] for label in [*OF_EACH_LOCK, *own]}, lock
+        assert page.js("cutSigns") == [], lock
+    page.press("?")
+    assert page.js("signs", "#sign-list") == {**SIGNS, **OTHER_SIGNS}
 
 
 def test_shapes_of_outcomes(page):

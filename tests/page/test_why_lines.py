@@ -168,6 +168,7 @@ def test_a_run_is_played(page):
     """The unchanged lock plays the turns of the run unharmed, and Y leads back to the change."""
     page.open(f"{LATE_LINK}9")
     page.press("y")
+    assert page.text("[data-play='0']") == "Play the lock as it is in these turns"
     page.click("[data-play='0']")
     shown = page.shown(position="0 of 7", mode="lessons")
     assert shown["title"] == "The lock as it is, in the turns of: CasTail, if its write is left out"

@@ -7,7 +7,7 @@ import re
 
 import pytest
 
-from reports import LESSONS
+from reports import LESSONS, moves_of
 from tree import EXAMPLES
 
 in_windows = pytest.mark.parametrize("width, height", [
@@ -36,6 +36,66 @@ def test_the_variables_of_threads(page, width, height):
     page.resize(width, height)
     page.open(WITH_VARIABLES[0])
     assert page.js("variables", WITH_VARIABLES) == []
+
+
+def test_how_far_lines_of_code_are_apart(page):
+    """Only in a hall are lines nearer to each other, so that all have room."""
+    page.open("#lesson=mcs-late-link&move=9")
+    for height in range(560, 960, 20):
+        page.resize(1440, height)
+        assert page.js("lineHeight") == 23, height
+
+
+@pytest.mark.parametrize("width, height", [(1024, 600), (960, 540), (900, 600)])
+def test_each_line_of_a_step(page, width, height):
+    """Both lines of a section are in view at each move, if there is room for two."""
+    page.resize(width, height)
+    page.open("#lesson=fifo-downgrade&move=0")
+    for name in ["fifo-downgrade", "simple-second-writer", "fifo-second-writer"]:
+        assert page.js("linesOutOfView", name, len(moves_of(LESSONS[name]))) == [], name
+
+
+LESSON, THREE = "#lesson=mcs-late-link&move=9", "#lesson=mcs-third-linked-before-second&move=12"
+# The window, the link, how the parts are arranged, which tools have room, and the size of letters:
+# in a hall 2.5 % of the height for those of 14.5 pixels, and on a projector a quarter more.
+ARRANGED = {
+    "phone": (599, 900, LESSON, "phone", "none", 1),
+    "narrow": (600, 900, LESSON, "tall", "few", 1),
+    "square": (900, 900, LESSON, "medium", "few", 1),
+    "upright": (900, 901, LESSON, "tall", "few", 1),
+    "low": (800, 479, LESSON, "low", "few", 1),
+    "not low": (800, 480, LESSON, "medium", "few", 1),
+    "low with three parts": (800, 479, f"{LESSON}&show=time,memory,code", "column", "few", 1),
+    "two beside each other": (820, 479, f"{LESSON}&show=time,memory,code", "row", "few", 1),
+    "not wide": (1129, 700, LESSON, "medium", "few", 1),
+    "wide": (1130, 700, LESSON, "wide", "few", 1),
+    "some tools": (1180, 700, LESSON, "wide", "few", 1),
+    "most tools": (1181, 700, LESSON, "wide", "most", 1),
+    "not all tools": (1719, 899, LESSON, "wide", "most", 1),
+    "all tools": (1720, 899, LESSON, "wide", "all", 1),
+    "projector": (1700, 900, LESSON, "wide", "most", 1.25),
+    "not a projector": (1699, 900, LESSON, "wide", "most", 1),
+    "frame": (820, 480, f"{LESSON}&embed", "row", "few", 1),
+    "narrow frame": (819, 480, f"{LESSON}&embed", "column", "few", 1),
+    "hall": (1024, 768, f"{LESSON}&hall", "row", "few", 1.32),
+    "hall with three records": (1024, 768, f"{THREE}&hall", "column", "few", 1.32),
+    "narrow hall": (900, 768, f"{LESSON}&hall", "column", "few", 1.32),
+}
+
+
+def test_how_parts_are_arranged(page):
+    page.open(LESSON)
+    page.press("Escape")
+    for name, (width, height, link, *arranged) in ARRANGED.items():
+        page.resize(width, height)
+        page.js("follow", link)
+        page.wait(lambda: page.js("arranged") == arranged,
+                  lambda: f"{name}: {page.js('arranged')} is not {arranged}")
+    page.js("follow", LESSON)
+    page.press("g")
+    for width, layout in [(1459, "medium"), (1460, "wide")]:
+        page.resize(width, 800)
+        page.becomes([layout, "most", 1], "arranged")
 
 
 def test_whose_variables(page):

@@ -17,6 +17,14 @@ function heads(letters) {
     <= rect(one.querySelector('.standing')).left);
 }
 
+// Each word in a bar of the lanes, and whether it is in the middle of its height and within it.
+const wordsInBars = () => all('#lanes .span-text').map((word) => {
+  const [kind, { top, bottom, left, right }] = [word.classList[1], rect(word)];
+  const bar = rect(all(`#lanes .span.${kind}`).find((one) => (
+    rect(one).left < left && rect(one).right > right && Math.abs(rect(one).top - top) < 20)));
+  return [word.textContent, Math.abs(top + bottom - bar.top - bar.bottom) < 8];
+});
+
 // The names of threads as they are drawn, and whole, as in their titles.
 function namesDrawn(letters) {
   showEnd(letters);
@@ -126,5 +134,19 @@ const wordsOfHands = () => Object.fromEntries(all('#memory-picture .hand + text'
 
 const isDashed = (selector) => styleOf(selector).strokeDasharray !== 'none';
 const shapeOf = (selector) => document.querySelector(selector).tagName;
+// The signs of the legend that are higher than their pictures.
+const cutSigns = () => all('#legend svg > *').filter((one) => {
+  const { y, height } = one.getBBox();
+  return y < 0 || y + height > one.parentElement.height.baseVal.value;
+}).map((one) => plain(one.closest('span').textContent));
+
 const signShape = (label) => all('#legend > span').find((one) => plain(one.textContent) === label)
   .querySelector('.step').tagName;
+
+// By its meaning, the elements and classes of each sign, and its pattern.
+const signs = (list) => Object.fromEntries(all(`${list} > span`).map((one) => {
+  const parts = all('svg > *', one).map((part) => [part.tagName, ...part.classList].join('.'));
+  const pattern = one.innerHTML.match(/url\(#(\w+)\)/)?.[1];
+  return [plain(one.textContent).replace(/^\+9|^Bob/, ''), [...parts, pattern].filter(Boolean)
+    .join(' ')];
+}));

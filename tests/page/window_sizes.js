@@ -56,3 +56,19 @@ function scrolledWithAnswer(name, moves) {
     return !count('#now details[open]') || scrollHeight > clientHeight + 1;
   });
 }
+
+// The moves of a lesson at which a line of the step is out of view, though there is room for all.
+function linesOutOfView(name, last) {
+  lesson(name);
+  return Array.from({ length: last }, (_, at) => last - at).filter((move) => {
+    go(move);
+    const [lines, box] = [all('.code-line.here'), byId('code-lines')];
+    const height = rect(lines.at(-1)).bottom - rect(lines[0]).top;
+    return height <= box.clientHeight + 1 && !lines.every((one) => isSeen(one, box));
+  });
+}
+
+const arranged = () => [document.body.dataset.layout, document.body.dataset.tools,
+  Math.round(Number(document.body.style.getPropertyValue('--zoom')) * 100) / 100];
+
+const lineHeight = () => document.querySelector('.code-line').offsetHeight;

@@ -67,3 +67,11 @@ def test_texts_name_no_code():
             if folder(module) == "texts" for text in TEXT.findall(source)]
     words = {word for text in said for word in re.findall(r"\w*[a-zäöüß][A-ZÄÖÜ]\w*", text)}
     assert words == PROPER
+
+
+def test_words_of_texts_are_apart():
+    """Where a text goes on in the next line of code, one blank is between its words."""
+    seams = [seam for module, source in MODULES.items() if folder(module) in ("texts", "locks")
+             for seam in re.findall(r"(.)['`]\n\s*\+ ['`](.)", source)]
+    assert len(seams) > 100 and [seam for seam in seams if (seam[0] == " ") + (seam[1] == " ") != 1
+                                 and seam[1] not in ".,:;"] == []

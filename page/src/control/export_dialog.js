@@ -20,6 +20,8 @@ const SHARPER = 2;
 const MOST = 40;
 const SHOWN = { each: 1200, last: 3000 };
 const FRAME = { width: 960, height: 480 };
+// What there is of a text without a lock, of which there is no picture.
+const OF_ANY_TEXT = ['report', 'schedule', 'frame'];
 
 /** @param {Session} session */
 const nameOf = (session, ending) => `${session.lesson ?? 'schedule'}-${session.place}.${ending}`;
@@ -148,12 +150,15 @@ export function exportDialog(page) {
   });
   dialog.addEventListener('input', () => sayCut(page));
   return () => {
-    const { move, run: { count } } = page.session;
+    const { move, run: { count, hasLock } } = page.session;
+    /** @type {NodeListOf<HTMLButtonElement>} */
+    const takes = dialog.querySelectorAll('button[data-take]');
+    takes.forEach((one) => { one.disabled = !hasLock && !OF_ANY_TEXT.includes(one.dataset.take); });
     inputOf('take-from').value = String(Math.max(0, move - 3));
     inputOf('take-to').value = String(Math.min(count, Math.max(3, move)));
     sayCut(page);
     byId('take-answer').hidden = !isAsked(page.session.view({ answered: page.answered }));
     dialog.showModal();
-    focusIn(dialog, '[data-take]');
+    focusIn(dialog, '[data-take]:enabled');
   };
 }

@@ -69,10 +69,10 @@ class Finding {
   }
 
   // The lock that is shown, unless it was shown already when the dialog was last opened.
-  chooseLock({ hasLock, kind }) {
-    if (hasLock && kind !== this.shown) {
-      this.shown = kind;
-      this.fields.lock.value = LOCK_NAMES[kind];
+  chooseLock(run) {
+    if (run.hasLock && run.kind !== this.shown) {
+      this.shown = run.kind;
+      this.fields.lock.value = LOCK_NAMES[run.kind];
       this.listKinds();
     } else if (!this.kinds.length) {
       this.listKinds();

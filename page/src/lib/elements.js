@@ -56,7 +56,17 @@ export function focusIn(node, selector) {
   if (hasData(found)) found.focus();
 }
 
-/** A click beside a dialog closes it. @param {HTMLDialogElement} dialog */
-export const closesBeside = (dialog) => dialog.addEventListener('click', (event) => {
-  if (event.target === dialog) dialog.close();
-});
+/**
+ * A click beside a dialog closes it. In Firefox the button that closes it would keep the focus, and
+ * so the keys.
+ * @param {HTMLDialogElement} dialog
+ */
+export function closesBeside(dialog) {
+  dialog.addEventListener('click', (event) => {
+    if (event.target === dialog) dialog.close();
+  });
+  dialog.addEventListener('close', () => {
+    const { activeElement: focused } = document;
+    if (!dialog.open && hasData(focused) && dialog.contains(focused)) focused.blur();
+  });
+}

@@ -9,12 +9,12 @@ export const FOUND = {
   run: 0, nowhere: 1, tooLarge: 2, longRun: 3, badLine: 4, manyLines: 5, noRoom: 6, notAsked: 7,
 };
 
-// About a second of search. A state of 64 threads takes 261 cells, so the cells have a bound of
+// About a second of search. A state of 64 threads takes 266 cells, so the cells have a bound of
 // their own, 64 MB.
 const MOST_STATES = 250000;
 const MOST_CELLS = 1 << 23;
-// There is a search for each kind of the lock: of 20,164 states of an MCS lock of two threads.
-const MOST_NEXT_CELLS = 1 << 18;
+// There is a search for each kind of the lock: of 20,166 states of an MCS lock of two threads.
+const MOST_NEXT_CELLS = 363000;
 const MOST_MOVES_FOUND = 4096;
 const BYTE = 1;
 const SLOT = 4;
@@ -42,7 +42,7 @@ const moveOf = (code) => `${code & 255} ${MOVES[code >> 9]}`;
 // The answer of a search from a state of this lock, its number, and the run that it found, as lines
 // of a schedule. `call` gives the module the text and the memory.
 function searched(machine, state, mostCells, text, call) {
-  const width = 4 + state.wordCount + 2 * state.threads;
+  const width = 9 + state.wordCount + 2 * state.threads;
   const states = Math.min(MOST_STATES, Math.floor(mostCells / width));
   const [number, codes, cells, slots, lines] = lendSlices(machine, [
     [1, CELL], [MOST_MOVES_FOUND, CELL], [states * width, CELL], [2 * states, SLOT],

@@ -38,7 +38,8 @@ export function zoomNow() {
 }
 
 // In a hall a lock of several records needs the whole width for them.
-const isWide = ({ hasLock, threads, kind }) => hasLock && threads > 2 && LOCKS[kind].hasRecords;
+/** @param {Run} run */
+const isWide = (run) => run.hasLock && run.threads > 2 && LOCKS[run.kind].hasRecords;
 
 /** @param {Run} run */
 function arrangementOf(width, height, parts, isPlain, run) {

@@ -1,0 +1,214 @@
+"""Each dialog opens by its key and by its button, with the focus where a reader goes on, and closes
+by Escape, by its button and by a click beside it. Each other button does what its name says."""
+import pytest
+
+from tree import EXAMPLES, cases
+
+LESSON = "#lesson=mcs-record-used-again&move=5"
+# The key, the id of the button, the id of the dialog, and what has the focus then.
+DIALOGS = {
+    "lessons": ("o", "mode-lessons", "lessons", "[data-lesson=mcs-record-used-again]"),
+    "plans": ("n", "plan", "plans", "[data-plan=ticket][data-step='0']"),
+    "find": ("m", "show-find", "find", "#find-kind"),
+    "export": ("t", "show-take", "take", "[data-take=svg]"),
+    "view": ("v", "show-view", "view", "[name=time]"),
+    "print": ("p", "print", "sheets", "[data-sheet=worked]"),
+    "compare": ("c", "compare", "choose-other", "[data-way=play]"),
+    "keys": ("?", "show-keys", "keys", "#keys form button"),
+    "why": ("y", None, "why", "#why-next"),
+    "about": (None, "show-about", "about", "#about form button"),
+}
+
+
+def click_beside(page):
+    page.perform({"type": "pointer", "id": "mouse", "actions": [
+        {"type": "pointerMove", "x": 2, "y": 2},
+        {"type": "pointerDown", "button": 0}, {"type": "pointerUp", "button": 0}]})
+
+
+@cases("key, button, dialog, focused", DIALOGS)
+def test_a_dialog_opens_and_closes(page, key, button, dialog, focused):
+    """Nothing behind a dialog changes, and the keys are the page's again when it is closed."""
+    page.open(LESSON)
+    before = page.shown()
+    for way in ["key", "button", "beside"]:
+        if key and (way == "key" or not button):
+            page.press(key)
+        else:
+            page.js("click", f"#{button}")
+        assert page.js("opened") == [dialog] and page.js("hasFocus", focused), way
+        if way == "key":
+            page.press("Escape")
+        elif way == "button":
+            page.click(f"#{dialog} form button")
+        else:
+            click_beside(page)
+        page.becomes([], "opened")
+        page.becomes("body", "focused")
+        assert page.shown() == before, way
+        page.press("ArrowRight", "ArrowLeft", "Space")
+        assert page.js("attribute", "#run", "aria-pressed") == "true", way
+        page.press("Space")
+        page.go(5)
+
+
+def test_which_buttons_are_pressed(page):
+    """A button of a mode looks pressed while the mode is on, and another click ends it."""
+    page.open(LESSON)
+    modes = ["mode-own", "mode-play", "mode-quiz", "mode-hall"]
+    for name in modes:
+        for pressed in [[name], []]:
+            page.js("click", f"#{name}")
+            assert page.js("pressed") == pressed, name
+    page.press("g", "e", "g")
+    assert page.js("pressed") == ["mode-play"], "one panel takes the place of the other"
+    page.press("0", "c")
+    assert page.js("pressed") == ["mode-play", "compare"]
+
+
+def test_the_boxes_of_the_view(page):
+    """Each box shows or hides what it names, and keeps the focus."""
+    page.open(LESSON)
+    page.press("v")
+    parts = ["time", "memory", "code", "now"]
+    for name in parts:
+        others = [one for one in parts if one != name]
+        for shown in [others, parts]:
+            page.press("Escape", "v")
+            page.click(f"#view [name={name}]")
+            assert page.js("viewed") == [shown, shown] and page.js("hasFocus", f"[name={name}]")
+    for count in (9, 5):
+        page.click("#view [name=future]")
+        assert page.js("count", "#lanes .move") == count and page.js("hasFocus", "[name=future]")
+    page.click("#view [name=hall]")
+    assert page.js("viewed") == [["memory", "code"]] * 2 and page.js("hasFocus", "[name=hall]")
+    assert page.js("count", "#view :checked") == 3
+    page.click("#view [name=hall]")
+    assert page.js("viewed") == [parts, parts]
+
+
+KEYS = ["ArrowRight", "ArrowLeft", "PageDown", "PageUp", "Home", "End", " ", "Escape", "Enter",
+        *"[]najoegqwculthmsvyfpd?.,2+=-0"]
+
+
+@pytest.mark.parametrize("held", ["ctrlKey", "metaKey", "altKey"])
+def test_keys_of_the_browser(page, held):
+    """With a modifier key, a key is the browser's."""
+    page.open(LESSON)
+    before = page.shown()
+    assert page.js("actsOf", "body", KEYS, held) == []
+    assert page.js("opened") == [] and page.shown() == before
+
+
+TEXTS = {
+    "no lock": "no lock\n", "nothing": "", "no move": "lock mcs threads 2\n",
+    "first move refused": "lock ticket threads 1\n0 add\n",
+    "no such thread": "lock rw-fifo threads 1\n1 rlock\n",
+    "fault below": "lock rw-simple threads 2\n0 rlock\n0 sektion\n",
+    "trace": "lock ticket threads 1\n0 acquire\n0 add next_ticket found 1\n",
+    "for ever": "lock rw-simple threads 1\n# from line 3 on, again and again\n"
+                "0 rlock\n0 section\n0 runlock\n0 section\n",
+}
+
+
+@cases("text", TEXTS)
+def test_no_key_breaks_the_page(page, text):
+    """Whatever is shown, each key and each tool leaves the page in order."""
+    page.before("withoutWindows")
+    page.open(LESSON)
+    page.js("stubScreen", "allowed")
+    for key in [*KEYS, "#compare", "#mode-hall", "#leave", "#undo", "#first", "#last", "#run"]:
+        page.show(text, 1)
+        page.js("tryOne", key)
+    # That ends the quiz, and leaves the hall.
+    page.press("q", "Escape")
+    page.lesson("mcs-late-link", 10)
+    assert page.shown(place=10)["now"].startswith("This move 10Ann, read")
+
+
+def test_what_there_is_of_a_text_without_a_lock(page):
+    """Its report, the text and a frame can be taken, but no picture. In a hall it has no parts, and
+    the dialog that finds a moment opens."""
+    page.open(LESSON)
+    taken = ("texts", "#take [data-take]:enabled")
+    page.press("t")
+    assert len(page.js(*taken)) == 8
+    page.press("Escape", "h")
+    page.show("no lock\n")
+    page.press("t")
+    assert page.js(*taken) == ["The whole report", "The schedule", "Copy a frame for a slide"]
+    assert page.js("hasFocus", "[data-take=report]")
+    page.press("Escape", "m")
+    assert page.js("opened") == ["find"] and page.js("value", "#find-lock") == "ticket"
+    page.press("Escape")
+    assert page.text("#nothing-verdict").startswith("A schedule begins with a header.")
+
+
+@cases("selector, acts, leaves", {
+    "text": ("#text", [], ["g", " ", "ArrowRight", "Enter", "?"]),
+    "choice": ("#speed", [], ["g", " ", "ArrowRight"]),
+    "slider": ("#slider", ["j", "]", " "], []),
+    "box": ("#every", ["j", "ArrowRight"], [" "]),
+    "button": ("#forward", ["j", "ArrowLeft"], [" ", "Enter"]),
+    "summary": ("#next-kinds summary", ["j"], [" ", "Enter"]),
+    "lanes": ("#lanes", ["ArrowDown", "ArrowUp", "Enter", "j", " "], ["x"]),
+    "elsewhere": ("body", ["j", " "], ["ArrowDown", "ArrowUp", "Enter", "x"])})
+def test_keys_of_a_control(page, selector, acts, leaves):
+    """A control keeps the keys that it needs itself."""
+    page.open(LESSON)
+    assert page.js("actsOf", selector, acts + leaves) == acts
+
+
+@cases("button, place", {"first": ("#first", 0), "back": ("#back", 11), "forward": ("#forward", 13),
+                         "last": ("#last", 16)})
+def test_buttons_of_moves(page, button, place):
+    page.open("#lesson=mcs-late-link&move=12")
+    page.click(button)
+    page.shown(place=place)
+
+
+def test_keys_of_an_answer(page):
+    """In the quiz the arrows choose an outcome, and other keys are the page's."""
+    page.open("#lesson=fifo-reader-waits-behind-writer&move=0")
+    page.press("q", "End")
+    assert page.js("attribute", "#quiz-form", "data-kind") == "outcome"
+    assert page.js("actsOf", "#quiz-form [type=radio]", ["ArrowDown", "ArrowRight", " ", "j"]) == [
+        "j"]
+
+
+def test_code_that_is_selected(page):
+    """A click that ends a selection of code opens no dialog."""
+    page.open(LESSON)
+    page.js("clickSelected")
+    assert page.js("opened") == []
+    page.js("click", "#code-lines .code-line")
+    assert page.js("opened") == ["why"]
+
+
+@cases("way, called, said", {
+    "enter": ("allowed", ["enter"], ""), "leave": ("full", ["leave"], ""),
+    "not allowed": ("refused", ["enter"], "The browser did not allow the full screen.")})
+def test_the_full_screen(page, way, called, said):
+    page.open(LESSON)
+    page.js("stubScreen", way)
+    page.press("s")
+    assert page.js("screenCalls") == called
+    page.becomes(said, "text", "#notice")
+
+
+def test_a_second_window_that_is_not_allowed(page):
+    page.before("withoutWindows")
+    page.open(LESSON)
+    page.press("2")
+    assert page.text("#notice") == "The browser did not allow a second window."
+
+
+@cases("allowed, said", {
+    "allowed": (True, "The schedule is copied."),
+    "not": (False, "The browser did not allow it. Select the text and copy it.")})
+def test_copying_the_text(page, allowed, said):
+    page.open("#lesson=mcs-late-link&move=2")
+    page.press("e")
+    copied = page.js("copied", allowed)
+    assert copied == (EXAMPLES / "mcs-late-link.schedule").read_text("ascii")
+    page.becomes(said, "text", "#notice")
