@@ -94,7 +94,7 @@ def test_killed_in_rust(keeper, ordered, tmp_path, how, sign):
     assert process.returncode == -sign
     assert len(ordered(logs)[1]) >= 13 * 6
     text = (logs / "thread-1.log").read_text()
-    assert "dropped" not in text and re.search("\n#+$", text)
+    assert "dropped" not in text and text.endswith("#")  # perhaps in the midst of a move
 
 
 @pytest.mark.xdist_group("cargo")
