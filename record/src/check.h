@@ -85,10 +85,12 @@ static inline int lr_check(lr_run *run)
     lr_print_head(&text, run);
     lr_print_moves(&text, run);
     run->said[0] = '\0';
-    if (text.no_memory || !steps)
+    if (text.no_memory || !steps) {
+        run->lacks = ENOMEM;
         lr_tell(run->said, "no memory for the check");
-    else
+    } else {
         is_wrong = lr_check_steps(run, &text, steps, ended_by[0] != 0);
+    }
     free(steps);
     free(text.bytes);
     if (ended_by[0]) lr_tell(run->said, "%s%s", is_wrong ? "; " : "", ended_by);

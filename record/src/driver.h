@@ -41,7 +41,7 @@ static inline unsigned lr_go(lr_run *run, const lr_driver *driver, unsigned roun
         started++;
     if (started < run->threads) {
         lr_tell(run->said, "no memory for thread %u", started);
-        run->lacks_thread = 1;
+        run->lacks = EAGAIN;
         return run->threads;
     }
     unsigned missing = lr_wait_for(run, seconds);

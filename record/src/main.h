@@ -96,7 +96,7 @@ static inline int lr_main_run(const lr_driver *driver, unsigned threads, unsigne
     is_refused = lr_check(run) || is_refused;
 #endif
     if (run->said[0]) lr_say("%s", run->said);
-    if (lr_save(run) || run->lacks_thread) return 3;
+    if (lr_save(run) || run->lacks) return 3;
     if (!missing) lr_close(run);
     return is_refused;
 }

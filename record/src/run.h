@@ -138,7 +138,7 @@ typedef struct lr_run {
     unsigned begun;
     int is_over;        /* nobody gets a turn any more */
     int is_crashed;     /* the program ended before the run was saved */
-    int lacks_thread;   /* the system refused one */
+    int lacks;          /* the errno of what the system refused, a thread or memory, or 0 */
     int watch;          /* by which the process that saves it then is told that all is well */
     char said[LR_SAID]; /* why it ended before its threads, or why it is refused */
     lr_log logs[LR_THREADS];
@@ -239,6 +239,7 @@ __attribute__((format(printf, 2, 3))) static inline void lr_tell(char *text, con
 /* Says once that a run cannot keep all that happens in it. */
 static inline void lr_tell_no_memory(lr_run *run, const char *things)
 {
+    run->lacks = ENOMEM;
     if (!run->said[0]) lr_tell(run->said, "no memory for the run's %s", things);
 }
 

@@ -173,7 +173,7 @@ static inline int lr_call_one(const lr_driver *driver, const char *path, const c
     called->moves += run->ordered;
     if (is_wrong) lr_say("%s: %s", path, run->said);
     if (is_wrong || !LR_CHECKS) fault = lr_save_trace(run, trace);
-    if (run->lacks_thread) fault = EAGAIN;
+    if (run->lacks) fault = run->lacks;
     if (!missing) lr_close(run);
     return fault;
 }

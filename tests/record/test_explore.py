@@ -204,7 +204,7 @@ def test_no_memory(library, tmp_path, compiler, kept):
     done = ran(tmp_path / "it", 2, 1, 1, tmp_path / "logs")
     first, refusal, *_ = done.stdout.splitlines()
     assert first == "1 run with up to 0 preemptions, the last one is refused"
-    assert (refusal, done.returncode) == (f"no memory for the run's {kept}s", 1)
+    assert (refusal, done.returncode) == (f"no memory for the run's {kept}s", 3)
 
 
 # An allocation that is refused: of a way, of a trail, and of clocks.

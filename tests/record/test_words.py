@@ -389,4 +389,4 @@ def test_no_memory_for_the_check(built, tmp_path, refused):
     program = built(SOURCES / "ticket.c", "SEED", "-DLR_CHECK", "-Wno-unused", "-include",
                     str(tmp_path / "refuses.h"))
     done = ran(program, 2, 3, 1, tmp_path / "logs")
-    assert (done.stderr, done.returncode) == ("lockreplay_record: no memory for the check\n", 1)
+    assert (done.stderr, done.returncode) == ("lockreplay_record: no memory for the check\n", 3)
