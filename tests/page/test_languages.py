@@ -87,6 +87,23 @@ def test_another_language_of_a_damaged_link(page, link):
     assert page.js("addressEnds", "lesson=none&lang=en")
 
 
+@pytest.mark.parametrize("look", ["", "&theme=dark"])
+def test_another_language_of_the_start(page, look):
+    """The start comes again in the language that is chosen, until a move was shown."""
+    page.open(f"#lang=de{look}")
+    page.js("click", "#lessons [data-lang=en]")
+    english(page)
+    assert page.js("count", "#lessons[open]") == 1
+    page.becomes(f"#lesson=ticket-hand-over&move=0&lang=en{look}", "address")
+    page.press("Escape")
+    page.go(1)
+    page.press("o")
+    page.js("click", "#lessons [data-lang=de]")
+    page.wait(lambda: page.tried(page.js, "hasBegunIn", "de"), lambda: "it stays English")
+    assert page.js("count", "#lessons[open]") == 0
+    page.becomes(f"#lesson=ticket-hand-over&move=1&lang=de{look}", "address")
+
+
 @pytest.mark.parametrize("wanted, language", [
     (["de-AT"], "de"), (["fr", "de"], "de"), (["en-GB", "de"], "en"), (["fr"], "en")])
 def test_the_language_of_the_browser(page, wanted, language):

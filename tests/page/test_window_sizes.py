@@ -130,7 +130,7 @@ ASKED_IN = {name: answered(name) for name, report in LESSONS.items()
 @pytest.mark.parametrize("language", ["en", "de"])
 @pytest.mark.parametrize("width, height", [(360, 780), (390, 844)])
 def test_the_answer_on_a_phone(page, width, height, language):
-    """In Play, with the choices below, "Show the answer" needs no scrolling."""
+    """In Play, with the choices below, "Answer" needs no scrolling."""
     page.resize(width, height)
     page.open(f"#lesson=mcs-late-link&move=9&lang={language}")
     page.press("g")

@@ -36,7 +36,7 @@ function lowest() {
   return [top >= 0 && bottom <= foot().top, scrollHeight > innerHeight + 1];
 }
 
-// The moves of a lesson at which "Show the answer" is out of view.
+// The moves of a lesson at which "Answer" is out of view.
 function hidden(name, moves) {
   lesson(name);
   return moves.filter((move) => {

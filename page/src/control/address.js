@@ -10,7 +10,7 @@ import {
   keepPlace, keepSchedule, keptSchedule, keptSchedules, newName,
 } from '../model/kept_schedules.js';
 import { endOf, fragmentOf, readFragment } from '../model/link.js';
-import { readLooks } from '../model/looks.js';
+import { looksText, readLooks } from '../model/looks.js';
 import { tell, toClipboard } from '../view/notice.js';
 import { FIRST_LESSON } from './lessons_dialog.js';
 import { showTheme } from './theme.js';
@@ -29,6 +29,8 @@ export class Address {
     this.keptName = null;
     this.unkept = new Map();
     this.returning = false;
+    // Whether the page began with the start, and nothing was opened since.
+    this.isAtStart = false;
   }
 
   begin() {
@@ -42,13 +44,21 @@ export class Address {
     this.returning = true;
     this.page.openLesson(FIRST_LESSON);
     this.returning = false;
+    this.isAtStart = true;
     this.page.chooseLesson();
   }
 
-  // In another language, which is chosen when the page is loaded.
+  // Whether nothing was opened or stepped through since the start.
+  get isUnused() {
+    return this.isAtStart && !this.damaged && this.page.session.place === 0;
+  }
+
+  // In another language, which is chosen when the page is loaded. The start comes again if nothing
+  // else was shown.
   inLanguage(name) {
     this.flush();
-    const parts = location.hash.replace(/&?lang=[^&]*/, '');
+    const shown = location.hash.replace(/&?lang=[^&]*/, '');
+    const parts = this.isUnused ? `#${looksText().slice(1)}` : shown;
     const fragment = `${parts || '#'}${parts.length > 1 ? '&' : ''}lang=${name}`;
     history.replaceState(this.page.quiz.saved, '', fragment);
     location.reload();
@@ -95,6 +105,7 @@ export class Address {
 
   // Keeps this schedule in the history, before another one takes its place.
   leave(lesson) {
+    this.isAtStart = false;
     if (this.page.session.run && !this.returning) {
       this.note();
       this.write(this.fragment());

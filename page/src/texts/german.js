@@ -188,7 +188,7 @@ export const german = {
     },
     facts: { wrote: 'Schrieb', holds: 'Hält', queue: 'Schlange', report: 'Bericht' },
     noWord: 'kein Wort', nobody: 'niemand', asReader: 'liest', asWriter: 'schreibt',
-    question: 'Frage:', showAnswer: 'Antwort zeigen', notLinked: 'nicht verknüpft',
+    question: 'Frage:', showAnswer: 'Antwort', notLinked: 'nicht verknüpft',
     questionWaits: 'Hier wartet eine Frage: A zeigt die Antwort, noch ein → geht weiter.',
     spoken: {
       move: (move, count) => `Zug ${move} von ${count}.`,

@@ -177,7 +177,7 @@ const english = {
   asWriter: 'writes',
   wordBecomes: (word, value) => `${word} = ${value}`,
   question: 'Question:',
-  showAnswer: 'Show the answer',
+  showAnswer: 'Answer',
   questionWaits: 'A question waits here: A shows its answer, another → goes on.',
   notLinked: 'not linked',
 
