@@ -196,6 +196,16 @@ def test_not_in_a_schedule(tracer):
     assert len(search_rows.moves_of(output)) == 14
 
 
+def test_not_before_a_position(tracer):
+    """If a position meets the next line, the comment names the line after which it is there."""
+    output, *more = tracer.run("find", "ticket", "2", "1 add", "not 0", "is hold 1")
+    assert more == ["", 0]
+    assert without_count(output) == (
+        "# A shortest run of 2 threads with 1 round each that has these lines, in this order:\n"
+        "# line 7: 1 add\n# up to line 8: not 0\n# after line 8: is hold 1\n"
+        "lock ticket threads 2\n1 acquire\n1 add\n1 read\n")
+
+
 @cases("text, said", {
     "256 lines": ("lock mcs threads 2\n" + 256 * "* acquire\n",
                   "-:257: a sketch has at most 255 lines (TooManyLines)\n"),
@@ -276,7 +286,7 @@ def test_sketch(tracer, lockreplay, sketch):
     assert len(run) < states <= len(space) * (len(sketch.lines) + 1)
     assert measured(space, sketch.lines, run) == sketch.measure
     assert ran(lockreplay, "replay", input=output).stdout.endswith(f"\nend {sketch.length}\n")
-    said = re.findall(r"^# (before line|after line|line) (\d+): (.*)$", output, re.MULTILINE)
+    said = re.findall(r"^# (before line|up to line|after line|line) (\d+): (.*)$", output, re.MULTILINE)
     assert [line for _, _, line in said] == sketch.lines
     states = [0, *(transition.after for transition in walk(space, run))]
     for how, number, line in said:
