@@ -286,7 +286,7 @@ def test_sketch(tracer, lockreplay, sketch):
     assert len(run) < states <= len(space) * (len(sketch.lines) + 1)
     assert measured(space, sketch.lines, run) == sketch.measure
     assert ran(lockreplay, "replay", input=output).stdout.endswith(f"\nend {sketch.length}\n")
-    said = re.findall(r"^# (before line|up to line|after line|line) (\d+): (.*)$", output, re.MULTILINE)
+    said = re.findall(r"^# ((?:before |up to |after )?line) (\d+): (.*)$", output, re.MULTILINE)
     assert [line for _, _, line in said] == sketch.lines
     states = [0, *(transition.after for transition in walk(space, run))]
     for how, number, line in said:
