@@ -234,6 +234,19 @@ def test_no_memory(built, mode):
     assert done.returncode == 3 and list(logs.iterdir()) == []
 
 
+def test_no_memory_for_a_saved_run(library, tmp_path):
+    """A saved run whose choices cannot be kept is not made again."""
+    (tmp_path / "refuses.h").write_text(
+        "#include <stdlib.h>\n#define realloc(old, size) "
+        "_Generic(old, lr_way *: NULL, default: realloc(old, size))\n")
+    (tmp_path / "way").write_text("# way 1\n")
+    assert compile_c("gcc", SOURCES / "mcs.c", tmp_path / "it", "-DLR_MODE=EXPLORE", "-include",
+                     tmp_path / "refuses.h", library=library) == ""
+    done = ran("./it", 2, 1, "again", "way", cwd=tmp_path)
+    assert done.stderr == "lockreplay_record: way: Cannot allocate memory\n"
+    assert (done.stdout, done.returncode) == ("", 3)
+
+
 def test_wrong_schedule_among_others(built, tmp_path):
     """A right schedule after a wrong one does not hide it."""
     program, logs = built("FOLLOW", "(void)0")
