@@ -1,5 +1,5 @@
 # The commands of this repository: `make` lists them, from the lines that begin with ## beside them.
-# docs/CHECKING.md says how long each takes, and where the time goes.
+# docs/CHECKING.md says how long the main ones take, and where the time goes.
 
 # A recipe sees these variables of the caller, and no others. Language and time zone are fixed, and
 # neither git nor Python reads a user's settings. So a test does the same on each machine.
