@@ -181,6 +181,41 @@ def test_parts_are_apart(page, lesson, move):
     assert abs(code["top"] - memory["top"]) < 20
 
 
+# Looks in which the page itself shows no lanes.
+NO_LANES = ["&hall", "&embed", "&show=memory,code,now"]
+
+
+@pytest.mark.parametrize("look", NO_LANES)
+def test_lanes_that_the_page_does_not_show(page, look):
+    """A picture has lanes with the words of all moves so far, and its parts are below each other as
+    ever."""
+    page.open(f"{LATE_LINK}{look}")
+    title, numbers, lanes, signs, memory, code, whole = page.js("partsOf", EVERYTHING)
+    for part in (numbers, lanes):
+        assert part["right"] - part["left"] > 1000 and part["right"] <= whole["right"], part
+    assert title["bottom"] <= numbers["top"] + 8 and lanes["bottom"] <= signs["top"]
+    assert signs["bottom"] <= memory["top"] and code["right"] <= whole["right"]
+    shown = page.js("alone", EVERYTHING)
+    assert len(shown["lanes"]) == 2 and shown["outside"] == [], shown
+    assert [str(move) for move in range(1, 10) if str(move) not in shown["inside"]] == []
+
+
+@pytest.mark.parametrize("look", NO_LANES)
+def test_an_animation_with_lanes_that_the_page_does_not_show(page, look):
+    """Each frame is as wide as the lanes, with two points for each unit."""
+    page.open(f"{LATE_LINK}{look}")
+    assert page.js("animation", 5, 6)["width"] > 2000
+
+
+@pytest.mark.parametrize("look", NO_LANES)
+def test_lanes_for_latex_that_the_page_does_not_show(page, look):
+    """The lanes have the number of each move so far."""
+    page.open(f"{LATE_LINK}{look}")
+    lines = page.js("taken", "tikz", []).splitlines()
+    assert [move for move in range(1, 10) if not any(
+        line.startswith("\\node") and line.endswith(f"{{{move}}};") for line in lines)] == []
+
+
 def test_an_animation(page):
     """An animation is an APNG with a frame for each move, which the browser shows."""
     page.open(LATE_LINK)

@@ -72,6 +72,16 @@ def test_what_a_question_asks_for_is_not_beside_it(page):
         assert page.js("step")["discs"] and answer in page.text("#memory-picture")
 
 
+def test_a_click_on_the_answer(page):
+    """Key A closes the answer to the plan's own question that was opened by a click."""
+    begin(page, "mcs")
+    page.press(*"nnn")
+    for act, answers in [(lambda: page.click("#current .question summary"), 1),
+                         (lambda: page.press("a"), 0)]:
+        act()
+        assert page.js("step")["answers"] == answers
+
+
 def test_memory_of_the_last_step_of_mcs(page):
     """The whole memory is in view, with three records and a thread's own variable."""
     page.resize(1024, 768)

@@ -3,7 +3,7 @@ import re
 
 import pytest
 
-from tree import EXAMPLES
+from tree import EXAMPLES, cases
 
 HIDES = re.compile(r"^#! ask (\d+) hide ([a-z ]+?) : ", re.MULTILINE)
 QUESTIONS = [(path.stem, int(move), parts.split()) for path in sorted(EXAMPLES.glob("*.schedule"))
@@ -29,6 +29,52 @@ def test_each_part_comes_with_the_answer(page):
             assert before["caption"] == "" and not before["links"], where
             assert after["caption"] and after["label"].startswith(after["caption"]), where
             assert before["label"].startswith("Memory "), where
+
+
+def enter(page, summary):
+    page.js("focus", summary)
+    page.press("Enter")
+
+
+WAYS = {"click": lambda page, summary: page.click(summary), "Enter": enter}
+
+
+@cases("way", WAYS)
+def test_it_comes_without_a_key_too(page, way):
+    """A click on the answer, and Enter, show what key A shows, hide it again, and keep the focus
+    there. What was seen lets a step go on."""
+    summary = "#now .question summary"
+    page.open("#lesson=ticket-hand-over&move=5")
+    covered = page.js("beside")
+    page.press("a")
+    shown = page.js("beside")
+    page.press("a")
+    for wanted in (shown, covered, shown):
+        way(page, summary)
+        assert page.js("beside") == wanted != (covered if wanted == shown else shown)
+        assert page.js("focused") == "summary"
+    page.press("ArrowRight")
+    assert page.shown()["place"] == 6
+
+
+@cases("way", WAYS)
+@pytest.mark.parametrize("look", ["&hall", "&embed"])
+def test_it_comes_in_the_bar_too(page, way, look):
+    """In a hall and in a frame the question is above memory, which the answer shows."""
+    page.open(f"#lesson=mcs-late-link&move=9{look}&show=memory")
+    assert not page.js("beside")["links"]
+    way(page, "#current .question summary")
+    assert page.js("beside")["links"] and page.js("count", "#current .question details[open]") == 1
+
+
+@cases("way", WAYS)
+def test_the_story_comes_without_a_key_too(page, way):
+    """Key A closes what was opened by a click or by Enter."""
+    page.open("#lesson=ticket-hand-over&move=0")
+    way(page, "#now .story summary")
+    assert page.js("count", "#now .story[open]") == 1
+    page.press("a")
+    assert page.js("count", "#now .story[open]") == 0
 
 
 def test_who_has_a_ticket_is_not_drawn(page):

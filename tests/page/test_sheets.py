@@ -108,6 +108,37 @@ def test_as_a_pdf(page, name, tmp_path):
     assert not [line for line in remarks(name, "answer") if line in said]
 
 
+def dark(page, path):
+    """The share of dark dots on each page that is printed."""
+    path.write_bytes(page.pdf())
+    pictures = subprocess.run(["pdftoppm", "-gray", "-r", "20", path], check=True,
+                              capture_output=True).stdout
+    # Each picture has a head with its width and height, and a byte for each dot.
+    shares = []
+    while pictures:
+        width, height, rest = re.match(rb"P5\n(\d+) (\d+)\n255\n(.*)", pictures, re.DOTALL).groups()
+        count = int(width) * int(height)
+        shares.append(sum(one < 100 for one in rest[:count]) / count)
+        pictures = rest[count:]
+    return shares
+
+
+def test_it_is_printed_on_white(page, tmp_path):
+    page.before("keepSheet")
+    page.open("#lesson=mcs-late-link&move=0")
+    page.js("asExercise")
+    shares = dark(page, tmp_path / "sheet.pdf")
+    assert shares and all(share < 0.1 for share in shares), shares
+
+
+def test_a_black_screen_is_printed_on_white(page, tmp_path):
+    """In hall mode a full stop makes the screen black, but not what is printed."""
+    page.open("#lesson=mcs-late-link&move=9&hall")
+    page.press(".")
+    shares = dark(page, tmp_path / "black.pdf")
+    assert shares and all(share < 0.1 for share in shares), shares
+
+
 def test_questions_of_the_first_moves(page):
     """The sheet has the questions before the first move, at it, and at the last move."""
     page.open()

@@ -1,6 +1,6 @@
 // The controls of the page, each with what it does.
 
-import { byId, dataOf, formOf, inputOf, selectOf, targetOf } from '../lib/elements.js';
+import { byId, dataOf, focusIn, formOf, inputOf, selectOf, targetOf } from '../lib/elements.js';
 import { chooseFile } from '../lib/files.js';
 import { show } from '../lib/markup.js';
 import { texts } from '../texts/texts.js';
@@ -99,6 +99,20 @@ function further(page) {
   });
 }
 
+// A browser would open the answer alone, and leave covered what the question hides. The answer is
+// drawn anew, so it is focused again.
+function answers(page) {
+  for (const box of [byId('now'), byId('current')]) {
+    box.addEventListener('click', (event) => {
+      const { answer } = dataOf(event, '[data-answer]');
+      if (!answer) return;
+      event.preventDefault();
+      page.stepping.toggleAnswer();
+      focusIn(box, `[data-answer="${answer}"]`);
+    });
+  }
+}
+
 // The quiz is beside the move, or above the parts that are shown instead.
 function quiz(page) {
   for (const id of ['now', 'current']) {
@@ -151,6 +165,7 @@ export function listen(page) {
   clicks(page);
   menu(page);
   partsThatAreDrawn(page);
+  answers(page);
   quiz(page);
   further(page);
   listenForTerms();

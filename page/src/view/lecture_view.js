@@ -30,6 +30,6 @@ export function lectureView({ lecture, answered }) {
   const { say, ask, answer, play } = lecture.step;
   return html`${say && html`<p class="plan-say">${say}</p>`}
     ${play && html`<div class="question"><p><b>${texts.question}</b> ${ask}</p>
-      <details ${answered && 'open'}><summary>${texts.showAnswer}</summary><p>${answer}</p>
-      </details></div>`}`;
+      <details ${answered && 'open'}><summary data-answer="plan">${texts.showAnswer}</summary>
+      <p>${answer}</p></details></div>`}`;
 }

@@ -86,7 +86,8 @@ export function questionView(view) {
   return html`<div class="question ${view.reminded && 'waits'}">
     <p><b>${texts.question}</b> ${question}</p>
     ${answer && html`<details ${view.answered && 'open'}>
-      <summary>${texts.showAnswer}<kbd>A</kbd></summary><p>${answer}</p></details>`}</div>`;
+      <summary data-answer="question">${texts.showAnswer}<kbd>A</kbd></summary>
+      <p>${answer}</p></details>`}</div>`;
 }
 
 /** @param {View} view @param {State} state */
@@ -110,8 +111,9 @@ const withCode = (text) => text.split('`')
 /** @param {View} view */
 function storyView({ remarks: { about }, answered }) {
   if (!about) return null;
-  return html`<details class="story" ${answered && 'open'}><summary>${texts.showStory}<kbd>A</kbd>
-    </summary><p class="about">${withCode(about)}</p></details>`;
+  return html`<details class="story" ${answered && 'open'}>
+    <summary data-answer="story">${texts.showStory}<kbd>A</kbd></summary>
+    <p class="about">${withCode(about)}</p></details>`;
 }
 
 // Which threads have names. Lanes are in the order of numbers, and keys of Play are numbers.

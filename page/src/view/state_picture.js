@@ -19,6 +19,8 @@ import { legendEntries } from './legend.js';
 
 const XMLNS = 'http://www.w3.org/2000/svg';
 const EDGE = 20;
+// How wide the lanes are if the page does not show them.
+const LANES_HIDDEN = 1200;
 const GAP = 14;
 const TITLE = 34;
 const LINE = 22;
@@ -88,9 +90,10 @@ function viewAt({ session, answered, hides }, wanted, move) {
 export function statePicture(page, wanted, move) {
   const { session, title } = page;
   const view = viewAt(page, wanted, move);
-  const { width: wide, height: tall } = page.layout;
-  const layout = move === undefined ? page.layout
-    : layOutLanes(view, false, { width: wide, height: tall }, page.zoomed);
+  const { width: wide, height } = page.layout;
+  const room = { width: wide || LANES_HIDDEN, height };
+  const layout = move === undefined && wide ? page.layout
+    : layOutLanes(view, false, room, page.zoomed);
   const state = view.run.state(view.move);
   const lines = session.lines[view.run.kind];
   const column = new Column(EDGE);
