@@ -1,13 +1,12 @@
 // Keys for everything. A key that a field or a button needs for itself is left to it.
 
-import { byId, closesBeside, dialogOf, targetOf } from '../lib/elements.js';
+import { byId, closesBeside, dialogOf, targetOf, TYPED_IN } from '../lib/elements.js';
 import { html, show } from '../lib/markup.js';
 import { texts } from '../texts/texts.js';
 import { looks } from '../model/looks.js';
 import { signList } from '../view/legend.js';
 
-const IN_FIELDS = 'textarea, select, '
-  + 'input:not([type=range]):not([type=radio]):not([type=checkbox])';
+const IN_FIELDS = `${TYPED_IN}, select`;
 const FAR = 10;
 const WIDER = 1.25;
 
