@@ -57,12 +57,13 @@ export function listenForKeys(page) {
       return;
     }
     const target = targetOf(event);
+    const isBehind = document.querySelector('dialog[open]') !== null;
     const undoes = (event.ctrlKey || event.metaKey) && event.key === 'z'
-      && !target.closest(IN_FIELDS);
+      && !isBehind && !target.closest(IN_FIELDS);
     if (undoes) page.playing.undo();
     if (event.ctrlKey || event.metaKey || event.altKey) return;
     if (event.key === 'Escape' && target.closest(IN_FIELDS)) target.blur();
-    if (document.querySelector('dialog[open]') || isTheirs(event.key, target)) return;
+    if (isBehind || isTheirs(event.key, target)) return;
     const key = event.key.length === 1 ? event.key.toLowerCase() : event.key;
     const onLane = target.id === 'lanes' && lanes[key];
     const thread = page.mode === 'play' && /^[0-9]$/.test(key);
