@@ -111,6 +111,19 @@ def test_the_clock_of_a_later_step(page):
     assert re.fullmatch(r"6:00|5:5\d", page.js("step")["clock"])
 
 
+def test_escape_in_the_menu(page):
+    """Escape closes the open menu, and only then ends the lecture."""
+    page.resize(1024, 768)
+    begin(page, "mcs")
+    page.press("h")
+    page.click("#menu")
+    assert page.js("isMenu")
+    page.press("Escape")
+    assert not page.js("isMenu") and page.js("step")["step"] == "Step 1 of 5"
+    page.press("Escape")
+    assert not page.js("step")["step"]
+
+
 def test_the_last_step(page):
     """The button says that no other step follows."""
     begin(page, "mcs")

@@ -18,18 +18,19 @@ function showMenu(isOpen) {
   byId('menu').setAttribute('aria-expanded', String(isOpen));
 }
 
-// It closes with the tool that is chosen, with a click elsewhere, and with Escape.
+// It closes with the tool that is chosen, with a click elsewhere, and with Escape, which then
+// leaves neither hall nor lecture.
 function menu(page) {
   const isOpen = () => document.body.classList.contains('menu');
   addEventListener('click', (event) => {
     showMenu(targetOf(event).id === 'menu' && !isOpen());
     page.hall.blank(false);
   });
-  addEventListener('keydown', ({ key }) => {
-    if (key === 'Escape' && isOpen()) {
-      showMenu(false);
-      byId('menu').focus();
-    }
+  addEventListener('keydown', (event) => {
+    if (event.key !== 'Escape' || !isOpen()) return;
+    event.stopImmediatePropagation();
+    showMenu(false);
+    byId('menu').focus();
   });
 }
 
