@@ -236,6 +236,30 @@ def test_the_second_window_beside_a_text_without_a_lock(page):
     page.js("closeThere")
 
 
+def test_keys_of_the_second_window(page):
+    """A key that the page takes does nothing else in the second window, as Space, which would
+    scroll. Another key is the browser's."""
+    page.before("keepWindows")
+    page.open("#lesson=mcs-late-link&move=3")
+    page.press("2")
+    page.until("presented")
+    assert page.js("takenThere", [" ", "PageDown", "Tab", "ArrowDown", "Home"]) == [
+        " ", "PageDown", "Home"]
+    page.js("closeThere")
+
+
+def test_the_style_of_the_second_window(page):
+    """However often the key is pressed, the second window has one style and its title."""
+    page.before("keepWindows")
+    page.open("#lesson=mcs-late-link&move=3")
+    for _ in range(3):
+        page.press("2")
+        page.until("presented")
+        assert page.js("stylesThere") == 1
+        assert page.js("windowThere") == ["lockreplay: for the presenter", "presenter", True]
+    page.js("closeThere")
+
+
 def test_the_next_move_of_a_run_that_repeats(page):
     """After the last move the second window shows the first of the moves that repeat."""
     page.before("keepWindows")
