@@ -58,6 +58,10 @@ const clockThereBegins = (sign) => (
 const pressThere = (name, held) => {
   window.opened.dispatchEvent(new KeyboardEvent('keydown', { key: name, [held]: true }));
 };
+// The keys that do nothing in the second window itself.
+const takenThere = (names) => names.filter((name) => !window.opened.dispatchEvent(
+  new KeyboardEvent('keydown', { key: name, cancelable: true })));
+const stylesThere = () => window.opened.document.querySelectorAll('style').length;
 const languageThere = () => window.opened.document.documentElement.lang;
 const windowThere = () => {
   const { title, body, head } = window.opened.document;

@@ -1,7 +1,5 @@
 // The daily work of a reader: menu, files, phones and low windows.
 
-const isMenu = () => document.body.classList.contains('menu');
-
 // Before the page's script: lets the browser keep at most `room` schedules.
 function leaveRoom(room) {
   const { setItem } = Storage.prototype;

@@ -24,13 +24,21 @@ function marked() {
 
 const scrollText = (top) => { byId('text').scrollTop = top; };
 
-function dropFile(letters) {
+function fileOf(letters) {
   const data = new DataTransfer();
   data.items.add(new File([letters], 'mine.txt'));
-  document.body.dispatchEvent(new DragEvent('drop', {
-    dataTransfer: data, bubbles: true, cancelable: true,
-  }));
+  return data;
 }
+
+const dropFile = (letters, selector = 'body') => bring(
+  'drop', 'dataTransfer', fileOf(letters), document.querySelector(selector));
+
+// Brings a text into an element. True if the browser would go on itself.
+const bringInto = (kind, selector, letters) => bring(
+  kind, kind === 'paste' ? 'clipboardData' : 'dataTransfer', carried(letters),
+  document.querySelector(selector));
+const dragFileOver = (selector) => bring(
+  'dragover', 'dataTransfer', fileOf(''), document.querySelector(selector));
 
 // From now on no file can be read, as after another program has removed it.
 function readNothing() {

@@ -25,16 +25,31 @@ const movesOfStrips = () => all('#paper .strip').map((one) => all('.move', one).
 const words = (selector) => document.querySelector(selector).textContent;
 
 // Applies the style for a printer: rules for the screen are off, and rules for paper are on.
-function onPaper() {
-  document.documentElement.dataset.theme = 'dark';
+function stylePaper() {
   for (const { media } of [...document.styleSheets].flatMap(({ cssRules }) => [...cssRules])) {
     const said = media?.mediaText.replace('screen', 'speech').replace('print', 'all');
     if (media) media.mediaText = said;
   }
+}
+
+function onPaper() {
+  document.documentElement.dataset.theme = 'dark';
+  stylePaper();
   const shows = (id) => styleOf(`#${id}`).display !== 'none';
   return [shows('paper'), shows('work'), styleOf('body').backgroundColor,
     styleOf('#paper td').color];
 }
+
+// Which parts of the screen are shown, and which of them are printed.
+function screenAndPaper(ids) {
+  const shown = () => ids.filter((id) => byId(id).checkVisibility());
+  const onScreen = shown();
+  stylePaper();
+  return [onScreen, shown()];
+}
+
+const pointAt = (selector) => document.querySelector(selector)
+  .dispatchEvent(new Event('pointerover', { bubbles: true }));
 
 // What an exercise sheet draws about the outcomes of moves, and its lines to write on.
 const drawn = () => [count('#paper .strip .span, #paper .strip .found, #paper .strip .arrow'),

@@ -121,6 +121,19 @@ def test_the_clock_of_a_later_step(page):
     assert re.fullmatch(r"6:00|5:5\d", page.js("step")["clock"])
 
 
+def test_escape_in_the_menu(page):
+    """Escape closes the open menu, and only then ends the lecture."""
+    page.resize(1024, 768)
+    begin(page, "mcs")
+    page.press("h")
+    page.click("#menu")
+    assert page.js("isMenu")
+    page.press("Escape")
+    assert not page.js("isMenu") and page.js("step")["step"] == "Step 1 of 5"
+    page.press("Escape")
+    assert not page.js("step")["step"]
+
+
 def test_the_last_step(page):
     """The button says that no other step follows."""
     begin(page, "mcs")
@@ -230,6 +243,30 @@ def test_the_second_window_beside_a_text_without_a_lock(page):
     assert page.shown()["title"] == "Your own schedule" and page.js("presented") == said
     page.show("#! title Mine\nlock ticket threads 1\n0 acquire\n", 1)
     assert page.js("presented").startswith("Mine 1 of 1 This moveThread 0 calls acquire")
+    page.js("closeThere")
+
+
+def test_keys_of_the_second_window(page):
+    """A key that the page takes does nothing else in the second window, as Space, which would
+    scroll. Another key is the browser's."""
+    page.before("keepWindows")
+    page.open("#lesson=mcs-late-link&move=3")
+    page.press("2")
+    page.until("presented")
+    assert page.js("takenThere", [" ", "PageDown", "Tab", "ArrowDown", "Home"]) == [
+        " ", "PageDown", "Home"]
+    page.js("closeThere")
+
+
+def test_the_style_of_the_second_window(page):
+    """However often the key is pressed, the second window has one style and its title."""
+    page.before("keepWindows")
+    page.open("#lesson=mcs-late-link&move=3")
+    for _ in range(3):
+        page.press("2")
+        page.until("presented")
+        assert page.js("stylesThere") == 1
+        assert page.js("windowThere") == ["lockreplay: for the presenter", "presenter", True]
     page.js("closeThere")
 
 

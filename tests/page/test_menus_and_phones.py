@@ -150,6 +150,18 @@ def test_a_finger_in_the_text(page):
     assert page.shown(mode="own")["place"] == 10
 
 
+@cases("size, part, place", {
+    "wide code": ((844, 390), "code-lines", 10), "wide memory": ((280, 640), "memory-picture", 10),
+    "code": ((390, 844), "code-lines", 11), "memory": ((390, 844), "memory-picture", 11),
+    "beside wide code": ((844, 390), "now", 11)})
+def test_a_finger_in_a_wide_part(page, size, part, place):
+    """A finger that moves over a part that is wider than its room scrolls it, and makes no step."""
+    page.resize(*size)
+    page.open("#lesson=mcs-late-link&move=10")
+    page.js("swipe", -120, 1, part)
+    assert page.js("place") == place
+
+
 @pytest.mark.parametrize("width, height", [(683, 384), (844, 390)])
 def test_nothing_is_off_a_low_screen(page, width, height):
     """At 200 % zoom and on a phone on its side, title, menu, lanes and foot are on the screen."""

@@ -117,6 +117,44 @@ def test_dropped_and_pasted(page):
     page.until("verdictEnds", "end 2")
 
 
+ONE_MOVE = "lock mcs threads 1\n0 acquire\n"
+
+
+@pytest.mark.parametrize("field", ["#text", "#find-sketch", "#find-rounds"])
+def test_a_text_brought_into_a_field(page, field):
+    """A field takes the text itself, and the schedule stays. A file is opened there too."""
+    page.open("#lesson=mcs-late-link&move=9")
+    page.press("e")
+    before = page.shown()
+    for kind in ["dragover", "drop", "paste"]:
+        assert page.js("bringInto", kind, field, ONE_MOVE), kind
+    assert page.shown() == before
+    assert not page.js("dragFileOver", field)
+    assert not page.js("dropFile", ONE_MOVE, field)
+    page.until("verdictEnds", "end 1")
+
+
+@pytest.mark.parametrize("control", [
+    "#slider", "#every", "#speed", "#forward", "#find-kind", "#take-title"])
+def test_a_text_brought_to_another_control(page, control):
+    """The page opens a text that is brought to a control in which nobody types."""
+    page.open("#lesson=mcs-late-link&move=9")
+    assert not page.js("bringInto", "paste", control, ONE_MOVE)
+    page.until("verdictEnds", "end 1")
+    assert not page.js("bringInto", "dragover", control, "")
+    assert not page.js("bringInto", "drop", control, ONE_MOVE + "0 write\n")
+    page.until("verdictEnds", "end 2")
+
+
+def test_a_trace_dropped_into_the_text(page):
+    """It takes the place of the schedule, as a trace that is pasted does."""
+    page.open("#lesson=mcs-late-link&move=9")
+    page.press("e")
+    trace = "lock ticket threads 1\n0 acquire\n0 add next_ticket found 0\n"
+    assert not page.js("bringInto", "drop", "#text", trace)
+    assert page.shown(moves=2)["area"] == trace
+
+
 def test_a_file_that_cannot_be_read(page):
     """The page says so, and what it shows stays."""
     page.open("#lesson=mcs-late-link&move=9")

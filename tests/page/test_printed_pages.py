@@ -61,6 +61,20 @@ def test_only_paper_is_printed(page):
     assert page.js("onPaper") == [True, False, "rgb(255, 255, 255)", "rgb(0, 0, 0)"]
 
 
+def test_no_explanation_is_printed(page):
+    page.open("#lesson=ticket-hand-over&move=5")
+    page.js("pointAt", "main .term")
+    page.js("drawPaper")
+    assert page.js("screenAndPaper", ["tip-box", "time"]) == [["tip-box", "time"], []]
+
+
+def test_no_warning_is_printed(page):
+    """What is wrong with a link, here that it has no end, is not on the sheets."""
+    page.open("#schedule=bG9jayBtY3MgdGhyZWFkcyAyCjAgYWNxdWlyZQo")
+    page.js("drawPaper")
+    assert page.js("screenAndPaper", ["damaged", "time"]) == [["damaged", "time"], []]
+
+
 def sheets(data):
     """How many pages a PDF has. Some of its objects may be compressed."""
     packed = re.findall(rb"/ObjStm.*?stream\r?\n(.*?)endstream", data, re.DOTALL)

@@ -39,6 +39,19 @@ def test_nothing_is_left_to_undo(page, key):
     assert page.shown() == lesson
 
 
+@pytest.mark.parametrize("dialog", ["v", "?", "m"])
+def test_nothing_is_undone_behind_a_dialog(page, dialog):
+    """Ctrl+Z changes nothing behind an open dialog, and undoes when it is closed."""
+    page.open("#lesson=mcs-late-link&move=7")
+    page.press("g")
+    page.click("#choices [data-thread='0']")
+    branch = page.shown(position="8 of 8", lesson=None)
+    page.press(dialog, "Control+z")
+    assert page.shown() == branch
+    page.press("Escape", "Control+z")
+    page.shown(position="7 of 16", lesson="mcs-late-link")
+
+
 def test_a_new_text_is_undone(page):
     """The button of Your own undoes a new text."""
     page.open("#lesson=ticket-hand-over&move=5")

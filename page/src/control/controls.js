@@ -1,6 +1,8 @@
 // The controls of the page, each with what it does.
 
-import { byId, dataOf, focusIn, formOf, inputOf, selectOf, targetOf } from '../lib/elements.js';
+import {
+  byId, dataOf, focusIn, formOf, inputOf, selectOf, targetOf, TYPED_IN,
+} from '../lib/elements.js';
 import { chooseFile } from '../lib/files.js';
 import { show } from '../lib/markup.js';
 import { texts } from '../texts/texts.js';
@@ -16,18 +18,19 @@ function showMenu(isOpen) {
   byId('menu').setAttribute('aria-expanded', String(isOpen));
 }
 
-// It closes with the tool that is chosen, with a click elsewhere, and with Escape.
+// It closes with the tool that is chosen, with a click elsewhere, and with Escape, which then
+// leaves neither hall nor lecture.
 function menu(page) {
   const isOpen = () => document.body.classList.contains('menu');
   addEventListener('click', (event) => {
     showMenu(targetOf(event).id === 'menu' && !isOpen());
     page.hall.blank(false);
   });
-  addEventListener('keydown', ({ key }) => {
-    if (key === 'Escape' && isOpen()) {
-      showMenu(false);
-      byId('menu').focus();
-    }
+  addEventListener('keydown', (event) => {
+    if (event.key !== 'Escape' || !isOpen()) return;
+    event.stopImmediatePropagation();
+    showMenu(false);
+    byId('menu').focus();
   });
 }
 
@@ -129,27 +132,34 @@ function quiz(page) {
   }
 }
 
+const fieldOf = (event) => targetOf(event).closest(TYPED_IN);
+
+// A field takes a text itself. But a trace is no text to go on writing.
+function bringText({ editing }, event, data) {
+  const letters = data.getData('text/plain');
+  const field = fieldOf(event);
+  if (field && !(field.id === 'text' && editing.isTrace(letters))) return;
+  event.preventDefault();
+  editing.paste(letters);
+}
+
 function files(page) {
   const field = inputOf('file');
   field.addEventListener('change', () => {
     if (field.files.length) page.editing.openFiles(field.files);
     field.value = '';
   });
-  addEventListener('dragover', (event) => event.preventDefault());
+  addEventListener('dragover', (event) => {
+    const { types } = event.dataTransfer;
+    if (types.includes('Files') || !fieldOf(event)) event.preventDefault();
+  });
   addEventListener('drop', (event) => {
-    event.preventDefault();
     const { files } = event.dataTransfer;
-    if (files.length) page.editing.openFiles(files);
-    else page.editing.paste(event.dataTransfer.getData('text/plain'));
-  });
-  document.addEventListener('paste', (event) => {
-    const letters = event.clipboardData.getData('text/plain');
-    const field = targetOf(event).closest('textarea, input');
-    // A trace is no text to go on writing.
-    if (field && !(field.id === 'text' && page.editing.isTrace(letters))) return;
+    if (!files.length) return bringText(page, event, event.dataTransfer);
     event.preventDefault();
-    page.editing.paste(letters);
+    return page.editing.openFiles(files);
   });
+  document.addEventListener('paste', (event) => bringText(page, event, event.clipboardData));
 }
 
 // The numbers of a lock go as far as the machine takes them.

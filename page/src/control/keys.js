@@ -1,13 +1,12 @@
 // Keys for everything. A key that a field or a button needs for itself is left to it.
 
-import { byId, closesBeside, dialogOf, targetOf } from '../lib/elements.js';
+import { byId, closesBeside, dialogOf, targetOf, TYPED_IN } from '../lib/elements.js';
 import { html, show } from '../lib/markup.js';
 import { texts } from '../texts/texts.js';
 import { looks } from '../model/looks.js';
 import { signList } from '../view/legend.js';
 
-const IN_FIELDS = 'textarea, select, '
-  + 'input:not([type=range]):not([type=radio]):not([type=checkbox])';
+const IN_FIELDS = `${TYPED_IN}, select`;
 const FAR = 10;
 const WIDER = 1.25;
 
@@ -58,12 +57,13 @@ export function listenForKeys(page) {
       return;
     }
     const target = targetOf(event);
+    const isBehind = document.querySelector('dialog[open]') !== null;
     const undoes = (event.ctrlKey || event.metaKey) && event.key === 'z'
-      && !target.closest(IN_FIELDS);
+      && !isBehind && !target.closest(IN_FIELDS);
     if (undoes) page.playing.undo();
     if (event.ctrlKey || event.metaKey || event.altKey) return;
     if (event.key === 'Escape' && target.closest(IN_FIELDS)) target.blur();
-    if (document.querySelector('dialog[open]') || isTheirs(event.key, target)) return;
+    if (isBehind || isTheirs(event.key, target)) return;
     const key = event.key.length === 1 ? event.key.toLowerCase() : event.key;
     const onLane = target.id === 'lanes' && lanes[key];
     const thread = page.mode === 'play' && /^[0-9]$/.test(key);

@@ -26,11 +26,12 @@ export class Presenter {
       return;
     }
     const { document: there } = this.window;
+    there.head.replaceChildren(document.querySelector('style').cloneNode(true));
     there.title = T.title;
-    there.head.append(...[document.querySelector('style').cloneNode(true)]);
     there.body.className = 'presenter';
     there.documentElement.lang = document.documentElement.lang;
-    // It passes its keys to the page, with the modifier keys, which give them another meaning.
+    // It passes its keys to the page, with the modifier keys, which give them another meaning. A
+    // key that the page takes gives false, so it does nothing else there.
     this.window.onkeydown = ({ key, ctrlKey, metaKey, altKey }) => document.body.dispatchEvent(
       new KeyboardEvent('keydown', {
         key, ctrlKey, metaKey, altKey, bubbles: true, cancelable: true,

@@ -1,5 +1,9 @@
 // Elements of the page by their ids, and those that an event is of, each as what it is.
 
+// Fields in which one types.
+export const TYPED_IN = 'textarea, '
+  + 'input:not([type=range]):not([type=radio]):not([type=checkbox])';
+
 /**
  * The element of this id, if it is of this kind; else null.
  * @template {Element} Kind
