@@ -83,6 +83,17 @@ static inline unsigned lr_wait_for(lr_run *run, unsigned seconds)
     return missing;
 }
 
+/* Stops the threads of a run that nobody waits for any more, where their turns end. Threads that run
+   as they like go on. */
+static inline void lr_give_up(lr_run *run)
+{
+#if LR_TURNS
+    lr_end_run(run);
+#else
+    (void)run;
+#endif
+}
+
 /* The reason why a run ended before its threads did, or an empty text. */
 static inline const char *lr_said(const lr_run *run) { return run->said; }
 

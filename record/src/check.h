@@ -16,14 +16,14 @@ lr_compile_record_locktrace_c_too(const lr_text *text, struct lt_step *steps, si
 }
 
 /* Says why a trace is refused: the line, where its move was noted, the move, the fault, and the
-   published lock's step there. */
-static inline void lr_tell_fault(lr_run *run, const struct lt_answer *answer,
+   published lock's step there. `ordered`: how many moves are checked. */
+static inline void lr_tell_fault(lr_run *run, size_t ordered, const struct lt_answer *answer,
                                  const struct lt_step *steps, const char *why)
 {
     char line[LR_LINE], where[LR_LINE];
     size_t at = (size_t)answer->moves;
     lr_tell(run->said, "refused at line %" PRIu64 " of the trace", answer->line);
-    if (at < run->ordered) {
+    if (at < ordered) {
         const lr_move *move = lr_move_at(run, at);
         unsigned by = run->order[at];
         const lr_log *log = &run->logs[by];
@@ -31,24 +31,25 @@ static inline void lr_tell_fault(lr_run *run, const struct lt_answer *answer,
                 lr_text_of(line, log, move));
     }
     lr_tell(run->said, ": %s", why);
-    if (at >= run->ordered) return;
+    if (at >= ordered) return;
     lr_tell_published(run, steps, at, answer->fault);
     lr_tell_record(run, lr_move_at(run, at));
 }
 
 /* The outcome of the last step of each thread, by the lock's machine. */
-static inline void lr_last_outcomes(const lr_run *run, const struct lt_step *steps, uint32_t *last)
+static inline void lr_last_outcomes(size_t ordered, const struct lt_step *steps, uint32_t *last)
 {
     for (unsigned t = 0; t < LR_THREADS; t++) last[t] = LT_LEFT;
-    for (size_t i = 0; i < run->ordered; i++) last[steps[i].thread] = steps[i].outcome;
+    for (size_t i = 0; i < ordered; i++) last[steps[i].thread] = steps[i].outcome;
 }
 
 /* Whether a thread has ended inside a call. In a run that was not stopped, also whether a thread
    has not ended though the lock's machine has completed its last call. */
-static inline int lr_is_beside(lr_run *run, const struct lt_step *steps, int was_stopped)
+static inline int lr_is_beside(lr_run *run, size_t ordered, const struct lt_step *steps,
+                               int was_stopped)
 {
     uint32_t last[LR_THREADS];
-    lr_last_outcomes(run, steps, last);
+    lr_last_outcomes(ordered, steps, last);
     for (unsigned t = 0; t < run->threads; t++) {
         int is_over = last[t] == LT_ENTERED || last[t] == LT_LEFT;
         int has_ended = lr_count_of(run->logs[t].ended);
@@ -62,34 +63,36 @@ static inline int lr_is_beside(lr_run *run, const struct lt_step *steps, int was
 }
 
 /* Appends to what is said why a run is refused. Returns 1 if it is, else 0. */
-static inline int lr_check_steps(lr_run *run, const lr_text *text, struct lt_step *steps,
-                                 int was_stopped)
+static inline int lr_check_steps(lr_run *run, size_t ordered, const lr_text *text,
+                                 struct lt_step *steps, int was_stopped)
 {
     struct lt_answer answer;
     char why[LR_SAID];
-    if (!lr_compile_record_locktrace_c_too(text, steps, run->ordered + 1, &answer, why))
-        return lr_is_beside(run, steps, was_stopped);
-    lr_tell_fault(run, &answer, steps, why);
+    if (!lr_compile_record_locktrace_c_too(text, steps, ordered + 1, &answer, why))
+        return lr_is_beside(run, ordered, steps, was_stopped);
+    lr_tell_fault(run, ordered, &answer, steps, why);
     return 1;
 }
 
 /* Checks a run: 0 if it is accepted; else 1, and `lr_said` has the reason. A refused step is said
-   before the reason why the run ended, which may be only an effect of that step. */
+   before the reason why the run ended, which may be only an effect of that step. A thread that was
+   not waited for may make moves meanwhile: they are not checked. */
 static inline int lr_check(lr_run *run)
 {
     lr_text text = {NULL, NULL, 0, 0, 0};
-    struct lt_step *steps = (struct lt_step *)calloc(run->ordered + 1, sizeof(struct lt_step));
+    size_t ordered = lr_count_of(run->ordered);
+    struct lt_step *steps = (struct lt_step *)calloc(ordered + 1, sizeof(struct lt_step));
     char ended_by[LR_SAID];
     int is_wrong = 1;
     memcpy(ended_by, run->said, LR_SAID);
     lr_print_head(&text, run);
-    lr_print_moves(&text, run);
+    lr_print_moves(&text, run, ordered);
     run->said[0] = '\0';
     if (text.no_memory || !steps) {
         run->lacks = ENOMEM;
         lr_tell(run->said, "no memory for the check");
     } else {
-        is_wrong = lr_check_steps(run, &text, steps, ended_by[0] != 0);
+        is_wrong = lr_check_steps(run, ordered, &text, steps, ended_by[0] != 0);
     }
     free(steps);
     free(text.bytes);

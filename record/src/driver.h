@@ -42,9 +42,12 @@ static inline unsigned lr_go(lr_run *run, const lr_driver *driver, unsigned roun
     if (started < run->threads) {
         lr_tell(run->said, "no memory for thread %u", started);
         run->lacks = EAGAIN;
+        run->is_left = 1;
         return run->threads;
     }
     unsigned missing = lr_wait_for(run, seconds);
+    run->is_left = missing != 0;
+    if (missing) lr_give_up(run);
     for (unsigned t = 0; t < started; t++)
         if (lr_count_of(run->logs[t].ended))
             pthread_join(run->logs[t].id, NULL);

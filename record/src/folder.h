@@ -44,6 +44,17 @@ static inline int lr_remove_earlier(const char *folder, unsigned from)
     return fault;
 }
 
+/* Reads a line as far as there is room for it: a comment may be longer. Returns 0 at the end. */
+static inline int lr_read_text(char *text, size_t room, FILE *file)
+{
+    size_t length = 0;
+    int byte;
+    while ((byte = getc(file)) != EOF && byte != '\n')
+        if (length + 1 < room) text[length++] = (char)byte;
+    text[length] = '\0';
+    return byte != EOF || length;
+}
+
 /* `more` is what is known of the end. */
 static inline void lr_say_kept(const char *folder, const char *more)
 {

@@ -13,10 +13,10 @@
    the middle of a run. */
 
 /* The size of a run's memory: `lr_run`, then the moves of each thread after two that nobody makes,
-   then a byte for each of them, which names a move's thread. */
+   then a byte for each of them, which names a move's thread, and with EXPLORE one for a choice. */
 static inline size_t lr_size_of(unsigned threads, size_t moves)
 {
-    return sizeof(lr_run) + threads * (moves + 2) * (sizeof(lr_move) + 1);
+    return sizeof(lr_run) + threads * (moves + 2) * LR_MOVE_SIZE;
 }
 
 #if LR_MAPPED
@@ -114,6 +114,8 @@ static inline lr_run *lr_memory_of(unsigned threads, size_t moves, const char *f
     run->size = size;
     run->moves = (lr_move *)(run + 1);
     run->order = (unsigned char *)(run->moves + all);
+    run->made = run->order + all;
+    run->made_room = LR_EXPLORES ? all : 0;
     memset(run->moves, 0xFF, all * sizeof(lr_move));
     return run;
 }

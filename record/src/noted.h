@@ -9,8 +9,9 @@
 
    A pointer is noted as 0, or as j + 1 if it points into thread j's record, and a `next` or
    `locked` is of the thread in whose record it is. `lr_own_record(pointer)` says which is the
-   record of the thread that calls it, before it takes the lock. A thread that is in no run notes
-   nothing, so that a lock can also be made new by these. */
+   record of the thread that calls it, before it takes the lock; the thread that had this record,
+   as one from a pool, has it no longer. A thread that is in no run notes nothing, so that a lock
+   can also be made new by these. */
 
 enum {
     LR_NEXT_TICKET = LR_PLACE_next_ticket,

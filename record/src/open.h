@@ -31,7 +31,7 @@ static inline int lr_is_wrong(const char *lock, unsigned threads, unsigned bits,
     else if (bits < 8 && threads >> bits)
         lr_say("%u threads and counters of %u bits: there have to be fewer threads than values",
                threads, bits);
-    else if (moves >= SIZE_MAX / (sizeof(lr_move) + 1) / threads - sizeof(lr_run))
+    else if (moves >= SIZE_MAX / LR_MOVE_SIZE / threads - sizeof(lr_run))
         lr_say("%zu moves for each thread are more than memory can have", moves);
     else
         return 0;

@@ -1,15 +1,35 @@
 /* Whose record an address is in, for atomics that note themselves. This comes before the points:
    there is none between an operation and its note. */
 
-/* From now on this is the record of the thread that runs. A thread in no run has none. */
-static inline void lr_set_record(const void *first, size_t length)
+/* Takes a record from whoever had it: a lock may give it back to a pool, from which another thread
+   takes it. The thread that had it may own another one at this moment, which it then keeps. Returns
+   whether a thread had it. */
+__attribute__((cold)) static inline int lr_take_record(lr_run *run, uintptr_t first, size_t length)
+{
+    int had = 0;
+    for (unsigned t = 0; t < run->threads; t++) {
+        lr_extent *other = &run->logs[t].record;
+        uintptr_t theirs = __atomic_load_n(&other->first, __ATOMIC_RELAXED);
+        size_t room = __atomic_load_n(&other->length, __ATOMIC_RELAXED);
+        if (!theirs || (first - theirs >= room && theirs - first >= length)) continue;
+        had |= __atomic_compare_exchange_n(&other->first, &theirs, 0, 0, __ATOMIC_RELAXED,
+                                           __ATOMIC_RELAXED);
+    }
+    return had;
+}
+
+/* From now on this is the record of the thread that runs, and of no other. A thread in no run has
+   none. */
+static inline void lr_set_record(const void *pointer, size_t length)
 {
     lr_extent *record = &lr_self->record;
-    if (lr_self == &lr_outside) return;
+    uintptr_t first = (uintptr_t)pointer;
+    uintptr_t before = __atomic_load_n(&record->first, __ATOMIC_RELAXED);
+    if (lr_self == &lr_outside || (before == first && record->length == length)) return;
     /* Another thread reads this when it notes a pointer. */
-    if (record->first && record->first != (uintptr_t)first) lr_touch_all(lr_self->run);
+    if (lr_take_record(lr_self->run, first, length) || before) lr_touch_all(lr_self->run);
     __atomic_store_n(&record->length, length, __ATOMIC_RELAXED);
-    __atomic_store_n(&record->first, (uintptr_t)first, __ATOMIC_RELAXED);
+    __atomic_store_n(&record->first, first, __ATOMIC_RELAXED);
 }
 
 static inline int lr_has(const lr_log *log, uintptr_t address)

@@ -17,7 +17,7 @@ static inline int lr_is_run(const lr_run *run, size_t size, size_t *room)
     lr_make_stamp(stamp);
     if (size < sizeof(lr_run) || memcmp(run->stamp, stamp, LR_STAMP)) return 0;
     if (run->size != size || run->threads < 1 || run->threads > LR_THREADS) return 0;
-    size_t places = (size - sizeof(lr_run)) / (sizeof(lr_move) + 1) / run->threads;
+    size_t places = (size - sizeof(lr_run)) / LR_MOVE_SIZE / run->threads;
     *room = places - 2;
     return places >= 2 && lr_size_of(run->threads, *room) == size;
 }

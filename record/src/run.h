@@ -30,6 +30,9 @@ typedef struct lr_move {
     uint64_t kind;
 } lr_move;
 
+/* A move takes its own bytes, one for its thread, and with EXPLORE one for a choice. */
+#define LR_MOVE_SIZE (sizeof(lr_move) + 1 + LR_EXPLORES)
+
 enum { LR_AT_PLACE = 8, LR_AT_PART = 16, LR_AT_OWNER = 24, LR_AT_FILE = 40, LR_AT_LINE = 48 };
 
 static inline unsigned lr_move_word(const lr_move *m) { return m->kind & 0xFF; }
@@ -137,6 +140,7 @@ typedef struct lr_run {
     pthread_cond_t changed;
     unsigned begun;
     int is_over;        /* nobody gets a turn any more */
+    int is_left;        /* threads were left behind, so its memory stays */
     int is_crashed;     /* the program ended before the run was saved */
     int lacks;          /* the errno of what the system refused, a thread or memory, or 0 */
     int watch;          /* by which the process that saves it then is told that all is well */
@@ -164,6 +168,8 @@ typedef struct lr_run {
     size_t way_length;
     lr_choice *choices;
     size_t chosen, choices_room;
+    unsigned char *made; /* the choices again, as far as there is room, where a crash leaves them */
+    size_t made_room;
     lr_footprint footprint; /* of the step that is made */
     lr_step *steps;
     size_t stepped, steps_room;

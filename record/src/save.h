@@ -79,9 +79,10 @@ static inline void lr_print_log(lr_text *text, const lr_log *log)
         lr_put(text, "# thread %u %s\n", log->thread, lr_end_of(log->run, log));
 }
 
-static inline void lr_print_moves(lr_text *text, const lr_run *run)
+/* The first moves of a run, which may still go on. */
+static inline void lr_print_moves(lr_text *text, const lr_run *run, size_t ordered)
 {
-    size_t next[LR_THREADS] = {0}, ordered = lr_count_of(run->ordered);
+    size_t next[LR_THREADS] = {0};
     lr_put(text, "\n");
     for (size_t turn = 0; turn < ordered; turn++) {
         unsigned t = run->order[turn];
@@ -90,19 +91,23 @@ static inline void lr_print_moves(lr_text *text, const lr_run *run)
     }
 }
 
-/* With EXPLORE: what was chosen, by which `lr_main` makes the same run again. */
+/* With EXPLORE: what was chosen, by which `lr_main` makes the same run again. A program that has
+   crashed took its choices along, and left them as bytes. */
 static inline void lr_print_way(lr_text *text, const lr_run *run)
 {
-    if (!LR_EXPLORES) return;
-    for (size_t i = 0; i < run->chosen; i++)
-        lr_put(text, "%s %u%s", i % 24 ? "" : "# way", (unsigned)run->choices[i].chosen,
-               i % 24 == 23 || i + 1 == run->chosen ? "\n" : "");
+    size_t count = run->chosen;
+    if (!LR_EXPLORES || (run->is_crashed && count > run->made_room)) return;
+    if (!count) lr_put(text, "%s", "# way\n");
+    for (size_t i = 0; i < count; i++)
+        lr_put(text, "%s %u%s", i % 24 ? "" : "# way",
+               (unsigned)(run->is_crashed ? run->made[i] : run->choices[i].chosen),
+               i % 24 == 23 || i + 1 == count ? "\n" : "");
 }
 
 /* Where each move of a short run was noted, by its line in the trace. */
-static inline void lr_print_places(lr_text *text, const lr_run *run)
+static inline void lr_print_places(lr_text *text, const lr_run *run, size_t ordered)
 {
-    size_t next[LR_THREADS] = {0}, ordered = lr_count_of(run->ordered);
+    size_t next[LR_THREADS] = {0};
     unsigned line = 2 + LR_SEEDED + (LR_START != 0);
     char at[LR_LINE];
     for (size_t turn = 0; turn < ordered && ordered <= LR_SHORT; turn++) {
@@ -112,25 +117,25 @@ static inline void lr_print_places(lr_text *text, const lr_run *run)
     }
 }
 
-/* The trace: its moves, and in comments how the run ended, where its moves were noted, and what
-   makes it again. A program that has crashed took the last two along. */
+/* The trace: its moves, and in comments how the run ended, what makes it again, and where its moves
+   were noted. A program that has crashed took the last along. */
 static inline void lr_print_trace(lr_text *text, const lr_run *run)
 {
+    size_t ordered = lr_count_of(run->ordered);
     lr_print_head(text, run);
-    lr_print_moves(text, run);
+    lr_print_moves(text, run, ordered);
     lr_put(text, "# turns %zu\n", run->turns);
     for (unsigned t = 0; t < run->threads; t++)
         lr_put(text, "# thread %u %s\n", t, lr_end_of(run, &run->logs[t]));
     if (run->is_cut) lr_put(text, "%s", "# cut where a log was full\n");
+    lr_print_way(text, run);
     if (run->is_crashed) lr_put(text, "%s", "# the program ended before its run was saved\n");
     if (run->said[0]) {
         lr_put(text, "# ");
         lr_put_bytes(text, run->said, strlen(run->said));
         lr_put(text, "\n");
     }
-    if (run->is_crashed) return;
-    lr_print_places(text, run);
-    lr_print_way(text, run);
+    if (!run->is_crashed) lr_print_places(text, run, ordered);
 }
 
 /* Writes a file of a directory by a function. It gets its name when it is whole: nothing is left of

@@ -56,17 +56,6 @@ static inline int lr_add_line(lr_run *run, const lr_line *line)
     return 0;
 }
 
-/* Reads a line as far as there is room for it: a comment may be longer. Returns 0 at the end. */
-static inline int lr_read_text(char *text, size_t room, FILE *file)
-{
-    size_t length = 0;
-    int byte;
-    while ((byte = getc(file)) != EOF && byte != '\n')
-        if (length + 1 < room) text[length++] = (char)byte;
-    text[length] = '\0';
-    return byte != EOF || length;
-}
-
 /* Reads a schedule into a run that has only its lock and its bits. Returns 0, or an errno. */
 static inline int lr_read_schedule(lr_run *run, FILE *file, const char *path)
 {

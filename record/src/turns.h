@@ -66,9 +66,10 @@ static inline void lr_hang(lr_run *run)
     run->hangs = 1;
 }
 
-/* Who is next, or LR_NOBODY. */
+/* Who is next, or LR_NOBODY. A thread that comes late finds that its run was given up. */
 static inline unsigned lr_next(lr_run *run, unsigned current)
 {
+    if (lr_count_of(run->is_over)) return LR_NOBODY;
     lr_end_step(run);
     lr_wake_for_nothing(run);
     uint64_t ready = run->inside & ~run->parked;
@@ -84,7 +85,7 @@ static inline unsigned lr_next(lr_run *run, unsigned current)
 static inline void lr_end_run(lr_run *run)
 {
     pthread_mutex_lock(&run->mutex);
-    run->is_over = 1;
+    lr_set_count(run->is_over, 1);
     pthread_cond_broadcast(&run->changed);
     pthread_mutex_unlock(&run->mutex);
 }

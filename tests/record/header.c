@@ -264,11 +264,9 @@ static void a_move_has_its_place(void)
     lr_close(run);
 }
 
-/* Two threads have had one record, which each of them takes for its own. A third one finds the
-   first of them. */
-static void a_record_of_two_threads_is_each_ones_own(void)
+/* Two threads have had one record, one after the other. All threads find the second one's. */
+static void a_record_is_of_the_last_thread_that_took_it(void)
 {
-    static const unsigned due[] = {0, 1, 0};
     lr_run *run = lr_open("mcs", 3, 64, 1, 0, NULL);
     int record = 0;
     lr_set_record(&run, sizeof run);
@@ -280,9 +278,9 @@ static void a_record_of_two_threads_is_each_ones_own(void)
         check("a record that grows", lr_pointer_at(lr_self, (uintptr_t)&record + 1) == t + 1);
     }
     for (unsigned t = 0; t < 3; t++) {
-        unsigned owner = t == due[t] ? (unsigned)LR_OWN : due[t];
+        unsigned owner = t == 1 ? (unsigned)LR_OWN : 1;
         lr_self = lr_log_of(run, t);
-        check("a pointer", lr_pointer_at(lr_self, (uintptr_t)&record) == due[t] + 1);
+        check("a pointer", lr_pointer_at(lr_self, (uintptr_t)&record) == 2);
         check("a record's word", lr_owner_at(LR_PLACE_next, (uintptr_t)&record) == owner);
         check("another word", lr_owner_at(LR_PLACE_tail, (uintptr_t)&record) == LR_OWN);
     }
@@ -335,7 +333,7 @@ int main(int count, char **words)
     notes_go_with_their_run();
     two_runs_have_two_numbers();
     a_move_has_its_place();
-    a_record_of_two_threads_is_each_ones_own();
+    a_record_is_of_the_last_thread_that_took_it();
     a_log_that_has_not_ended_says_so();
     what_cannot_be_opened_or_saved();
     return failed;

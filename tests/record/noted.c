@@ -1,7 +1,8 @@
 /* An MCS lock of atomics that note themselves. Each thread has its record on its stack; with
-   SIDE_BY_SIDE it has one in an array, and another one in each second round. With SWAP_OF_TWO the
-   swap of the tail is a load and a store; with NOBODYS no thread tells the recorder which record is
-   its own. C11; noted.cc is the same in C++. */
+   SIDE_BY_SIDE it has one in an array, and another one in each second round; with POOL it takes one
+   from a pool for each round. With SWAP_OF_TWO the swap of the tail is a load and a store; with
+   NOBODYS no thread tells the recorder which record is its own. C11; noted.cc is the same in C++.
+*/
 #include <sched.h>
 #include <stdatomic.h>
 #include <stddef.h>
@@ -12,6 +13,9 @@ typedef struct record {
     _Atomic(struct record *) next;
     _Atomic unsigned locked;
 } record;
+#ifdef POOL
+#include "pool.h"
+#endif
 
 static _Atomic(record *) tail;
 
@@ -49,13 +53,21 @@ static void release(record *own)
     lr_store(&next->locked, 0, LR_LOCKED);
 }
 
-static void reset(void) { tail = NULL; }
+static void reset(void)
+{
+    tail = NULL;
+#ifdef POOL
+    fill();
+#endif
+}
 
 static void one_round(unsigned thread, unsigned round)
 {
 #ifdef SIDE_BY_SIDE
     static record records[2][4];
     record *own = &records[round % 2][thread];
+#elif defined POOL
+    record *own = take();
 #else
     record on_the_stack = {NULL, 0}, *own = &on_the_stack;
 #endif
@@ -63,6 +75,10 @@ static void one_round(unsigned thread, unsigned round)
     acquire(own);
     LR_SWITCH();
     release(own);
+#ifdef POOL
+    give_back(own);
+    LR_SWITCH();
+#endif
 }
 
 int main(int count, char **words)

@@ -1,6 +1,7 @@
 /* An MCS lock of atomics that note themselves. Each thread has its record on its stack; with
-   SIDE_BY_SIDE it has one in an array, and another one in each second round. With SWAP_OF_TWO the
-   swap of the tail is a load and a store. C++14; noted.c is the same in C. */
+   SIDE_BY_SIDE it has one in an array, and another one in each second round; with POOL it takes one
+   from a pool for each round. With SWAP_OF_TWO the swap of the tail is a load and a store. C++14;
+   noted.c is the same in C. */
 #include <atomic>
 #include <type_traits>
 #include <utility>
@@ -34,6 +35,9 @@ struct record {
     lr::noted<record *, LR_NEXT> next{nullptr};
     lr::noted<bool, LR_LOCKED> locked{false};
 };
+#ifdef POOL
+#include "pool.h"
+#endif
 
 lr::noted<record *, LR_TAIL> tail{nullptr};
 
@@ -69,20 +73,32 @@ void release(record *own)
     next->locked.store(false);
 }
 
-void reset() { tail.store(nullptr); }
+void reset()
+{
+    tail.store(nullptr);
+#ifdef POOL
+    fill();
+#endif
+}
 
 void one_round(unsigned thread, unsigned round)
 {
 #ifdef SIDE_BY_SIDE
     static record records[2][4];
     record *own = &records[round % 2][thread];
+#elif defined POOL
+    record *own = take();
 #else
     record on_the_stack, *own = &on_the_stack;
-    (void)thread, (void)round;
 #endif
+    (void)thread, (void)round;
     acquire(own);
     LR_SWITCH();
     release(own);
+#ifdef POOL
+    give_back(own);
+    LR_SWITCH();
+#endif
 }
 
 } // namespace

@@ -201,6 +201,28 @@ def test_wrong_folder(built, mode, folder, said):
     assert done.returncode == 3
 
 
+# The thread goes on when its run was given up, and the check has asked for room for its moves.
+LATE = """#include <stdlib.h>
+#include <unistd.h>
+static volatile int is_given_up;
+static void *late(void *room) { is_given_up = 1; usleep(300000); return room; }
+#define calloc(count, size) late(calloc(count, size))
+"""
+
+
+def test_thread_that_goes_on_after_its_run_was_given_up(built, tmp_path):
+    """It makes at most the move that ends its turn, and the check has room for its moves."""
+    (tmp_path / "late.h").write_text(LATE)
+    program, logs = built("SEED", "while (!is_given_up) { usleep(1000); } "
+                          "for (int i = 0; i < 50; i++) { release(); acquire(); }", "-DLR_CHECK",
+                          "-D_GNU_SOURCE", "-fsanitize=address", "-include", tmp_path / "late.h")
+    done = ran(program, 2, 9, 1, logs, 1)
+    assert re.fullmatch(r"lockreplay_record: thread 1 \('read now_serving found \d+' at ticket\.h:"
+                        r"\d+\) has its turn and does not give it back: .*\n", done.stderr)
+    assert done.returncode == 1
+    assert (logs / "thread-1.log").read_text().count("\nacquire\n") == 4
+
+
 # Refuses to start the second thread.
 REFUSES = """#include <pthread.h>
 static int created;

@@ -185,6 +185,20 @@ def test_records_side_by_side(built, judge, tmp_path, compiler):
     assert judge.accepts([tmp_path / "run.trace"])
 
 
+@pytest.mark.parametrize("mode, words", [("VALUES", (4, 300, 1)), ("SEED", (3, 200, 5)),
+                                         ("EXPLORE", (3, 1, 1))])
+@pytest.mark.parametrize("compiler", ["gcc", "g++"])
+def test_records_of_a_pool(built, judge, tmp_path, compiler, mode, words):
+    """A record that goes from one thread to another is the second one's from then on."""
+    done = ran(built(compiler, "14" if "++" in compiler else "11", mode, "-DPOOL"), *words,
+               tmp_path)
+    assert (done.stderr, done.returncode) == ("", 0), done.stdout
+    if mode == "VALUES":
+        assert judge.order(tmp_path)[1] == 0
+    elif mode == "SEED":
+        assert judge.accepts([tmp_path / "run.trace"])
+
+
 def test_record_that_no_thread_has(built, tmp_path):
     """The message tells a lock to name the owner of each record, if it did not."""
     done = ran(built("gcc", "11", "EXPLORE", "-DNOBODYS"), 2, 1, 2, tmp_path)
