@@ -128,7 +128,8 @@ impl Recorder {
             }
             other => other,
         };
-        let added = self.tape.add(made, source);
+        let is_later = made.is_wait() && self.shared.turns.others_moved(self.thread);
+        let added = self.tape.add(made, source, is_later);
         self.shared.turns.touch(|step| step.note(self.thread, &made));
         self.shared.turns.noted(self.thread, Kind::of_move(&made), added);
     }
