@@ -58,8 +58,9 @@ impl RunBuilder {
 
     /// How many moves each log has room for; 65,536 if this is not said. A full log counts what it
     /// drops. A round of a ticket lock takes at most 6 moves, and two more for each thread before
-    /// it in the queue; of an MCS lock 15; of a read-write lock 11. With [`Mode::Follow`] each poll
-    /// of the schedule takes one.
+    /// it in the queue; of an MCS lock 15; of a read-write lock 11, and if the order of moves is
+    /// known, one more for each look while it waits that comes after another thread's move. With
+    /// [`Mode::Follow`] each poll of the schedule takes one.
     pub fn room(self, moves: usize) -> RunBuilder {
         RunBuilder { room: moves, ..self }
     }

@@ -83,8 +83,8 @@ impl Chooser {
     pub(crate) fn made(&mut self, thread: usize, kind: Kind, added: Added) {
         match (self, added) {
             (Chooser::Lines(following), _) => following.made(thread, kind),
-            (other, Added::Again | Added::Repeated) => other.took_effect(thread, Effect::Again),
-            (other, _) => other.took_effect(thread, Effect::Step),
+            (other, Added::Written | Added::Dropped) => other.took_effect(thread, Effect::Step),
+            (other, _) => other.took_effect(thread, Effect::Again),
         }
     }
 

@@ -16,6 +16,7 @@ use crate::footprint::Footprint;
 use crate::kind::Kind;
 use crate::moves::{Call, Move, Outcome, Step, Word};
 use crate::noise;
+use crate::records::Extent;
 use crate::run::Shared;
 use crate::tape::{Source, Tape};
 use crate::turns::Place;
@@ -56,6 +57,7 @@ pub(crate) struct Recorder {
     pub(crate) thread: usize,
     pub(crate) tape: Tape,
     pub(crate) noise: Option<Draw>,
+    record: Extent,
     /// How deep turns are nested.
     depth: usize,
     /// How many operations on atomics were made in the turn.
@@ -100,8 +102,23 @@ impl Recorder {
         tape: Tape,
         noise: Option<Draw>,
     ) -> Recorder {
-        let (depth, operations, monitors, in_call) = (0, 0, 0, false);
-        Recorder { shared, thread, tape, noise, depth, operations, monitors, in_call }
+        let (record, depth, operations) = (Extent::default(), 0, 0);
+        let (monitors, in_call) = (0, false);
+        Recorder { shared, thread, tape, noise, record, depth, operations, monitors, in_call }
+    }
+
+    /// Other threads look records up, and find another owner from now on.
+    fn own(&mut self, record: Extent) {
+        let was_anothers = self.shared.records.set(self.thread, record);
+        if was_anothers || self.record.is_left_for(&record) {
+            self.shared.turns.touch(Footprint::touch_all);
+        }
+        self.record = record;
+    }
+
+    /// The thread in whose record an address is.
+    fn owner_of(&self, address: usize) -> usize {
+        self.shared.records.owner_of(address, self.thread, &self.record)
     }
 
     fn note(&mut self, made: Move, source: Source) {
@@ -111,7 +128,8 @@ impl Recorder {
             }
             other => other,
         };
-        let added = self.tape.add(made, source);
+        let is_later = made.is_wait() && self.shared.turns.others_moved(self.thread);
+        let added = self.tape.add(made, source, is_later);
         self.shared.turns.touch(|step| step.note(self.thread, &made));
         self.shared.turns.noted(self.thread, Kind::of_move(&made), added);
     }
@@ -281,16 +299,13 @@ pub fn operation<R>(parts: impl FnOnce() -> R) -> R {
     parts()
 }
 
-/// Says that this MCS record is the thread's own from now on.
+/// Says that this MCS record is the thread's own from now on, and no other thread's.
 ///
 /// A pointer to it, or into it, then has the value thread + 1 in a trace, and its words are those
-/// of this thread. It may be on the stack, on the heap or in an array, and another at each call.
+/// of this thread. It may be on the stack, on the heap, in an array or from a pool, and another at
+/// each call.
 pub fn own_record<T: ?Sized>(record: &T) {
-    with(|recorder| {
-        if recorder.shared.records.set(recorder.thread, record) {
-            recorder.shared.turns.touch(Footprint::touch_all); // others look it up
-        }
-    });
+    with(|recorder| recorder.own(Extent::of(record)));
 }
 
 /// The sections of a monitor, counted by all threads together.
@@ -364,14 +379,14 @@ pub(crate) fn go_on() {
 
 /// The thread in whose record an address is, unless it is the own one.
 pub(crate) fn other_owner_of(address: usize) -> Option<usize> {
-    let owner = with(|recorder| {
-        let found = recorder.shared.records.owner_of(address, recorder.thread);
-        Some(found).filter(|&owner| owner != recorder.thread)
-    });
-    owner.flatten()
+    let found = with(|recorder| (recorder.owner_of(address), recorder.thread));
+    found.filter(|(owner, own)| owner != own).map(|(owner, _)| owner)
 }
 
-/// The value of a pointer in a trace.
+/// A pointer's value in a trace: 0 is nil, and j + 1 is the record of thread j.
 pub(crate) fn value_of(address: usize) -> u64 {
-    with(|recorder| recorder.shared.records.value_of(address, recorder.thread)).unwrap_or(0)
+    match address {
+        0 => 0,
+        _ => with(|recorder| recorder.owner_of(address) as u64 + 1).unwrap_or(0),
+    }
 }

@@ -180,11 +180,13 @@ impl Move {
             (Move::Step(step), Move::Step(before)) => {
                 step.operation == Operation::Read && step == before
             }
-            (Move::Section { outcome, .. }, Move::Section { outcome: before, .. }) => {
-                *outcome == Outcome::Waits && *before == Outcome::Waits
-            }
-            _ => false,
+            _ => self.is_wait() && last.is_wait(),
         }
+    }
+
+    /// Whether this is a section after which the thread waits.
+    pub(crate) fn is_wait(&self) -> bool {
+        matches!(self, Move::Section { outcome: Outcome::Waits, .. })
     }
 }
 

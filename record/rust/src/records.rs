@@ -9,53 +9,88 @@ use std::sync::atomic::{AtomicUsize, Ordering};
 /// thread of this number.
 pub(crate) const NOBODY: usize = 255;
 
-/// The record of each thread.
-#[derive(Debug)]
-pub(crate) struct Records(Vec<Extent>);
-
 /// The address and the length of a record. The address is 0 as long as there is none.
+#[derive(Clone, Copy, Debug, Default, PartialEq, Eq)]
+pub(crate) struct Extent {
+    first: usize,
+    length: usize,
+}
+
+impl Extent {
+    pub(crate) fn of<T: ?Sized>(record: &T) -> Extent {
+        let first = (record as *const T).cast::<u8>() as usize;
+        Extent { first, length: std::mem::size_of_val(record).max(1) }
+    }
+
+    pub(crate) fn has(&self, address: usize) -> bool {
+        self.first != 0 && address.wrapping_sub(self.first) < self.length
+    }
+
+    fn meets(&self, other: &Extent) -> bool {
+        self.has(other.first) || other.has(self.first)
+    }
+
+    /// Whether this is a record, and does not begin where the other one does.
+    pub(crate) fn is_left_for(&self, other: &Extent) -> bool {
+        self.first != 0 && self.first != other.first
+    }
+}
+
+/// The record of a thread, as other threads see it.
 #[derive(Debug, Default)]
-struct Extent {
+struct Place {
     first: AtomicUsize,
     length: AtomicUsize,
 }
 
-impl Extent {
-    fn has(&self, address: usize) -> bool {
+impl Place {
+    fn get(&self) -> Extent {
         let first = self.first.load(Ordering::Relaxed);
-        let length = self.length.load(Ordering::Relaxed);
-        first != 0 && address.wrapping_sub(first) < length
+        Extent { first, length: self.length.load(Ordering::Relaxed) }
+    }
+
+    fn set(&self, record: Extent) {
+        self.length.store(record.length, Ordering::Relaxed);
+        self.first.store(record.first, Ordering::Relaxed);
+    }
+
+    /// Gives the record up if it meets one that another thread takes. Its thread may be about to
+    /// set the next one, which then stays.
+    fn give_up(&self, taken: &Extent) -> bool {
+        let (before, relaxed) = (self.get(), Ordering::Relaxed);
+        before.meets(taken)
+            && self.first.compare_exchange(before.first, 0, relaxed, relaxed).is_ok()
     }
 }
 
+/// The record of each thread.
+#[derive(Debug)]
+pub(crate) struct Records(Vec<Place>);
+
 impl Records {
     pub(crate) fn of(threads: usize) -> Records {
-        Records((0..threads).map(|_| Extent::default()).collect())
+        Records((0..threads).map(|_| Place::default()).collect())
     }
 
-    /// Makes this the thread's record. Returns whether it had another one.
-    pub(crate) fn set<T: ?Sized>(&self, thread: usize, record: &T) -> bool {
-        let first = (record as *const T).cast::<u8>() as usize;
-        self.0.get(thread).map_or(false, |extent| {
-            let before = extent.first.load(Ordering::Relaxed);
-            extent.length.store(std::mem::size_of_val(record).max(1), Ordering::Relaxed);
-            extent.first.store(first, Ordering::Relaxed);
-            before != 0 && before != first
-        })
+    /// Makes this the thread's record, and no other thread's: that has freed it, or given it back
+    /// to a pool. Returns whether another thread had it.
+    pub(crate) fn set(&self, thread: usize, record: Extent) -> bool {
+        let own = match self.0.get(thread) {
+            Some(own) if own.get() != record => own,
+            _ => return false,
+        };
+        let others = self.0.iter().enumerate().filter(|(other, _)| *other != thread);
+        let was_anothers = others.fold(false, |was, (_, other)| other.give_up(&record) | was);
+        own.set(record);
+        was_anothers
     }
 
-    /// The thread in whose record an address is. The record of `own` is looked at first.
-    pub(crate) fn owner_of(&self, address: usize, own: usize) -> usize {
-        let is_own = self.0.get(own).map_or(false, |extent| extent.has(address));
-        let found = if is_own { Some(own) } else { self.0.iter().position(|e| e.has(address)) };
-        found.unwrap_or(NOBODY)
-    }
-
-    /// A pointer's value in a trace: 0 is nil, and j + 1 is the record of thread j.
-    pub(crate) fn value_of(&self, address: usize, own: usize) -> u64 {
-        match address {
-            0 => 0,
-            _ => self.owner_of(address, own) as u64 + 1,
+    /// The thread in whose record an address is. The one that looks has the record `own`, also if
+    /// another thread has taken it since.
+    pub(crate) fn owner_of(&self, address: usize, thread: usize, own: &Extent) -> usize {
+        if own.has(address) {
+            return thread;
         }
+        self.0.iter().position(|place| place.get().has(address)).unwrap_or(NOBODY)
     }
 }

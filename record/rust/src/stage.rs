@@ -53,6 +53,8 @@ pub(crate) struct Stage {
     /// address.
     looks: Vec<Option<usize>>,
     order: Vec<u8>,
+    /// How many moves were in the order after each thread's last one.
+    seen: Vec<usize>,
     pub(crate) is_cut: bool,
     /// No thread made progress, and no schedule gave the turns.
     has_hung: bool,
@@ -82,6 +84,7 @@ impl Stage {
             in_vain: 0,
             looks: vec![None; threads],
             order,
+            seen: vec![0; threads],
             is_cut: false,
             has_hung: false,
             last_notified: None,
@@ -172,16 +175,24 @@ impl Stage {
         self.is_patient()
     }
 
+    /// Whether other threads moved since the thread's last move.
+    pub(crate) fn others_moved(&self, thread: usize) -> bool {
+        self.seen.get(thread) != Some(&self.order.len())
+    }
+
     /// A move was made: it takes its place in the order, up to the first that was dropped.
     pub(crate) fn noted(&mut self, thread: usize, kind: Kind, added: Added) {
         match added {
-            Added::Written | Added::Repeated if !self.is_cut => {
-                self.order.extend(u8::try_from(thread));
-            }
             Added::Dropped => self.is_cut = true,
-            _ => {}
+            Added::Again => {}
+            _ if self.is_cut => {}
+            _ => self.order.extend(u8::try_from(thread)),
         }
-        self.in_vain = if added == Added::Again { self.in_vain + 1 } else { 0 };
+        if let Some(seen) = self.seen.get_mut(thread) {
+            *seen = self.order.len();
+        }
+        let is_again = matches!(added, Added::Again | Added::AgainLater);
+        self.in_vain = if is_again { self.in_vain + 1 } else { 0 };
         self.forget_looks(thread);
         self.chooser.made(thread, kind, added);
     }

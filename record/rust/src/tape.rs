@@ -39,6 +39,8 @@ pub(crate) enum Added {
     Repeated,
     /// It is a poll that was written often enough.
     Again,
+    /// It is such a poll, and is in the log, since the lock's state may be another one.
+    AgainLater,
     /// The log is full.
     Dropped,
 }
@@ -82,12 +84,15 @@ impl Tape {
         self.ended
     }
 
-    pub(crate) fn add(&mut self, made: Move, source: Source) -> Added {
+    /// Adds a move. `is_later` if other threads moved since the thread's last one: a section that
+    /// waits has no value, so then it may be wrong though it repeats the one before.
+    pub(crate) fn add(&mut self, made: Move, source: Source, is_later: bool) -> Added {
         let repeats = self.last.map_or(false, |last| made.repeats(&last));
         self.polls = if repeats { self.polls + 1 } else { 1 };
         self.last = Some(made);
-        if self.polls > self.polls_written {
-            self.polls = self.polls_written;
+        let is_again = self.polls > self.polls_written;
+        self.polls = self.polls.min(self.polls_written);
+        if is_again && !is_later {
             return Added::Again;
         }
         if self.moves.len() == self.room {
@@ -97,10 +102,10 @@ impl Tape {
         self.moves.push(made);
         self.sources.push(source);
         self.keep(|| format!("{made}\n"));
-        if repeats {
-            Added::Repeated
-        } else {
-            Added::Written
+        match (is_again, repeats) {
+            (true, _) => Added::AgainLater,
+            (false, true) => Added::Repeated,
+            (false, false) => Added::Written,
         }
     }
 

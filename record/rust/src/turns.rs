@@ -197,6 +197,11 @@ impl Turns {
         }
     }
 
+    /// Whether other threads moved since the thread's last move, as far as the order is known.
+    pub(crate) fn others_moved(&self, thread: usize) -> bool {
+        self.rule != Rule::AtOnce && self.stage().others_moved(thread)
+    }
+
     /// A move of the thread was noted. If the line has another move, the run ends there.
     pub(crate) fn noted(&self, thread: usize, kind: Kind, added: Added) {
         if self.rule == Rule::AtOnce {

@@ -187,6 +187,38 @@ fn a_record_of_two_threads_is_each_ones_own() -> Result<(), Error> {
     Ok(())
 }
 
+/// Thread 1 takes what thread 0 had, or a part of it, and thread 0 takes that again. Thread 2 finds
+/// it in between and afterwards.
+#[test]
+fn a_record_is_its_last_owners() -> Result<(), Error> {
+    let words = [0_u8; 4];
+    let tail = AtomicPtr::new(std::ptr::null_mut()).noted(Word::Tail);
+    let logs = std::env::temp_dir().join(format!("lockreplay-owners-{}", std::process::id()));
+    for mode in [Mode::Free, Mode::Ordered] {
+        for taken in [&words[..], &words[1..], &words[..3]] {
+            let (run, all) = (Run::of(Lock::Mcs, 3).mode(mode.clone()).open()?, Barrier::new(3));
+            run.threads(LIMIT, |log| {
+                for (owner, record) in [(0, &words[..]), (1, taken), (0, &words[..])] {
+                    all.wait();
+                    if log.thread() == owner {
+                        own_record(record);
+                    }
+                    all.wait();
+                    if log.thread() == 2 {
+                        tail.store(&words[2] as *const u8 as *mut u8, SeqCst);
+                    }
+                }
+            })?;
+            run.save(&logs)?;
+            let log = std::fs::read_to_string(logs.join("thread-2.log")).expect("it was saved");
+            let found = [1, 2, 1].map(|found| format!("write tail left {found}\n")).concat();
+            assert!(log.ends_with(&format!(" thread 2\n{found}dropped 0\n")), "{log}");
+        }
+    }
+    std::fs::remove_dir_all(logs).expect("nobody uses it");
+    Ok(())
+}
+
 /// A record may begin where a smaller one did, as a whole does with its first part.
 #[test]
 fn a_record_that_grows_has_its_new_end() -> Result<(), Error> {
