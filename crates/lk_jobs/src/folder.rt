@@ -1,5 +1,5 @@
 //! The files that a command leaves in a folder. A list there names them, so that the command's next
-//! run removes these, and neither touches another file nor follows a link.
+//! run removes these. It touches no other file but their drafts, `NAME.new`, and follows no link.
 
 ghost use Rattle.std.specs.Prelude.{◌≡◌, true};
 ghost use Rattle.std.specs.Char.{is_ascii_digit};

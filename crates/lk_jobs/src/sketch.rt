@@ -33,7 +33,7 @@ const REMARK: &str = "#!";
 const ROUNDS: &str = "#! rounds ";
 
 /// How rounds without a bound are written.
-pub const ANY: &str = "any";
+pub(crate) const ANY: &str = "any";
 
 // The line after which everything happens again and again.
 const AGAIN: &str = "again";
@@ -48,7 +48,7 @@ pub fn rounds_of(text: &[u8]) -> Option<Rounds> {
 
 /// A sketch of which some lines were read.
 #[derive(Drop)]
-pub struct Sketch {
+pub(crate) struct Sketch {
     /// The lock, if the header was read.
     pub header: Option<Shape>,
     /// How many rounds each thread has, if the sketch says it.
@@ -146,7 +146,7 @@ impl Sketch {
 }
 
 /// Writes why the input of this name cannot be read, or not to its end.
-pub fn put_unread(errors: &mut Text, alloc: Global, name: &str, error: &Error) -> Status
+pub(crate) fn put_unread(errors: &mut Text, alloc: Global, name: &str, error: &Error) -> Status
     ensures { result ≡ Status.Failed }
 {
     put_text(errors, name, &unread(alloc, error), PLAIN);
@@ -205,7 +205,7 @@ fn put_named(text: &mut Text, alloc: Global, place: (&str, u64), line: &[u8], fa
 }
 
 /// A sketch with its lock, or how the job ends without one.
-pub type Taken = Result<(Sketch, Shape), Status>;
+pub(crate) type Taken = Result<(Sketch, Shape), Status>;
 
 // A sketch that was read to its end.
 fn whole(sketch: Sketch, alloc: Global, place: (&str, u64), errors: &mut Text) -> Taken {
@@ -241,7 +241,11 @@ fn read_input<R: Read + Drop>(
 }
 
 /// Reads the sketch whose lines are words of a command.
-pub fn read_words(alloc: Global, words: &[String], errors: &mut Text) -> Result<Taken, AllocError> {
+pub(crate) fn read_words(
+    alloc: Global,
+    words: &[String],
+    errors: &mut Text,
+) -> Result<Taken, AllocError> {
     let (mut sketch, mut last) = (Sketch::new(alloc), "");
     for word in words {
         last = word.as_str();
@@ -258,7 +262,7 @@ pub fn read_words(alloc: Global, words: &[String], errors: &mut Text) -> Result<
 /// # Errors
 ///
 /// A request for memory was refused.
-pub fn read_sketch<R: Runtime>(
+pub(crate) fn read_sketch<R: Runtime>(
     rt: &R,
     alloc: Global,
     place: &Place,
