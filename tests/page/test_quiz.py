@@ -5,6 +5,7 @@ import re
 import pytest
 
 from reports import LESSONS, moves_of
+from tree import cases
 
 LESSON = "fifo-reader-waits-behind-writer"
 TRUTH = {"outcome": 2, "holders": 3, "queue": 4}
@@ -100,6 +101,44 @@ def test_what_the_slider_gives_away(page):
     assert page.js("question")["position"] == "0 of 15" and page.js(*entered) == 0
     page.press("q")
     assert page.js(*entered) == len(entering)
+
+
+def lessons(*shown):
+    """Shows lessons one after another, each at a move, with the quiz on from the first one on."""
+    def act(page):
+        (name, move), *others = shown
+        page.open(f"#lesson={name}&move={move}")
+        page.press("q")
+        for other in others:
+            page.lesson(*other)
+    return act
+
+
+def undone(page):
+    page.open("#lesson=mcs-late-link&move=8")
+    page.lesson("ticket-hand-over", 0)
+    page.press("q", "u")
+
+
+def branch(page):
+    page.open("#lesson=mcs-late-link&move=7")
+    page.press("g", "q")
+    page.js("choose", 0, "cas")
+
+
+@cases("act", {
+    "branch": branch, "undo": undone,
+    "lesson": lessons(("ticket-hand-over", 0), ("mcs-late-link", 8)),
+    "the same lesson": lessons(("mcs-late-link", 0), ("mcs-late-link", 8)),
+    "again": lessons(("mcs-late-link", 0), ("ticket-hand-over", 0), ("mcs-late-link", 8))})
+def test_a_move_that_was_shown_is_not_asked_for(page, act):
+    """What is shown at move 8 at once is left for move 7, and not for the move before the first
+    question."""
+    act(page)
+    assert page.shown()["place"] == 8
+    page.press("ArrowLeft")
+    assert page.shown()["place"] == 7
+    assert page.js("asked")["move"] > 8 or act is branch, "a branch has no further moves"
 
 
 def test_it_is_read_aloud(page):

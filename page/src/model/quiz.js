@@ -43,13 +43,18 @@ export class Quiz {
 
   clear() { this.result = null; }
 
-  // Before a run is asked for: its questions, made once, and what was answered of its schedule.
+  // Before a move is asked for: the questions of its run, made once, and what was answered of its
+  // schedule. Moves up to the one that is shown were seen.
   meet(session) {
-    if (this.run === session.run) return;
-    this.run = session.run;
-    this.questions = questionsOf(session.run);
-    const title = session.remarks.title || session.lesson || texts.untitled;
-    const key = String.fromCharCode(...session.held.subarray(0, 60000));
+    if (this.run !== session.run) this.take(session);
+    this.sheet.since = Math.max(this.sheet.since, session.place);
+  }
+
+  take({ run, remarks, lesson, held }) {
+    this.run = run;
+    this.questions = questionsOf(run);
+    const title = remarks.title || lesson || texts.untitled;
+    const key = String.fromCharCode(...held.subarray(0, 60000));
     if (!this.sheets.has(key)) this.sheets.set(key, { title, since: 0, answers: new Map() });
     this.sheet = this.sheets.get(key);
   }
