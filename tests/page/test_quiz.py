@@ -141,6 +141,28 @@ def test_a_move_that_was_shown_is_not_asked_for(page, act):
     assert page.js("asked")["move"] > 8 or act is branch, "a branch has no further moves"
 
 
+def test_the_next_question_of_the_lesson_is_open(page):
+    """Key A before an answer does not show the answer to the lesson's question on the next move."""
+    page.open("#lesson=ticket-hand-over&move=4")
+    page.press("q")
+    page.js("blur")
+    page.press("a")
+    assert page.js("question")["move"] == 5
+    page.js("answer", moves_of(LESSONS["ticket-hand-over"])[4][TRUTH["queue"]])
+    assert page.shown()["place"] == 5 and page.js("count", "#now .question") == 1
+    assert page.js("count", "#now .question details[open]") == 0
+
+
+def test_a_lesson_that_ends_with_an_answer(page):
+    """The list of lessons has a tick at a lesson whose last move was reached by an answer."""
+    page.open("#lesson=ticket-hand-over&move=9")
+    page.press("q")
+    page.js("answer", "entered")
+    assert page.shown()["place"] == 10
+    page.press("o")
+    assert page.text("#lessons [data-lesson=ticket-hand-over] .number") == "✓"
+
+
 def test_it_is_read_aloud(page):
     """A screen reader first hears whether the answer was right, then the move."""
     moves = moves_of(LESSONS[LESSON])
