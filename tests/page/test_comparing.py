@@ -129,6 +129,18 @@ def test_a_chosen_schedule(page, look):
     assert first.startswith("Compared with: The third is linked before the second"), first
 
 
+def test_a_lecture_after_a_comparison(page):
+    """A lecture shows no schedule that was compared before, and C lets one choose again."""
+    page.open("#lesson=mcs-record-used-again&move=5")
+    page.press("c")
+    page.click("#choose-other [data-other='0']")
+    page.press("n")
+    page.click("#plans [data-plan='mcs'][data-step='0']")
+    page.shown(lesson="mcs-record-used-again", place=5)
+    page.press("c")
+    assert page.js("offered")
+
+
 def test_a_first_move_that_differs(page):
     """Two lessons differ at move 1, which different threads make."""
     page.open("#lesson=ticket-hand-over&move=1")

@@ -68,6 +68,24 @@ def test_the_frame(page, look):
     assert "#lesson=mcs-late-link&amp;move=9&amp;embed&amp;show=memory,code" in frame, frame
 
 
+def test_the_frame_of_a_schedule_that_is_too_long_for_a_link(page):
+    """Another browser would not have it, so it is saved as a file instead, as for a link."""
+    text = "lock ticket threads 2\n0 acquire\n0 add\n1 acquire\n1 add\n" + "1 read\n" * 5000
+    page.open(LATE_LINK)
+    page.show(text)
+    page.js("closeDialog", "lessons")
+    assert page.js("copied", "frame") is None
+    assert page.text("#notice").startswith("This schedule is too long for a link.")
+    assert page.saved("schedule.txt", len(text)) == text.encode()
+
+
+def test_the_frame_after_a_damaged_link(page):
+    """The frame has the schedule that is shown, with its end."""
+    page.open("#schedule=bG9jayBtY3MgdGhyZWFkcyAyCjAgYWNxdWlyZQo")
+    frame = page.js("copied", "frame")
+    assert "#schedule=bG9jayBtY3MgdGhyZWFkcyAyCjAgYWNxdWlyZQo&amp;move=0&amp;embed" in frame, frame
+
+
 def test_tips_and_speeds(page):
     """Each control of the foot has a tooltip of its own, and keys choose the speed."""
     page.open("#lesson=mcs-late-link&move=0")

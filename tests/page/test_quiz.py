@@ -5,6 +5,7 @@ import re
 import pytest
 
 from reports import LESSONS, moves_of
+from tree import EXAMPLES, cases
 
 LESSON = "fifo-reader-waits-behind-writer"
 TRUTH = {"outcome": 2, "holders": 3, "queue": 4}
@@ -100,6 +101,109 @@ def test_what_the_slider_gives_away(page):
     assert page.js("question")["position"] == "0 of 15" and page.js(*entered) == 0
     page.press("q")
     assert page.js(*entered) == len(entering)
+
+
+def lessons(*shown):
+    """Shows lessons one after another, each at a move, with the quiz on from the first one on."""
+    def act(page):
+        (name, move), *others = shown
+        page.open(f"#lesson={name}&move={move}")
+        page.press("q")
+        for other in others:
+            page.lesson(*other)
+    return act
+
+
+def undone(page):
+    page.open("#lesson=mcs-late-link&move=8")
+    page.lesson("ticket-hand-over", 0)
+    page.press("q", "u")
+
+
+def branch(page):
+    page.open("#lesson=mcs-late-link&move=7")
+    page.press("g", "q")
+    page.js("choose", 0, "cas")
+
+
+@cases("act", {
+    "branch": branch, "undo": undone,
+    "lesson": lessons(("ticket-hand-over", 0), ("mcs-late-link", 8)),
+    "the same lesson": lessons(("mcs-late-link", 0), ("mcs-late-link", 8)),
+    "again": lessons(("mcs-late-link", 0), ("ticket-hand-over", 0), ("mcs-late-link", 8))})
+def test_a_move_that_was_shown_is_not_asked_for(page, act):
+    """What is shown at move 8 at once is left for move 7, and not for the move before the first
+    question."""
+    act(page)
+    assert page.shown()["place"] == 8
+    page.press("ArrowLeft")
+    assert page.shown()["place"] == 7
+    assert page.js("asked")["move"] > 8 or act is branch, "a branch has no further moves"
+
+
+def test_the_next_question_of_the_lesson_is_open(page):
+    """Key A before an answer does not show the answer to the lesson's question on the next move."""
+    page.open("#lesson=ticket-hand-over&move=4")
+    page.press("q")
+    page.js("blur")
+    page.press("a")
+    assert page.js("question")["move"] == 5
+    page.js("answer", moves_of(LESSONS["ticket-hand-over"])[4][TRUTH["queue"]])
+    assert page.shown()["place"] == 5 and page.js("count", "#now .question") == 1
+    assert page.js("count", "#now .question details[open]") == 0
+
+
+def test_a_lesson_that_ends_with_an_answer(page):
+    """The list of lessons has a tick at a lesson whose last move was reached by an answer."""
+    page.open("#lesson=ticket-hand-over&move=9")
+    page.press("q")
+    page.js("answer", "entered")
+    assert page.shown()["place"] == 10
+    page.press("o")
+    assert page.text("#lessons [data-lesson=ticket-hand-over] .number") == "✓"
+
+
+@pytest.mark.parametrize("name", ["Ed", "A", "R", "W", "E"])
+def test_a_name_within_an_outcome(page, name):
+    """The name of a thread may be a part of an outcome, as of moved, waits, entered or left."""
+    moves = moves_of(LESSONS[LESSON])
+    schedule = (EXAMPLES / f"{LESSON}.schedule").read_text("latin-1")
+    page.open(f"#lesson={LESSON}&move=0")
+    page.show(f"{schedule}#! name 0 {name}\n")
+    page.press("q")
+    answered = set()
+    while (shown := page.js("asked"))["move"]:
+        truth = moves[shown["move"] - 1][TRUTH[shown["kind"]]]
+        page.js("answer", truth)
+        answered.add(truth)
+        assert " 0 wrong)" in page.text("#now .score"), (shown, truth)
+    assert {"waits", "entered", "left"} <= answered, answered
+
+
+# Four readers enter, and the first leaves. After moves 4 and 10 it is asked who holds: both
+# readers, and then the other three.
+READERS = "lock rw-simple threads 4\n" + "".join(
+    f"{one} rlock\n{one} section\n" for one in range(4)) + "0 runlock\n0 section\n"
+
+
+@cases("names, answers, right", {
+    "numbers": (["R", "W"], ["r0,1", "r1,2,3"], 2),
+    "names": (["R", "W"], ["rR,W", "r w, 2, 3"], 2),
+    "signs": (["a+(", "[b]*"], ["r a+(, [B]*", "r[b]*,2,3"], 2),
+    "a name with a comma": (["Ann, too", "\\"], ["r Ann, too, \\", "r\\, 2,3"], 2),
+    "no letter": (["R", "W"], ["R,W", "w,2,3"], 0),
+    "another letter": (["R", "W"], ["w0,1", "wW,2,3"], 0),
+    "another name": (["A", "B"], ["rB,A", "rA,2,3"], 0)})
+def test_names_of_readers(page, names, answers, right):
+    """Before the numbers or names of readers is the letter r, which may be a name itself."""
+    page.open()
+    page.show("".join(f"#! name {at} {name}\n" for at, name in enumerate(names)) + READERS)
+    page.press("q")
+    for move, answer in zip([4, 10], answers):
+        shown = page.js("asked")
+        assert (shown["move"], shown["kind"]) == (move, "holders")
+        page.js("answer", answer)
+    assert f"({right} right, {2 - right} wrong)" in page.text("#now .score")
 
 
 def test_it_is_read_aloud(page):

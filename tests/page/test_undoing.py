@@ -75,6 +75,17 @@ def test_a_letter_in_the_text_is_no_undo(page):
     assert len(after) == len(before) + 1 and after.replace("u", "") == before.replace("u", "")
 
 
+def test_back_after_undo(page):
+    """Back leads to the lesson that was taken back, at its move."""
+    page.open("#lesson=mcs-late-link&move=3")
+    page.lesson("ticket-hand-over", 2)
+    page.press("u")
+    page.shown(lesson="mcs-late-link", place=3)
+    page.js("back")
+    page.until("addressBegins", "#lesson=ticket-hand-over")
+    page.shown(lesson="ticket-hand-over", place=2)
+
+
 def test_edits_are_one_change(page):
     """Undo takes back all letters of a typed text at once."""
     page.open("#lesson=ticket-hand-over&move=5")

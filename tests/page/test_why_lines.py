@@ -187,6 +187,22 @@ def test_a_run_is_played(page):
     page.shown(lesson="mcs-late-link", position="9 of 16")
 
 
+@cases("look", {
+    "another line": ["y", "ArrowRight"], "the last line": ["y", "End"],
+    "another lock": ["o", "[data-why=ticket]"]})
+def test_back_to_the_change_after_a_look_elsewhere(page, look):
+    """Y leads to the change that was played, whatever was looked at since."""
+    page.open(f"{LATE_LINK}9")
+    page.press("y")
+    page.click("[data-play='2']")
+    for act in look:
+        (page.click if act.startswith("[") else page.press)(act)
+    assert page.js("stop")["lines"] != [12]
+    page.press("Escape", "y")
+    assert page.js("stop")["lines"] == [12] and page.js("isAtPlayed", 2)
+    assert page.text("#why-title") == "Why each line is there: MCS queue lock"
+
+
 def test_a_run_that_the_lock_refuses(page):
     """A compare-and-swap that always succeeds lets a thread call again. The unchanged lock plays
     the run as far as that call, which it refuses."""

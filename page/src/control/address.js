@@ -123,17 +123,23 @@ export class Address {
     }
   }
 
-  copy() {
+  // Makes the address a link. If there is none, the schedule is saved. Whether there is one.
+  link() {
     const { page } = this;
     const fragment = fragmentOf(page.session);
-    if (!fragment) {
+    if (fragment) {
+      this.warn('');
+      this.write(fragment);
+    } else {
       page.editing.save();
-      return tell(T.tooLong);
+      tell(T.tooLong);
     }
-    this.warn('');
-    this.write(fragment);
+    return Boolean(fragment);
+  }
+
+  copy() {
     const mine = location.protocol === 'file:' ? T.fromDisk : '';
-    return toClipboard(location.href, `${T.copied} ${mine}`, `${T.inBar} ${mine}`);
+    if (this.link()) toClipboard(location.href, `${T.copied} ${mine}`, `${T.inBar} ${mine}`);
   }
 
   // Waits before it changes the address, since browsers allow few changes a second.

@@ -57,7 +57,7 @@ export class Comparing {
     const kinds = this.kinds();
     if (!kinds.length) return this.offer();
     this.kind = kinds[kinds.indexOf(this.kind) + 1] ?? null;
-    if (!this.kind) this.chosen = null;
+    if (!this.kind) this.end();
     return this.page.fit();
   }
 
@@ -76,10 +76,11 @@ export class Comparing {
 
   begin() { [this.kind = null] = this.kinds(); }
 
+  // The next time another schedule can be chosen.
+  end() { this.kind = this.chosen = null; }
+
   // Ends if there is nothing to compare with any more.
-  settle() {
-    if (this.isOn && !this.kinds().includes(this.kind)) this.kind = this.chosen = null;
-  }
+  settle() { if (this.isOn && !this.kinds().includes(this.kind)) this.end(); }
 
   // {session, at, columns, first, title} of what is compared, made once for a run.
   compared() {

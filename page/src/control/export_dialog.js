@@ -131,8 +131,7 @@ export function exportsOf(page) {
     report: () => saveAs(nameOf(session, 'report'), encoded(reportOf(session.run))),
     schedule: () => page.editing.save(),
     frame: () => {
-      address.flush();
-      toClipboard(frameOf(location.href), T.frameCopied, texts.own.notCopied);
+      if (address.link()) toClipboard(frameOf(location.href), T.frameCopied, texts.own.notCopied);
     },
   };
 }

@@ -63,7 +63,7 @@ export class Lecture {
     const { page, step: { lesson, move, show: parts, play, compare } } = this;
     Object.assign(looks, { hall: true, parts: partsOf(parts) });
     page.modes.set('lessons');
-    page.comparing.kind = null;
+    page.comparing.end();
     page.openLesson(lesson, move);
     page.goOnWith(play, compare);
   }

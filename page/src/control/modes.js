@@ -57,7 +57,7 @@ export class Modes {
     if (!given) return;
     quiz.check(session, given);
     session.go(session.place + 1);
-    this.page.fit();
+    this.page.show();
     byId('forward').focus();
   }
 }

@@ -153,7 +153,9 @@ export class Page {
 
   // A schedule that was shown before.
   restore(before) {
-    if (before.keptName !== this.address.keptName) this.address.leave(before.lesson);
+    const isAnother = before.keptName !== this.address.keptName
+      || before.lesson !== this.session.lesson;
+    if (isAnother) this.address.leave(before.lesson);
     this.address.keptName = before.keptName;
     this.session.restore(before);
     this.show();

@@ -25,8 +25,8 @@ class Why {
     this.at = 0;
     // The change whose run is shown move by move, and how many moves of it.
     this.stepped = { number: 0, count: 0 };
-    // The schedule that was opened here last, and the number of its change.
-    this.played = { text: null, number: 0 };
+    // The schedule that was opened here last, and where its change is.
+    this.played = { text: null, lock: 0, at: 0, number: 0 };
   }
 
   get lines() { return this.page.session.lines[this.lock]; }
@@ -57,9 +57,11 @@ class Why {
   }
 
   showPlayed() {
+    const { lock, at, number } = this.played;
+    Object.assign(this, { lock, at });
     this.show();
-    this.stepTo(this.played.number, 0);
-    const button = this.dialog.querySelector(`[data-play="${this.played.number}"]`);
+    this.stepTo(number, 0);
+    const button = this.dialog.querySelector(`[data-play="${number}"]`);
     button.closest('section').scrollIntoView();
     focusIn(button.parentElement, '[data-play]');
   }
@@ -95,9 +97,9 @@ class Why {
   }
 
   play(number) {
-    const change = this.changes[number];
+    const { lock, at } = this;
     this.dialog.close();
-    this.played = { text: scheduleOf(this.lock, change), number };
+    this.played = { text: scheduleOf(lock, this.changes[number]), lock, at, number };
     // The sentences on a move are then beside memory.
     if (looks.hall) looks.parts = ['memory', 'now'];
     this.page.open(this.played.text, null, 0);

@@ -43,13 +43,18 @@ export class Quiz {
 
   clear() { this.result = null; }
 
-  // Before a run is asked for: its questions, made once, and what was answered of its schedule.
+  // Before a move is asked for: the questions of its run, made once, and what was answered of its
+  // schedule. Moves up to the one that is shown were seen.
   meet(session) {
-    if (this.run === session.run) return;
-    this.run = session.run;
-    this.questions = questionsOf(session.run);
-    const title = session.remarks.title || session.lesson || texts.untitled;
-    const key = String.fromCharCode(...session.held.subarray(0, 60000));
+    if (this.run !== session.run) this.take(session);
+    this.sheet.since = Math.max(this.sheet.since, session.place);
+  }
+
+  take({ run, remarks, lesson, held }) {
+    this.run = run;
+    this.questions = questionsOf(run);
+    const title = remarks.title || lesson || texts.untitled;
+    const key = String.fromCharCode(...held.subarray(0, 60000));
     if (!this.sheets.has(key)) this.sheets.set(key, { title, since: 0, answers: new Map() });
     this.sheet = this.sheets.get(key);
   }
@@ -76,8 +81,9 @@ export class Quiz {
   }
 
   check(session, given) {
-    const { kind, move, truth } = this.question(session);
-    const right = normalised(given, session.names) === truth;
+    const question = this.question(session);
+    const { kind, move, truth } = question;
+    const right = isTrue(given, question, session.names);
     const said = moveText(session.run, move);
     this.result = { kind, move, truth, given, right, said };
     this.sheet.answers.set(move, this.result);
@@ -112,11 +118,12 @@ export class Quiz {
 export const answerText = ({ move, said, kind, given, truth, right }) => (
   `${move} ${said} ${kind}: ${given}${right ? '' : ` (${truth})`}`);
 
-// An answer as the report would write it: with a thread's number for its name. Longer names come
-// first, since one may be a part of another.
-function normalised(text, names) {
-  const longest = [...names.given].sort(([, one], [, other]) => other.length - one.length);
-  const given = longest.reduce((left, [thread, name]) => (
-    left.replaceAll(name.toLowerCase(), thread)), text.toLowerCase());
-  return given.replace(/\s+/g, '') || '-';
+const compact = (text) => text.toLowerCase().replace(/\s+/g, '');
+const escaped = (text) => text.replace(/[\\^$.*+?()[\]{}|]/g, '\\$&');
+
+// Whether an answer is what the report has, which may have a thread's name in place of its number.
+function isTrue(given, { kind, truth }, names) {
+  if (kind === 'outcome') return given === truth;
+  const named = (thread) => `(${thread}|${escaped(compact(names.of(Number(thread))))})`;
+  return new RegExp(`^${truth.replace(/\d+/g, named)}$`).test(compact(given));
 }
