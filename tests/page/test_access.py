@@ -77,6 +77,15 @@ def test_everything_has_a_name(page):
         assert part in spoken
 
 
+def test_what_has_a_name_has_a_role(page):
+    """At the start too, where a sign says that a lesson was read to its end."""
+    page.open("#lesson=mcs-late-link&move=16")
+    assert page.js("plainWithName") == []
+    page.press("o")
+    assert page.js("attribute", "#lessons .number span", "aria-label") == "done"
+    assert page.js("plainWithName") == []
+
+
 @pytest.mark.parametrize("width, height", [(720, 450), (640, 360), (512, 384)])
 def test_at_two_hundred_per_cent(page, width, height):
     """At 200 % a screen has half of its pixels. A reader only scrolls down to reach all parts."""

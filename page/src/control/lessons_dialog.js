@@ -35,7 +35,7 @@ function lessonButton({ name, title, learn, moves, minutes }, number, current) {
   const isDone = doneLessons().has(name);
   return html`<li><button type="button" data-lesson="${name}"
     ${name === current && html`aria-current="true"`}><span class="number">${
-  isDone ? html`<span title="${T.done}" aria-label="${T.done}">✓</span>` : number}</span>
+  isDone ? html`<span role="img" title="${T.done}" aria-label="${T.done}">✓</span>` : number}</span>
     <span><b>${title}</b>${learn && html`<span class="learn">${learn}</span>`}
     <span class="soft">${learn ? T.size(moves, minutes) : name}</span></span></button></li>`;
 }
