@@ -64,6 +64,15 @@ def test_the_names_of_the_foot(page):
         assert page.shown()["place"] == place, name
 
 
+def test_the_button_that_plays(page):
+    """Its name says what a press does, so it is not read as pressed too."""
+    page.open("#lesson=mcs-late-link&move=0")
+    for name in ["Play the moves one after another", "Pause", "Play the moves one after another"]:
+        assert [page.js("attribute", "#run", one) for one in ["aria-label", "aria-pressed"]] == [
+            name, None]
+        page.press("Space")
+
+
 def test_everything_has_a_name(page):
     """Each control, part and picture has a name, and a screen reader hears each move."""
     page.open(LATE_LINK)

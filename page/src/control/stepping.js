@@ -162,6 +162,7 @@ export class Stepping {
     const label = this.timer ? texts.tools.pause : texts.tools.run;
     button.setAttribute('aria-label', label);
     button.title = label;
-    button.setAttribute('aria-pressed', String(Boolean(this.timer)));
+    // The label says what a press does, so the button is not read as pressed too.
+    button.classList.toggle('strong', Boolean(this.timer));
   }
 }
