@@ -1,5 +1,5 @@
-// The FIFO read-write lock: what is said of its sections, and its memory: both counts of readers,
-// on a wheel if words are narrow, the flag, who is inside, and who is at the monitor.
+// The FIFO read-write lock's memory: both counts of readers, on a wheel if words are narrow, the
+// flag, who is inside, and who is at the monitor.
 
 import { html } from '../lib/markup.js';
 import { wordNamed, wordNames } from '../machine/word_names.js';

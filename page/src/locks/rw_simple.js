@@ -1,5 +1,5 @@
-// The simple read-write lock: what is said of its sections, and its memory: the count of readers,
-// the writer's flag, who is inside, and who is at the monitor.
+// The simple read-write lock's memory: the count of readers, the writer's flag, who is inside, and
+// who is at the monitor.
 
 import { html } from '../lib/markup.js';
 import { wordNamed, wordNames } from '../machine/word_names.js';

@@ -1,5 +1,5 @@
-// The ticket lock: what is said of its steps, and its memory: both counters, on a wheel if words
-// are narrow, and who has which ticket.
+// The ticket lock's memory: both counters, on a wheel if words are narrow, and who has which
+// ticket.
 
 import { folding } from '../lib/folding.js';
 import { html } from '../lib/markup.js';
