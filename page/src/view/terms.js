@@ -59,7 +59,7 @@ export function listenForTerms() {
     const target = targetOf(event);
     if (/^(Enter| )$/.test(event.key) && target.matches('.term')) showMeaning(target);
     // It is all that Escape closes, but in a dialog, which closes with it.
-    if (event.key !== 'Escape' || !tip.checkVisibility() || tip.closest('dialog')) return;
+    if (event.key !== 'Escape' || !tip.getClientRects().length || tip.closest('dialog')) return;
     event.stopImmediatePropagation();
     tip.hidden = true;
   });
