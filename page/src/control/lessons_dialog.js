@@ -24,7 +24,7 @@ const KEPT_AT_ONCE = 12;
 
 // Lessons with what one learns in them, how many moves they have and how long they take.
 /** @param {Run} run */
-export function described(lesson, run) {
+function described(lesson, run) {
   const { title, learn, ask } = remarksOf(lesson.text);
   const seconds = PACE.move * run.last + PACE.question * ask.size;
   const minutes = Math.max(1, Math.round(seconds / 60));

@@ -14,7 +14,6 @@ import {
   BOX_EDGES, enteredNow, movingMark, movingThread, picture, standingIn, standingOf, useOf, wordBox,
 } from './shapes.js';
 
-/** @typedef {import('../view/layout.js').Layout} Layout */
 /** @typedef {import('../machine/machine.js').AnyState} State */
 /** @typedef {import('../model/session.js').View} View */
 
