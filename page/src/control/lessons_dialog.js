@@ -3,13 +3,13 @@
 
 import { byId, closesBeside, dataOf, dialogOf, focusIn } from '../lib/elements.js';
 import { html, show } from '../lib/markup.js';
-import { language, LANGUAGE_NAMES } from '../texts/language.js';
 import { texts } from '../texts/texts.js';
 import { doneLessons } from '../model/done_lessons.js';
 import { MOST_KEPT } from '../model/kept_schedules.js';
 import { remarksOf } from '../model/remarks.js';
 import { LOCKS } from '../locks/locks.js';
 import { withTerms } from '../view/terms.js';
+import { languageButtons } from './about_dialog.js';
 import { LiveCards } from './live_cards.js';
 
 /** @typedef {import('../model/run.js').Run} Run */
@@ -79,16 +79,12 @@ function refusedView(lessons, current) {
     <div>${groups}</div></details>`;
 }
 
-const languages = () => html`<p class="languages">${Object.entries(LANGUAGE_NAMES)
-  .map(([name, own]) => html`<button type="button" data-lang="${name}" lang="${name}"
-  aria-pressed="${name === language}">${own}</button>`)}</p>`;
-
 function startView(lessons, current, kept, isStored) {
   const cards = LOCKS.map((lock) => (
     cardView(lock, lessons.filter(({ group }) => group === lock.name), current)));
-  return html`<p class="what">${T.what.map((one) => html`${withTerms(one)} `)}</p>${languages()}
-    ${keptView(kept)}<div class="cards">${cards}</div>${waysView(isStored)}
-    ${refusedView(lessons, current)}`;
+  return html`<p class="what">${T.what.map((one) => html`${withTerms(one)} `)}</p>
+    <p class="languages">${languageButtons()}</p>${keptView(kept)}<div class="cards">${cards}</div>
+    ${waysView(isStored)}${refusedView(lessons, current)}`;
 }
 
 // At once, so that its pictures are none of the page's.

@@ -41,5 +41,7 @@ import { ticket } from './ticket.js';
 export const LOCKS = [ticket, mcs, rwSimple, rwFifo];
 // end
 
+export const lockTitle = (wanted) => LOCKS.find(({ name }) => name === wanted).title;
+
 /** @param {Run} run */
 export const lockOf = (run) => LOCKS[run.kind];

@@ -2,7 +2,7 @@
 // who is at the monitor.
 
 import { html } from '../lib/markup.js';
-import { wordNamed, wordNames } from '../machine/word_names.js';
+import { heldIn, wordNamed, wordNames } from '../machine/word_names.js';
 import { translated } from '../texts/language.js';
 import {
   monitor, monitorEnd, readersCaption, readWrite, room, roomHeight, sectionMark,
@@ -19,8 +19,7 @@ const T = translated('rwSimple', {
 const NAME = 'rw-simple';
 const READERS = 'readers';
 const FLAG = 'flag';
-/** @param {State} state */
-const held = (state, name) => state.word(wordNamed(NAME, name));
+const held = heldIn(NAME);
 
 const BESIDE = 600;
 
