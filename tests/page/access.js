@@ -31,6 +31,10 @@ function nameless() {
   return [...parts.filter((one) => !isNamed(one)), ...pictures].map((one) => one.outerHTML);
 }
 
+// Elements with a name and without a role, whose name a screen reader need not read.
+const plainWithName = () => all(':is(div, span, p, ul, ol, li, dl)[aria-label]:not([role])')
+  .map((one) => one.outerHTML);
+
 // Scrolls down to a part, and tells where it is.
 function reached(id) {
   byId(id).scrollIntoView();

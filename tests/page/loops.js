@@ -2,7 +2,6 @@
 
 const said = () => texts('#now .loop-said, #current .loop-said');
 const at = () => [port.state().place, ...said()];
-const isRunning = () => attribute('#run', 'aria-pressed') === 'true';
 const isSaid = (part) => said().some((one) => one.includes(part));
 
 // How many arrows back and heads of arrows there are, and the moves before which there is a line.

@@ -96,6 +96,7 @@ const address = () => location.hash;
 const addressBegins = (part) => location.hash.startsWith(part);
 const addressEnds = (part) => location.hash.endsWith(part);
 const focused = () => document.activeElement.id || document.activeElement.tagName.toLowerCase();
+const isRunning = () => attribute('#run', 'aria-label') === 'Pause';
 const isMenu = () => document.body.classList.contains('menu');
 const theme = () => document.documentElement.dataset.theme ?? '';
 

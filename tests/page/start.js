@@ -18,6 +18,7 @@ const ways = () => all('[data-way]').map((one) => one.dataset.way);
 const chosen = () => document.activeElement.dataset.lesson ?? null;
 const ticked = () => all('#lessons [data-lesson]').filter((one) => one.textContent.includes('✓'))
   .map((one) => one.dataset.lesson);
+const inHall = () => document.body.classList.contains('hall');
 const topOf = (selector) => rect(document.querySelector(selector)).top;
 
 // The explanation of a term in a part, and whether all of it is on the screen with nothing over it.
@@ -31,6 +32,13 @@ function explained(part, term) {
   const above = document.elementFromPoint((left + right) / 2, (top + bottom) / 2);
   box.style.pointerEvents = '';
   return [!box.hidden && box.textContent, inside(rect(box), screen) && above === box];
+}
+
+// The term that the explanation describes, with its role; null without one.
+function describedTerm() {
+  const [one, ...others] = all('[aria-describedby=tip-box]');
+  if (others.length || !one || byId('tip-box').hidden) return null;
+  return [one.textContent, one.getAttribute('role')];
 }
 
 // In a window that ends just below a term: whether its explanation is above it.

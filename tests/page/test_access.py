@@ -64,6 +64,15 @@ def test_the_names_of_the_foot(page):
         assert page.shown()["place"] == place, name
 
 
+def test_the_button_that_plays(page):
+    """Its name says what a press does, so it is not read as pressed too."""
+    page.open("#lesson=mcs-late-link&move=0")
+    for name in ["Play the moves one after another", "Pause", "Play the moves one after another"]:
+        assert [page.js("attribute", "#run", one) for one in ["aria-label", "aria-pressed"]] == [
+            name, None]
+        page.press("Space")
+
+
 def test_everything_has_a_name(page):
     """Each control, part and picture has a name, and a screen reader hears each move."""
     page.open(LATE_LINK)
@@ -75,6 +84,15 @@ def test_everything_has_a_name(page):
     for part in ["Move 9 of 16", "Ann", "compare-and-swap fails", "Holds: Ann", "Queue: Ann, Bob",
                  "Question:"]:
         assert part in spoken
+
+
+def test_what_has_a_name_has_a_role(page):
+    """At the start too, where a sign says that a lesson was read to its end."""
+    page.open("#lesson=mcs-late-link&move=16")
+    assert page.js("plainWithName") == []
+    page.press("o")
+    assert page.js("attribute", "#lessons .number span", "aria-label") == "done"
+    assert page.js("plainWithName") == []
 
 
 @pytest.mark.parametrize("width, height", [(720, 450), (640, 360), (512, 384)])

@@ -47,7 +47,7 @@ def test_a_dialog_opens_and_closes(page, key, button, dialog, focused):
         page.becomes("body", "focused")
         assert page.shown() == before, way
         page.press("ArrowRight", "ArrowLeft", "Space")
-        assert page.js("attribute", "#run", "aria-pressed") == "true", way
+        assert page.js("isRunning"), way
         page.press("Space")
         page.go(5)
 

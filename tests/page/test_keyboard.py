@@ -46,15 +46,14 @@ def test_zoom(page):
 def test_running(page):
     """Play stops at the next question."""
     page.open(f"{LATE_LINK}6")
-    runs = ("attribute", "#run", "aria-pressed")
     page.press("Space")
-    page.becomes("true", *runs)
-    page.becomes("false", *runs)
+    page.becomes(True, "isRunning")
+    page.becomes(False, "isRunning")
     page.shown(position="7 of 16")
     page.press("Space")
-    page.becomes("true", *runs)
+    page.becomes(True, "isRunning")
     page.press("Space")
-    page.becomes("false", *runs)
+    page.becomes(False, "isRunning")
     page.press("Space")
     page.shown(position="8 of 16")
 
@@ -68,9 +67,9 @@ def test_what_stops_the_moves(page, stops):
     page.open(f"{LATE_LINK}0")
     page.lesson("mcs-record-used-again")
     page.press(",", "Space")
-    assert page.js("attribute", "#run", "aria-pressed") == "true"
+    assert page.js("isRunning")
     stops(page)
-    assert page.js("attribute", "#run", "aria-pressed") == "false"
+    assert not page.js("isRunning")
 
 
 def test_running_from_the_end(page):

@@ -59,6 +59,25 @@ def test_round_after_round(page):
     assert page.js("at") == [0]
 
 
+def test_the_next_move_of_a_thread(page):
+    """After a thread's last move comes the first of its moves that repeat: of the writer move 2,
+    and of the reader its one poll, move 4."""
+    page.open()
+    page.show(STARVES, 6)
+    page.press("]")
+    assert page.js("at") == [2, REPEATS.format(2)]
+    page.press("]", "]", "]")
+    assert page.js("at") == [6, REPEATS.format(2) + NEXT]
+    page.press("ArrowLeft", "ArrowLeft", "]")
+    assert page.js("at") == [4, REPEATS.format(3)]
+    page.js("focus", "#lanes")
+    page.press("ArrowDown", "Enter")
+    assert page.js("at") == [4, REPEATS.format(4)], "the reader's lane"
+    page.show(ENDS, 4)
+    page.press("]")
+    assert page.js("at") == [4]
+
+
 def test_it_plays_by_itself(page):
     """The moves go on one after another until the reader stops them."""
     page.open()

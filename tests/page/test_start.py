@@ -172,6 +172,32 @@ def test_terms_are_explained(page):
         assert said and meaning in said and is_seen, (term, said)
 
 
+def test_who_reads_a_term_aloud(page):
+    """A term is a button that its explanation describes, as long as that is shown."""
+    page.open("#lesson=ticket-hand-over&move=6")
+    for term, word in [("holder", "Holds"), ("queue", "Queue")]:
+        page.js("explained", "#now", term)
+        assert page.js("describedTerm") == [word, "button"]
+    page.js("focus", "#forward")
+    assert page.js("describedTerm") is None and page.js("count", "[aria-describedby]") == 0
+
+
+def test_keys_of_a_term(page):
+    """In a hall Escape first closes the explanation, and then leaves. Space and Enter show it
+    again."""
+    page.open("#lesson=ticket-hand-over&move=6&hall&show=now,code")
+    page.js("explained", "main", "holder")
+    for key in ["Space", "Enter"]:
+        page.press("Escape")
+        assert page.js("describedTerm") is None
+        page.press(key)
+        assert page.js("describedTerm") == ["Holds", "button"] and not page.js("isRunning")
+    page.press("Escape")
+    assert page.js("inHall")
+    page.press("Escape")
+    assert not page.js("inHall")
+
+
 def test_which_term_a_word_is(page):
     """A word is marked if it is a term of the glossary or a form of one, the longest term first,
     and not if it is a part of another word."""

@@ -10,6 +10,10 @@ import { LOCKS } from '../locks/locks.js';
 const codeView = (lines) => html`${LOCKS.map(({ title }, lock) => html`<h3>${title}</h3>
   <pre class="mono">${lines[lock].map(({ code }) => `${code}\n`)}</pre>`)}`;
 
+export const languageButtons = () => html`${Object.entries(LANGUAGE_NAMES)
+  .map(([name, own]) => html`<button type="button" data-lang="${name}" lang="${name}"
+    aria-pressed="${name === language}">${own}</button> `)}`;
+
 export function aboutDialog(page) {
   const dialog = dialogOf('about');
   closesBeside(dialog);
@@ -22,12 +26,10 @@ export function aboutDialog(page) {
   });
   return () => {
     const { proved, documents, source, licence, browsers, language: label } = texts.about;
-    const names = Object.entries(LANGUAGE_NAMES).map(([name, own]) => html`<button type="button"
-      data-lang="${name}" lang="${name}" aria-pressed="${name === language}">${own}</button> `);
     show(byId('about-text'), html`<p>${proved}</p>
       <details><summary>${documents.LOCKS}</summary>${codeView(page.session.lines)}</details>
       <p><button type="button" data-plans="true">${documents.GUIDE}</button></p>
-      <p>${source}</p><p>${licence}</p><p>${browsers}</p><p>${label} ${names}</p>`);
+      <p>${source}</p><p>${licence}</p><p>${browsers}</p><p>${label} ${languageButtons()}</p>`);
     dialog.showModal();
   };
 }

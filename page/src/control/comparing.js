@@ -6,15 +6,13 @@ import { texts } from '../texts/texts.js';
 import { commonMoves, firstDifference, otherLock } from '../model/compare_runs.js';
 import { looks } from '../model/looks.js';
 import { onOtherLock } from '../model/other_lock.js';
-import { LOCKS } from '../locks/locks.js';
+import { lockTitle } from '../locks/locks.js';
 import { tell } from '../view/notice.js';
 import { compareDialog, othersOf } from './compare_dialog.js';
 
 /** @typedef {import('../model/run.js').Run} Run */
 
 const T = texts.compare;
-
-const titleOfLock = (name) => LOCKS.find((lock) => lock.name === name).title;
 
 // The column of each move of the other run, from move 0 on: the move here after which it is made.
 /** @param {Run} run */
@@ -98,7 +96,7 @@ export class Comparing {
       const there = onOtherLock(session.machine, run, this.made.session?.run);
       session.open(there.run.text, null, 0, there.run);
       at = (move) => there.at[Math.min(move, run.count)];
-      title = titleOfLock(otherLock(run));
+      title = lockTitle(otherLock(run));
     }
     const first = firstDifference(run, session.run, at);
     const columns = columnsOf(run, at);

@@ -76,7 +76,7 @@ function sayCut(page) {
 }
 
 // The state for a paper: drawn for a moment where it is not seen.
-export function tikzPicture(page) {
+function tikzPicture(page) {
   const box = document.createElement('div');
   box.className = 'unseen';
   box.innerHTML = pictureOf(page).text;
@@ -88,7 +88,7 @@ export function tikzPicture(page) {
 
 export const stripOf = (page) => stripPicture(page, ...stretchNow(page));
 
-export async function animatedOf(page) {
+async function animatedOf(page) {
   const [from, to] = stretchNow(page);
   const pictures = Array.from({ length: to - from + 1 }, (_, at) => (
     statePicture(page, wantedNow(), from + at)));
@@ -101,11 +101,11 @@ export async function animatedOf(page) {
   return animated(frames, SHOWN.each, SHOWN.last);
 }
 
-export const pictureOf = (page) => statePicture(page, wantedNow());
+const pictureOf = (page) => statePicture(page, wantedNow());
 // The state as the bytes of a picture.
-export const pngOf = (page) => png(pictureOf(page));
+const pngOf = (page) => png(pictureOf(page));
 
-export function frameOf(address) {
+function frameOf(address) {
   const source = withoutLooks(address).replaceAll('&', '&amp;').replaceAll('"', '&quot;');
   return `<iframe src="${source}&amp;embed&amp;show=memory,code" width="${FRAME.width}" `
     + `height="${FRAME.height}"></iframe>`;
@@ -117,7 +117,7 @@ function saveMoves(page, ending, bytes, type) {
 }
 
 // The action of each export.
-export function exportsOf(page) {
+function exportsOf(page) {
   const { session, address } = page;
   return {
     svg: () => saveAs(nameOf(session, 'svg'), encoded(pictureOf(page).text), 'image/svg+xml'),

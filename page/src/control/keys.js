@@ -44,7 +44,7 @@ function isTheirs(key, target) {
   if (target.closest(IN_FIELDS)) return true;
   if (target.matches('input[type=radio]')) return /^Arrow| $/.test(key);
   if (target.matches('input[type=checkbox]')) return key === ' ';
-  return key === ' ' && target.closest('button, summary') !== null;
+  return key === ' ' && target.closest('button, summary, [role=button]') !== null;
 }
 
 export function listenForKeys(page) {

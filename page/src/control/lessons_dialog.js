@@ -3,13 +3,13 @@
 
 import { byId, closesBeside, dataOf, dialogOf, focusIn } from '../lib/elements.js';
 import { html, show } from '../lib/markup.js';
-import { language, LANGUAGE_NAMES } from '../texts/language.js';
 import { texts } from '../texts/texts.js';
 import { doneLessons } from '../model/done_lessons.js';
 import { MOST_KEPT } from '../model/kept_schedules.js';
 import { remarksOf } from '../model/remarks.js';
 import { LOCKS } from '../locks/locks.js';
 import { withTerms } from '../view/terms.js';
+import { languageButtons } from './about_dialog.js';
 import { LiveCards } from './live_cards.js';
 
 /** @typedef {import('../model/run.js').Run} Run */
@@ -24,7 +24,7 @@ const KEPT_AT_ONCE = 12;
 
 // Lessons with what one learns in them, how many moves they have and how long they take.
 /** @param {Run} run */
-export function described(lesson, run) {
+function described(lesson, run) {
   const { title, learn, ask } = remarksOf(lesson.text);
   const seconds = PACE.move * run.last + PACE.question * ask.size;
   const minutes = Math.max(1, Math.round(seconds / 60));
@@ -35,7 +35,7 @@ function lessonButton({ name, title, learn, moves, minutes }, number, current) {
   const isDone = doneLessons().has(name);
   return html`<li><button type="button" data-lesson="${name}"
     ${name === current && html`aria-current="true"`}><span class="number">${
-  isDone ? html`<span title="${T.done}" aria-label="${T.done}">✓</span>` : number}</span>
+  isDone ? html`<span role="img" title="${T.done}" aria-label="${T.done}">✓</span>` : number}</span>
     <span><b>${title}</b>${learn && html`<span class="learn">${learn}</span>`}
     <span class="soft">${learn ? T.size(moves, minutes) : name}</span></span></button></li>`;
 }
@@ -79,16 +79,12 @@ function refusedView(lessons, current) {
     <div>${groups}</div></details>`;
 }
 
-const languages = () => html`<p class="languages">${Object.entries(LANGUAGE_NAMES)
-  .map(([name, own]) => html`<button type="button" data-lang="${name}" lang="${name}"
-  aria-pressed="${name === language}">${own}</button>`)}</p>`;
-
 function startView(lessons, current, kept, isStored) {
   const cards = LOCKS.map((lock) => (
     cardView(lock, lessons.filter(({ group }) => group === lock.name), current)));
-  return html`<p class="what">${T.what.map((one) => html`${withTerms(one)} `)}</p>${languages()}
-    ${keptView(kept)}<div class="cards">${cards}</div>${waysView(isStored)}
-    ${refusedView(lessons, current)}`;
+  return html`<p class="what">${T.what.map((one) => html`${withTerms(one)} `)}</p>
+    <p class="languages">${languageButtons()}</p>${keptView(kept)}<div class="cards">${cards}</div>
+    ${waysView(isStored)}${refusedView(lessons, current)}`;
 }
 
 // At once, so that its pictures are none of the page's.

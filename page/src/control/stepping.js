@@ -75,8 +75,21 @@ export class Stepping {
   sameThread(way) {
     const { run, move } = this.page.session;
     if (!move) return this.step(Math.max(0, way));
-    const moves = run.movesOf.get(run.records.thread(move));
-    return this.page.go(moves[moves.indexOf(move) + way] ?? move);
+    const thread = run.records.thread(move);
+    if (way > 0) return this.nextOf(thread);
+    const moves = run.movesOf.get(thread);
+    return this.page.go(moves[moves.indexOf(move) - 1] ?? move);
+  }
+
+  // The next move of a thread; after its last one its first of those that repeat.
+  nextOf(thread) {
+    const { session } = this.page;
+    const { run, place, loop } = session;
+    const moves = run.movesOf.get(thread) ?? [];
+    const next = moves.find((move) => move > place);
+    const again = !next && loop && moves.find((move) => move >= loop.first);
+    if (again) session.repeat();
+    if (next || again) this.page.go(next || again);
   }
 
   // Another lane is chosen, by one up or down.
@@ -91,11 +104,7 @@ export class Stepping {
   }
 
   // The next move of the lane that is chosen.
-  laneMove() {
-    const { session: { run, place }, lane } = this.page;
-    const next = run.movesOf.get(lane)?.find((move) => move > place);
-    if (next) this.page.go(next);
-  }
+  laneMove() { this.nextOf(this.page.lane); }
 
   nextQuestion() {
     const { remarks, move, run } = this.page.session;
@@ -153,6 +162,7 @@ export class Stepping {
     const label = this.timer ? texts.tools.pause : texts.tools.run;
     button.setAttribute('aria-label', label);
     button.title = label;
-    button.setAttribute('aria-pressed', String(Boolean(this.timer)));
+    // The label says what a press does, so the button is not read as pressed too.
+    button.classList.toggle('strong', Boolean(this.timer));
   }
 }

@@ -10,34 +10,6 @@ const CRC = new Uint32Array(256).map((_, byte) => {
 
 const crcOf = (bytes) => ~bytes.reduce((crc, byte) => CRC[(crc ^ byte) & 255] ^ (crc >>> 8), -1);
 
-function chunk(type, ...parts) {
-  const length = parts.reduce((sum, part) => sum + part.length, 0);
-  const bytes = new Uint8Array(length + 12);
-  const view = new DataView(bytes.buffer);
-  view.setUint32(0, length);
-  bytes.set([...type].map((letter) => letter.charCodeAt(0)), 4);
-  let at = 8;
-  for (const part of parts) {
-    bytes.set(part, at);
-    at += part.length;
-  }
-  view.setUint32(at, crcOf(bytes.subarray(4, at)));
-  return bytes;
-}
-
-// {type, data} of each chunk of a PNG.
-function chunksOf(png) {
-  const view = new DataView(png.buffer, png.byteOffset, png.byteLength);
-  const found = [];
-  for (let at = SIGNATURE; at < png.length;) {
-    const length = view.getUint32(at);
-    const type = String.fromCharCode(...png.subarray(at + 4, at + 8));
-    found.push({ type, data: png.subarray(at + 8, at + 8 + length) });
-    at += length + 12;
-  }
-  return found;
-}
-
 // Numbers of four bytes, as PNG has them.
 function words(...numbers) {
   const bytes = new Uint8Array(4 * numbers.length);
@@ -55,6 +27,24 @@ const joined = (parts) => {
   }
   return bytes;
 };
+
+function chunk(type, ...parts) {
+  const checked = joined([new TextEncoder().encode(type), ...parts]);
+  return joined([words(checked.length - type.length), checked, words(crcOf(checked))]);
+}
+
+// {type, data} of each chunk of a PNG.
+function chunksOf(png) {
+  const view = new DataView(png.buffer, png.byteOffset, png.byteLength);
+  const found = [];
+  for (let at = SIGNATURE; at < png.length;) {
+    const length = view.getUint32(at);
+    const type = String.fromCharCode(...png.subarray(at + 4, at + 8));
+    found.push({ type, data: png.subarray(at + 8, at + 8 + length) });
+    at += length + 12;
+  }
+  return found;
+}
 
 // Each frame is shown for `milliseconds`, and the last one for `last`.
 export function animated(pngs, milliseconds, last) {

@@ -20,13 +20,16 @@ export function beginsWith(bytes, text) {
   return whole && length <= bytes.length && agree(text, bytes, length);
 }
 
-export function toBase64(bytes) {
+// A letter for each byte. A call takes only so many values.
+function byteLetters(bytes) {
   let letters = '';
   for (let at = 0; at < bytes.length; at += 8192) {
     letters += String.fromCharCode(...bytes.subarray(at, at + 8192));
   }
-  return btoa(letters);
+  return letters;
 }
+
+export const toBase64 = (bytes) => btoa(byteLetters(bytes));
 
 export function fromBase64(text) {
   return Uint8Array.from(atob(text), (letter) => letter.charCodeAt(0));
@@ -50,11 +53,7 @@ export function lettersOf(bytes) {
   try {
     return { letters: decoder.decode(bytes), plain: false };
   } catch {
-    let letters = '';
-    for (let at = 0; at < bytes.length; at += 8192) {
-      letters += String.fromCharCode(...bytes.subarray(at, at + 8192));
-    }
-    return { letters, plain: true };
+    return { letters: byteLetters(bytes), plain: true };
   }
 }
 

@@ -1,6 +1,5 @@
-// The MCS lock: what is said of its steps, and its memory: the tail, and the threads' records in
-// the order of the queue that the machine names. A link is drawn if the word says so; one that
-// is missing is drawn as missing.
+// The MCS lock's memory: the tail, and the threads' records in the order of the queue that the
+// machine names. A link is drawn if the word says so; one that is missing is drawn as missing.
 
 import { folding } from '../lib/folding.js';
 import { html } from '../lib/markup.js';
@@ -15,7 +14,6 @@ import {
   BOX_EDGES, enteredNow, movingMark, movingThread, picture, standingIn, standingOf, useOf, wordBox,
 } from './shapes.js';
 
-/** @typedef {import('../view/layout.js').Layout} Layout */
 /** @typedef {import('../machine/machine.js').AnyState} State */
 /** @typedef {import('../model/session.js').View} View */
 

@@ -18,7 +18,7 @@ const BY_HEADER = { NoSuchThread: 3, WrongLock: 1 };
 
 // The line of code whose step the thread has to make next; null between calls.
 /** @param {State} state */
-export function dueLine(lines, state, thread) {
+function dueLine(lines, state, thread) {
   const due = state.dueStep(thread);
   if (!due) return null;
   const step = MOVES[due];

@@ -1,8 +1,8 @@
-// The FIFO read-write lock: what is said of its sections, and its memory: both counts of readers,
-// on a wheel if words are narrow, the flag, who is inside, and who is at the monitor.
+// The FIFO read-write lock's memory: both counts of readers, on a wheel if words are narrow, the
+// flag, who is inside, and who is at the monitor.
 
 import { html } from '../lib/markup.js';
-import { wordNamed, wordNames } from '../machine/word_names.js';
+import { heldIn, wordNamed, wordNames } from '../machine/word_names.js';
 import { translated } from '../texts/language.js';
 import { say } from '../texts/texts.js';
 import {
@@ -24,8 +24,7 @@ const NAME = 'rw-fifo';
 const ACQUIRES = 'readAcquires';
 const RELEASES = 'readReleases';
 const FLAG = 'flag';
-/** @param {State} state */
-const held = (state, name) => state.word(wordNamed(NAME, name));
+const held = heldIn(NAME);
 
 // What the hands are: beside the words, so that a picture on a phone is low, or below the wheel if
 // the picture is narrow.

@@ -1,8 +1,8 @@
-// The simple read-write lock: what is said of its sections, and its memory: the count of readers,
-// the writer's flag, who is inside, and who is at the monitor.
+// The simple read-write lock's memory: the count of readers, the writer's flag, who is inside, and
+// who is at the monitor.
 
 import { html } from '../lib/markup.js';
-import { wordNamed, wordNames } from '../machine/word_names.js';
+import { heldIn, wordNamed, wordNames } from '../machine/word_names.js';
 import { translated } from '../texts/language.js';
 import {
   monitor, monitorEnd, readersCaption, readWrite, room, roomHeight, sectionMark,
@@ -19,8 +19,7 @@ const T = translated('rwSimple', {
 const NAME = 'rw-simple';
 const READERS = 'readers';
 const FLAG = 'flag';
-/** @param {State} state */
-const held = (state, name) => state.word(wordNamed(NAME, name));
+const held = heldIn(NAME);
 
 const BESIDE = 600;
 

@@ -97,13 +97,12 @@ const writes = (records, move) => WRITING.includes(MOVES[records.action(move)]);
 
 /**
  * A picture as wide as the view. Its label, as its caption, may be what a question asks for.
- * @param {import('../model/session.js').View} view
+ * @param {View} view
  * @param {number} height
  * @param {string} caption
  * @param {import('../lib/markup.js').Markup} body
  * @returns {Picture}
  */
-/** @param {View} view */
 export function picture(view, height, caption, body) {
   const { width, scale } = view;
   const label = isCovered(view, 'memory') ? texts.view.parts.memory : caption;

@@ -1,10 +1,10 @@
-// The ticket lock: what is said of its steps, and its memory: both counters, on a wheel if words
-// are narrow, and who has which ticket.
+// The ticket lock's memory: both counters, on a wheel if words are narrow, and who has which
+// ticket.
 
 import { folding } from '../lib/folding.js';
 import { html } from '../lib/markup.js';
 import { PHASES } from '../machine/codes.js';
-import { wordNamed, wordNames } from '../machine/word_names.js';
+import { heldIn, wordNamed, wordNames } from '../machine/word_names.js';
 import { isCovered } from '../model/remarks.js';
 import { translated } from '../texts/language.js';
 import { say, texts } from '../texts/texts.js';
@@ -37,8 +37,7 @@ const CELL = 74;
 const CELL_ROW = 92;
 
 const wordName = (word) => wordNames(NAME)[word];
-/** @param {State} state */
-const held = (state, name) => state.word(wordNamed(NAME, name));
+const held = heldIn(NAME);
 const valueText = (_, value) => String(value);
 
 // The threads that have a ticket, in the order of the queue that the machine names.

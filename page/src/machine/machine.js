@@ -131,7 +131,6 @@ export class State {
   get threads() { return this.number(20); }
   get bits() { return this.number(24); }
   get played() { return this.number(28); }
-  get moves() { return this.number(32); }
   get wordCount() { return this.number(36); }
   get holderKind() { return this.number(40); }
   get holders() { return [...this.bytes.subarray(64, 64 + this.number(44))]; }

@@ -7,3 +7,6 @@ export const learnWords = (named) => Object.assign(tables, named);
 
 export const wordNames = (lock) => tables[lock];
 export const wordNamed = (lock, name) => tables[lock].indexOf(name);
+
+// What a word of a lock holds in a state, by its name.
+export const heldIn = (lock) => (state, name) => state.word(wordNamed(lock, name));

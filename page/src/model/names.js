@@ -11,6 +11,10 @@ export class Names {
 
   has(thread) { return this.given.has(thread); }
   of(thread) { return this.given.get(thread) ?? texts.thread(thread); }
+  // Of a thread with a name also its number.
+  numbered(thread) {
+    return this.has(thread) ? `${this.of(thread)} (${thread})` : this.of(thread);
+  }
   // For a small mark: the number, or a name's first letter if no other name begins with it.
   mark(thread) {
     const name = this.given.get(thread);

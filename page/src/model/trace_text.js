@@ -46,7 +46,7 @@ const numberOf = (digits) => (digits === undefined ? undefined : BigInt(digits))
  * @param {string} line
  * @returns {Said | null}
  */
-export function saidIn(line) {
+function saidIn(line) {
   const groups = (line.match(STEP) ?? line.match(SECTION))?.groups;
   if (!groups) return null;
   const { move, place, result, outcome } = groups;

@@ -161,7 +161,7 @@ export const german = {
     },
     marks: {
       fails: 'scheitert', done: 'getan', unlinked: 'in der Schlange, nicht verknüpft',
-      holds: 'hält', reads: 'liest', writes: 'schreibt', queue: 'Schlange',
+      reads: 'liest', writes: 'schreibt',
     },
     standing: {
       holds: 'hält', reads: 'liest', writes: 'schreibt', queue: 'Schlange', call: 'ruft',
@@ -265,7 +265,7 @@ export const german = {
       hint: 'Wähle, wer den nächsten Zug macht. Die Maschine spielt, was du wählst.',
       branch: (move) => `Was du hier wählst, ist der nächste Zug nach Zug ${move}.`,
       every: 'Jeder Zug, auch die, die abgelehnt werden',
-      undo: 'Rückgängig', next: 'nächster', may: 'darf aufrufen',
+      undo: 'Rückgängig',
       nextKinds: 'Was als Nächstes geschehen kann',
       inMoves: (count) => (count === 1 ? 'in 1 Zug' : `in ${count} Zügen`),
       nextKindsCut: 'Was weiter weg ist, wurde nicht gesucht.',
@@ -348,8 +348,7 @@ export const german = {
     },
     keys: germanKeys, loops: germanLoops, traces: germanTraces, why: germanWhy,
     faults: {
-      found: 'Gefunden: „{found}“.', could: 'Erwartet: {could}.',
-      meant: 'War „{meant}“ gemeint?',
+      could: 'Erwartet: {could}.', meant: 'War „{meant}“ gemeint?',
       returns: 'Die Zeile endet mit einem Wagenrücklauf (CR). Zeilen enden nur mit Zeilenvorschub.',
       blankEnd: 'Am Ende der Zeile ist ein Leerzeichen.',
       blankStart: 'Am Anfang der Zeile ist ein Leerzeichen.',

@@ -1,6 +1,6 @@
 // The language of the page: what the address asks for with `&lang=`, else what the browser wants,
 // else English. The English sentences are beside what says them, or the module gives them; another
-// language is one file.
+// language is a file of them, and one of the glossary's terms.
 
 import { german } from './german.js';
 import { germanTerms } from './german_terms.js';

@@ -142,7 +142,7 @@ const english = {
   },
   marks: {
     fails: 'fails', done: 'done', unlinked: 'in the queue, not linked',
-    holds: 'holds', reads: 'reads', writes: 'writes', queue: 'queue',
+    reads: 'reads', writes: 'writes',
   },
 
   standing: {
@@ -235,8 +235,6 @@ const english = {
     branch: (move) => `A choice here is the next move after move ${move}.`,
     every: 'Every move, also those that are refused',
     undo: 'Undo',
-    next: 'next',
-    may: 'may call',
     newLock: 'New schedule',
     nextKinds: 'What can happen next',
     inMoves: (count) => (count === 1 ? 'in 1 move' : `in ${count} moves`),
@@ -327,7 +325,6 @@ const english = {
   },
 
   faults: {
-    found: 'Found: “{found}”.',
     could: 'Expected: {could}.',
     meant: 'Did you mean “{meant}”?',
     returns: 'The line ends with a carriage return (CR). Lines end with a line feed alone.',

@@ -32,7 +32,7 @@ const LOW = { wide: { height: 800, share: 0.26 }, medium: { height: 600, share: 
 const LANES_LEAST = 100;
 const LANES_LOW = 82;
 
-export function zoomNow() {
+function zoomNow() {
   if (looks.hall) return innerHeight * HALL.share / HALL.smallest;
   return innerWidth >= PROJECTOR.width && innerHeight >= PROJECTOR.height ? PROJECTOR.zoom : 1;
 }

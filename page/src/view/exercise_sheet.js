@@ -14,11 +14,8 @@ const T = texts.print;
 const ROOM = 460;
 const PICTURES = 2;
 
-const threadName = (names, thread) => (names.has(thread)
-  ? `${names.of(thread)} (${thread})` : names.of(thread));
-
 function row({ run: { records }, names }, move) {
-  const cells = [move, threadName(names, records.thread(move)),
+  const cells = [move, names.numbered(records.thread(move)),
     html`<code>${MOVES[records.action(move)]}</code>`, '', '', ''];
   return html`<tr>${cells.map((cell) => html`<td>${cell}</td>`)}</tr>`;
 }

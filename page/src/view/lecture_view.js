@@ -3,7 +3,7 @@
 import { byId } from '../lib/elements.js';
 import { html, show, write } from '../lib/markup.js';
 import { texts } from '../texts/texts.js';
-import { titleOf } from './lesson_plans.js';
+import { lockTitle } from '../locks/locks.js';
 
 const T = texts.plans;
 
@@ -12,7 +12,7 @@ export function drawLecture({ isOn, plan, at, step, following, clock }) {
     show(byId('lecture'), html``);
     return;
   }
-  show(byId('lecture'), html`<span title="${titleOf(plan)}">${
+  show(byId('lecture'), html`<span title="${lockTitle(plan.lock)}">${
   T.step(at + 1, plan.steps.length)}</span> <span>${T.minutes(step.from, step.to)}</span>
     <b id="lecture-clock" title="${T.left}">${clock}</b>
     <button type="button" data-lecture="back" aria-label="${T.back}">‹</button>

@@ -4,11 +4,10 @@ import { html } from '../lib/markup.js';
 import { translatedPlan } from '../texts/language.js';
 import { texts } from '../texts/texts.js';
 import { remarksOf } from '../model/remarks.js';
-import { LOCKS } from '../locks/locks.js';
+import { lockTitle } from '../locks/locks.js';
 
 const T = texts.plans;
 
-export const titleOf = ({ lock }) => LOCKS.find(({ name }) => name === lock).title;
 export const minutesOf = ({ steps }) => steps[steps.length - 1].to;
 
 // Each step with the minute in which it begins, its lesson's title, and what it asks: that of its
@@ -31,7 +30,7 @@ const stepView = (plan, { from, to, title, move, say, ask }, at) => html`<li><bu
   data-plan="${plan.lock}" data-step="${at}"><span class="minutes">${T.minutes(from, to)}</span>
   <b>${T.place(title, move)}</b> <span>${say} ${ask}</span></button></li>`;
 
-const planView = (plan) => html`<section><h3>${titleOf(plan)}</h3><p>${plan.aim}</p>
+const planView = (plan) => html`<section><h3>${lockTitle(plan.lock)}</h3><p>${plan.aim}</p>
   <ol>${plan.steps.map((step, at) => stepView(plan, step, at))}</ol>
   <p>${T.homework} ${plan.homework.ask}
   <button type="button" data-sheet="${plan.homework.lesson}">${T.sheet}</button></p></section>`;

@@ -61,9 +61,6 @@ function figure(view, lines) {
 const short = (text) => (text.length <= LONGEST ? text
   : html`${text.slice(0, LONGEST - 8).replace(/,[^,]*$/, '')},… (${text.split(',').length})`);
 
-const threadName = (names, thread) => (names.has(thread)
-  ? `${names.of(thread)} (${thread})` : names.of(thread));
-
 /** @param {View} view */
 function answers(view, move) {
   const state = view.run.state(move);
@@ -76,7 +73,7 @@ function row(view, move) {
   const { run, names } = view;
   const source = sourceView(run.sourceOf(move));
   const cells = [
-    move, threadName(names, run.records.thread(move)),
+    move, names.numbered(run.records.thread(move)),
     html`<code>${doneText(run, move)}</code>${source && html` ${source}`}`, ...answers(view, move),
   ];
   return html`<tr>${cells.map((cell) => html`<td>${cell}</td>`)}</tr>`;

@@ -1,6 +1,6 @@
 // Terms of art, each explained where one points at it, in the words of docs/GLOSSARY.md.
 
-import { byId } from '../lib/elements.js';
+import { byId, targetOf } from '../lib/elements.js';
 import { html, write } from '../lib/markup.js';
 
 // Other forms of a term.
@@ -22,7 +22,7 @@ export function learnTerms(given) {
 
 const termOf = (text) => FORMS[text.toLowerCase()] ?? text.toLowerCase();
 
-const termView = (text) => html`<span class="term" tabindex="0" data-term="${
+const termView = (text) => html`<span class="term" role="button" tabindex="0" data-term="${
   termOf(text)}">${text}</span>`;
 
 // The text with its terms marked.
@@ -35,7 +35,9 @@ function showMeaning(target) {
   const tip = byId('tip-box');
   const term = target.closest?.('.term');
   tip.hidden = !term;
+  document.querySelector(`[aria-describedby="${tip.id}"]`)?.removeAttribute('aria-describedby');
   if (!term) return;
+  term.setAttribute('aria-describedby', tip.id);
   // A dialog is above everything but what is in it.
   (term.closest('dialog') ?? document.body).append(tip);
   write(tip, meanings[term.dataset.term]);
@@ -52,4 +54,13 @@ export function listenForTerms() {
   for (const event of ['pointerover', 'focusin', 'click']) {
     addEventListener(event, ({ target }) => showMeaning(target));
   }
+  addEventListener('keydown', (event) => {
+    const tip = byId('tip-box');
+    const target = targetOf(event);
+    if (/^(Enter| )$/.test(event.key) && target.matches('.term')) showMeaning(target);
+    // It is all that Escape closes, but in a dialog, which closes with it.
+    if (event.key !== 'Escape' || !tip.getClientRects().length || tip.closest('dialog')) return;
+    event.stopImmediatePropagation();
+    tip.hidden = true;
+  });
 }
