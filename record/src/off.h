@@ -1,9 +1,12 @@
 /* OFF: the functions of a run do nothing, so that a driver is the same in each mode. */
 
+#include <errno.h>
+#include <limits.h>
 #include <stddef.h>
 #include <stdint.h>
 #include <stdio.h>
 #include <stdlib.h>
+#include <string.h>
 #include <pthread.h>
 
 typedef struct lr_run {
