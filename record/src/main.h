@@ -9,8 +9,8 @@
    THREADS, ROUNDS, RUNS (1,000,000) and SECONDS are at least 1. With one thread at a time a run is
    checked if the program can do it. SECONDS (60) is the longest time without a move. Status: 0 all
    is well; 1 a run is refused or hangs, or a schedule was not followed; 2 usage; 3 the system
-   refused memory, a thread or a file, a log was full, or a file is no schedule of this lock, or no
-   trace of a run that can be made again. */
+   refused memory, a thread or a file, a log was full, there is no schedule or a file is none of this
+   lock, or it is no trace of a run that can be made again. */
 
 /* The room of a log, in moves a round. */
 enum { LR_ROUND = 128 };
@@ -106,7 +106,6 @@ static inline int lr_main(const lr_driver *driver, int count, char **words)
         return 2;
     }
     int fault = lr_calls(driver, words[1], words[2], &called);
-    if (fault) lr_say("%s: %s", words[1], strerror(fault));
     printf("%u schedules of %zu moves, %u not followed\n", called.schedules, called.moves,
            called.refused);
     fflush(stdout);
