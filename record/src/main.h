@@ -1,7 +1,8 @@
 /* The main function of a program that tests a lock: `return lr_main(&driver, count, words);`
 
        PROGRAM THREADS ROUNDS PREEMPTIONS FOLDER [RUNS]    EXPLORE, at most so many runs
-       PROGRAM THREADS ROUNDS again TRACE                  EXPLORE: makes a saved run again
+       PROGRAM THREADS ROUNDS again TRACE                  EXPLORE: makes a saved run again, also
+                                                           one that crashed
        PROGRAM THREADS ROUNDS SEED FOLDER [SECONDS]        SEED, VALUES, OFF
        PROGRAM recover FOLDER                              VALUES: `lr_recover(FOLDER)`
        PROGRAM SCHEDULES FOLDER                            FOLLOW: the schedules of a folder
