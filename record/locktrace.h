@@ -1,7 +1,8 @@
 /* locktrace.h: the check of a trace (docs/FORMATS.md) from C, C++ and whatever calls C.
    SPDX-License-Identifier: Apache-2.0 OR MIT
 
-   Link with liblk_trace_c.a. No call allocates memory; the text and the records are the caller's.
+   Link with liblk_trace_c.a, whose calls allocate no memory, or compile locktrace.c, which keeps as
+   much as its longest text needed. The text and the records are the caller's.
    A text is opened once, which checks all of it, and then stepped through, a call for each move
    that was made:
 
@@ -64,6 +65,9 @@ enum {
     /* clang-format on */
     /* end */
 };
+
+/* Faults of locktrace.c alone: more moves than it checks, and memory that the system refused. */
+enum { LT_TOO_LONG = 21, LT_NO_MEMORY = 22 };
 
 /* A move that was made. `word` is its word's number in docs/LOCKS.md (mcs: 0 tail, 1 + 2j next of
    j, 2 + 2j locked of j). A call or a section has LT_NO_WORD, and 0 in `found` and `left`. */

@@ -1,4 +1,4 @@
-/* lr::atomic<T>: a std::atomic<T> with a point before each operation. C++17 and C++20.
+/* lr::atomic<T>: a std::atomic<T> with a point before each operation. C++14 and later.
 
    C++20's `wait` is not there: a thread that blocks does not give its turn back. */
 

@@ -62,15 +62,24 @@ static inline int lr_is_beside(lr_run *run, size_t ordered, const struct lt_step
     return 0;
 }
 
+static inline void lr_tell_no_check(lr_run *run)
+{
+    run->lacks = ENOMEM;
+    lr_tell(run->said, "no memory for the check");
+}
+
 /* Appends to what is said why a run is refused. Returns 1 if it is, else 0. */
 static inline int lr_check_steps(lr_run *run, size_t ordered, const lr_text *text,
                                  struct lt_step *steps, int was_stopped)
 {
     struct lt_answer answer;
     char why[LR_SAID];
-    if (!lr_compile_record_locktrace_c_too(text, steps, ordered + 1, &answer, why))
-        return lr_is_beside(run, ordered, steps, was_stopped);
-    lr_tell_fault(run, ordered, &answer, steps, why);
+    uint32_t fault = lr_compile_record_locktrace_c_too(text, steps, ordered + 1, &answer, why);
+    if (!fault) return lr_is_beside(run, ordered, steps, was_stopped);
+    if (fault == LT_NO_MEMORY)
+        lr_tell_no_check(run);
+    else
+        lr_tell_fault(run, ordered, &answer, steps, why);
     return 1;
 }
 
@@ -89,8 +98,7 @@ static inline int lr_check(lr_run *run)
     lr_print_moves(&text, run, ordered);
     run->said[0] = '\0';
     if (text.no_memory || !steps) {
-        run->lacks = ENOMEM;
-        lr_tell(run->said, "no memory for the check");
+        lr_tell_no_check(run);
     } else {
         is_wrong = lr_check_steps(run, ordered, &text, steps, ended_by[0] != 0);
     }

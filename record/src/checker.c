@@ -1,12 +1,12 @@
 /* lt_check by the machine above: it plays the schedule of a trace, and this compares what each move
    touched with what the trace says of it. A machine plays at most 65,536 moves. */
 
-enum { LT_LINE = 96, LT_RECORD = 56, LT_STATE = 2304, LT_WORDS = 10, LT_TOO_LONG = 21 };
+enum { LT_LINE = 96, LT_RECORD = 56, LT_STATE = 2304, LT_WORDS = 10 };
 enum { LT_THREAD = 192, LT_THREAD_SIZE = 16, LT_DUE = 1 }; /* of a state */
 enum { LT_LONGER = 8 };   /* by which one kind of step may have more bytes than another */
 enum { LT_MOST = 65536 }; /* moves */
 enum { LT_TICKET_LOCK, LT_MCS_LOCK };
-enum { LT_PLAYED = 0, LT_REFUSED = 1, LT_FAULTY = 2 };
+enum { LT_PLAYED = 0, LT_FAULTY = 2 };
 enum { LT_NEXT_TICKET = 1, LT_NOW_SERVING, LT_TAIL, LT_NEXT, LT_LOCKED };
 
 /* What a line says of its step besides its kind: what is not said is not compared. */
@@ -158,7 +158,7 @@ static int lt_read_move(struct lt_words *words, struct lt_seen *seen)
 /* The schedule of a text, with each of its lines in its place: `length` bytes, up to a line that is
    no move of a trace. */
 struct lt_schedule {
-    uint64_t length, lines, moves, bad; /* bad: the line that is no move, or 0 */
+    uint64_t length, lines, bad; /* bad: the line that is no move, or 0 */
     int has_header;
 };
 
@@ -183,7 +183,6 @@ static int lt_keeps(struct lt_schedule *schedule, const uint8_t *line, size_t le
     } else {
         if (!lt_cut(&words, line, length) || !lt_read_move(&words, &seen)) return 0;
         *kept = strlen(words.word[0]) + 1 + strlen(words.word[1]);
-        schedule->moves++;
     }
     return 1;
 }
@@ -348,6 +347,7 @@ uint32_t lt_check(const uint8_t *text, size_t length, struct lt_step *steps, siz
     memset(answer, 0, sizeof *answer);
     played.most = length / 4 < LT_MOST ? length / 4 : LT_MOST; /* a move has four bytes at least */
     played.state = lt_make_room(LT_STATE + played.most * LT_RECORD + length + 1 + LT_LONGER);
+    if (!played.state) return answer->fault = LT_NO_MEMORY;
     played.records = played.state + LT_STATE;
     played.text = played.records + played.most * LT_RECORD;
     lt_schedule_of(&schedule, text, length, lt_at(played.text));
@@ -386,6 +386,7 @@ size_t lt_fault_text(uint32_t fault, uint8_t *text, size_t room)
     };
     const char *said = "no fault has this number";
     if (fault < sizeof texts / sizeof texts[0] && texts[fault][0]) said = texts[fault];
+    if (fault == LT_NO_MEMORY) said = "NoMemory: no memory for the check";
     if (fault == LT_TOO_LONG) said = "TooLong: more moves than are checked here: locktrace does";
     memcpy(text, said, strlen(said) < room ? strlen(said) : room);
     return strlen(said);

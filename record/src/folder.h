@@ -1,7 +1,5 @@
 /* The files of a run in its folder: its logs, its trace, and its notes while it runs. */
 
-enum { LR_PATH = 4096 };
-
 /* Makes the folder, if it is not there. Says what is wrong with it. */
 static inline int lr_folder_fault(const char *folder)
 {
@@ -30,6 +28,14 @@ static inline int lr_path_of(char *path, const char *folder, unsigned thread)
     return lr_path_in(path, folder, name);
 }
 
+/* Takes away a file that may be there. */
+static inline int lr_remove_file(const char *path)
+{
+    int fault = remove(path) && errno != ENOENT ? errno : 0;
+    if (fault) lr_say("%s: %s", path, strerror(fault));
+    return fault;
+}
+
 /* Takes away what an earlier run left, its trace and its logs from a thread on. */
 static inline int lr_remove_earlier(const char *folder, unsigned from)
 {
@@ -37,11 +43,18 @@ static inline int lr_remove_earlier(const char *folder, unsigned from)
     int fault = 0;
     for (unsigned t = from; folder && t <= LR_THREADS && !fault; t++) {
         fault = lr_path_of(path, folder, t < LR_THREADS ? t : (unsigned)LR_NOBODY);
-        if (fault || !remove(path) || errno == ENOENT) continue;
-        fault = errno;
-        lr_say("%s: %s", path, strerror(fault));
+        if (!fault) fault = lr_remove_file(path);
     }
     return fault;
+}
+
+/* Takes away the notes of an earlier run, of which logs could be made in place of later ones. */
+static inline int lr_remove_earlier_notes(const char *folder)
+{
+    char path[LR_PATH];
+    if (!folder) return 0;
+    int fault = lr_path_in(path, folder, LR_NOTES);
+    return fault ? fault : lr_remove_file(path);
 }
 
 /* Reads a line as far as there is room for it: a comment may be longer. Returns 0 at the end. */

@@ -44,12 +44,14 @@
                      file run.notes of its folder while it goes on
      LR_NOISE        with VALUES: threads are held up at one note in eight, or in LR_NOISE
      LR_PCT=d        with SEED: few changes of the turn, at drawn places; LR_STEPS=k
+                     (1,000) is how many turns a run has
      LR_SPURIOUS=n   with SEED: one turn in n wakes a thread of LR_WAIT that nobody signalled; else
                      one in 8 does with an even seed. EXPLORE wakes such a thread in place of a
                      preemption. 0: none is woken
      LR_START=n      the lock's counters begin at n, near where they wrap around: `reset` sets them
                      so. A trace has what was counted since then
-     LR_PATIENCE=n   a run hangs after n turns with nothing but repeated polls
+     LR_PATIENCE=n   a run hangs after n turns (SEED: 20,000, EXPLORE: 1,000) in which nothing was
+                     noted but polls that found the same. Operations without notes have turns too
      LR_MOVES=n      with EXPLORE: room for n moves of each thread (4,096)
      LR_REDUCE=0     with EXPLORE: runs are made that differ only in the order of steps on different
                      words. An operation without a point or a note is not seen as a step

@@ -1,18 +1,52 @@
 /* The main function of a program that tests a lock: `return lr_main(&driver, count, words);`
 
        PROGRAM THREADS ROUNDS PREEMPTIONS FOLDER [RUNS]    EXPLORE, at most so many runs
-       PROGRAM THREADS ROUNDS again TRACE                  EXPLORE: makes a saved run again
+       PROGRAM THREADS ROUNDS again TRACE                  EXPLORE: makes a saved run again, also
+                                                           one that crashed
        PROGRAM THREADS ROUNDS SEED FOLDER [SECONDS]        SEED, VALUES, OFF
        PROGRAM recover FOLDER                              VALUES: `lr_recover(FOLDER)`
        PROGRAM SCHEDULES FOLDER                            FOLLOW: the schedules of a folder
 
-   With one thread at a time a run is checked if the program can do it. SECONDS (60) is the longest
-   time without a move. Status: 0 all is well; 1 a run is refused or hangs, or a schedule was not
-   followed; 2 usage; 3 the system refused memory, a thread or a file, a log was full, or a file is
-   no schedule of this lock. */
+   THREADS, ROUNDS, RUNS (1,000,000) and SECONDS are at least 1. With one thread at a time a run is
+   checked if the program can do it. SECONDS (60) is the longest time without a move. Status: 0 all
+   is well; 1 a run is refused or hangs, or a schedule was not followed; 2 usage; 3 the system
+   refused memory, a thread or a file, a log was full, there is no schedule or a file is none of this
+   lock, or it is no trace of a run that can be made again. */
 
 /* The room of a log, in moves a round. */
 enum { LR_ROUND = 128 };
+
+#if !LR_FOLLOWS
+typedef struct lr_words {
+    uint64_t threads, rounds, number, last; /* SEED or PREEMPTIONS; SECONDS or RUNS */
+    int is_again;
+} lr_words;
+
+/* Reads a number from `least` to `most`: 0 if the word is none. */
+static inline int lr_read_number(const char *word, uint64_t least, uint64_t most, uint64_t *number)
+{
+    char *end;
+    errno = 0;
+    *number = strtoull(word, &end, 10);
+    if (word[0] < '0' || word[0] > '9' || *end || errno) return 0;
+    return *number >= least && *number <= most;
+}
+
+/* Reads the words of the program: 0 if they are not those of its usage. */
+static inline int lr_read_words(int count, char **words, lr_words *read)
+{
+    const uint64_t most_number = LR_EXPLORES ? UINT32_MAX : UINT64_MAX;
+    const uint64_t most_last = LR_EXPLORES ? ULONG_MAX : UINT32_MAX;
+    if (count < 5 || count > 6) return 0;
+    read->number = 0;
+    read->last = LR_EXPLORES ? 1000000 : 60;
+    read->is_again = LR_EXPLORES && count == 5 && !strcmp(words[3], "again");
+    return lr_read_number(words[1], 1, 64, &read->threads) &&
+           lr_read_number(words[2], 1, UINT32_MAX, &read->rounds) &&
+           (read->is_again || lr_read_number(words[3], 0, most_number, &read->number)) &&
+           (count < 6 || lr_read_number(words[5], 1, most_last, &read->last));
+}
+#endif
 
 #if LR_EXPLORES
 /* Warns that accepted runs had an operation that was not seen, so no other thread had its turn
@@ -37,21 +71,19 @@ static inline void lr_say_few(const lr_driver *driver, unsigned threads,
 static inline int lr_main(const lr_driver *driver, int count, char **words)
 {
     lr_explored explored;
-    unsigned threads = count < 5 || count > 6 ? 0 : (unsigned)atoi(words[1]);
-    if (threads < 1 || threads > LR_THREADS) {
+    lr_words read;
+    if (!lr_read_words(count, words, &read)) {
         fprintf(stderr,
                 "usage: %s THREADS ROUNDS PREEMPTIONS FOLDER [RUNS]\n"
                 "       %s THREADS ROUNDS again TRACE\n",
                 words[0], words[0]);
         return 2;
     }
-    unsigned rounds = (unsigned)atoi(words[2]);
-    int is_again = !strcmp(words[3], "again");
-    unsigned long most = count > 5 ? strtoul(words[5], NULL, 10) : 1000000;
-    int fault = is_again ? lr_explore_again(driver, threads, rounds, words[4], &explored)
-                         : lr_explore(driver, threads, rounds, (unsigned)atoi(words[3]), most,
-                                      words[4], &explored);
-    if (!is_again && explored.runs)
+    unsigned threads = (unsigned)read.threads, rounds = (unsigned)read.rounds;
+    int fault = read.is_again ? lr_explore_again(driver, threads, rounds, words[4], &explored)
+                              : lr_explore(driver, threads, rounds, (unsigned)read.number,
+                                           (unsigned long)read.last, words[4], &explored);
+    if (!read.is_again && explored.runs)
         printf("%lu run%s with up to %u preemption%s, %s\n", explored.runs,
                explored.runs == 1 ? "" : "s", explored.preemptions,
                explored.preemptions == 1 ? "" : "s",
@@ -59,10 +91,10 @@ static inline int lr_main(const lr_driver *driver, int count, char **words)
                : explored.is_complete ? "all of them accepted"
                                       : "all of them accepted, and there are more");
     if (explored.is_refused) printf("%s\n", explored.said);
-    if (explored.is_refused && !is_again)
+    if (explored.is_refused && !read.is_again)
         printf("again: %s %u %u again %s/run.trace\n", words[0], threads, rounds, words[4]);
     lr_say_unseen(&explored);
-    if (explored.runs && !is_again) lr_say_few(driver, threads, &explored);
+    if (explored.runs && !read.is_again) lr_say_few(driver, threads, &explored);
     fflush(stdout);
     _Exit(fault ? 3 : explored.is_refused);
 }
@@ -75,7 +107,6 @@ static inline int lr_main(const lr_driver *driver, int count, char **words)
         return 2;
     }
     int fault = lr_calls(driver, words[1], words[2], &called);
-    if (fault) lr_say("%s: %s", words[1], strerror(fault));
     printf("%u schedules of %zu moves, %u not followed\n", called.schedules, called.moves,
            called.refused);
     fflush(stdout);
@@ -150,13 +181,13 @@ static inline int lr_main(const lr_driver *driver, int count, char **words)
 #if LR_MAPPED
     if (count == 3 && !strcmp(words[1], "recover")) return lr_recover(words[2]) ? 3 : 0;
 #endif
-    unsigned threads = count < 5 || count > 6 ? 0 : (unsigned)atoi(words[1]);
-    if (threads < 1 || threads > 64) {
+    lr_words read;
+    if (!lr_read_words(count, words, &read)) {
         fprintf(stderr, "usage: %s THREADS ROUNDS SEED FOLDER [SECONDS]\n", words[0]);
         return 2;
     }
-    int status = lr_main_run(driver, threads, (unsigned)atoi(words[2]), strtoul(words[3], NULL, 10),
-                             words[4], count > 5 ? (unsigned)atoi(words[5]) : 60);
+    int status = lr_main_run(driver, (unsigned)read.threads, (unsigned)read.rounds, read.number,
+                             words[4], (unsigned)read.last);
     fflush(stdout);
     if (status) _Exit(status);
     return 0;

@@ -40,8 +40,7 @@ static inline int lr_new_notes(const char *folder, size_t size)
 {
     char path[LR_PATH];
     if (lr_path_in(path, folder, LR_NOTES)) return -1;
-    int fault = remove(path) && errno != ENOENT ? errno : 0;
-    int file = fault ? -1 : open(path, O_RDWR | O_CREAT | O_EXCL, 0666);
+    int fault = 0, file = open(path, O_RDWR | O_CREAT | O_EXCL, 0666);
     if (file < 0) {
         lr_say("%s: %s", path, strerror(errno));
         return -1;

@@ -4,8 +4,7 @@ static w2c_lockreplay lt_module;
 
 static uint8_t *lt_at(uint64_t address) { return lt_module.w2c_memory.data + address; }
 
-/* Makes room for some bytes, and returns the address of the first. If memory is refused, the
-   program ends. */
+/* Makes room for some bytes, and returns the address of the first, or 0 if memory is refused. */
 static uint64_t lt_make_room(uint64_t bytes)
 {
     wasm_rt_memory_t *memory = &lt_module.w2c_memory;
@@ -13,7 +12,7 @@ static uint64_t lt_make_room(uint64_t bytes)
     uint64_t base = (lt_module.w2c_0x5F_heap_base + 15) & ~(uint64_t)15, size = base + bytes;
     if (size <= memory->size) return base;
     uint8_t *data = (uint8_t *)realloc(memory->data, size);
-    if (!data) abort();
+    if (!data) return 0;
     memset(data + memory->size, 0, size - memory->size);
     if (!memory->size) memcpy(data + LT_DATA_AT, lt_data, sizeof lt_data);
     memory->data = data;

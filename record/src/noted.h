@@ -5,7 +5,9 @@
    In C11, of `_Atomic` objects; each is also there with `_explicit` and an order before the word:
        lr_load(p, word)  lr_store(p, value, word)  lr_exchange(p, value, word)
        lr_fetch_add(p, value, word)  lr_compare_exchange(p, &expected, desired, word)
-   In C++ `lr::noted<T, LR_TAIL>` is an atomic<T> whose operations do it.
+   In C++ `lr::noted<T, LR_TAIL>` has these operations of an atomic<T>: load, store, exchange,
+   fetch_add, compare_exchange_strong and compare_exchange_weak, and its value as an operand or
+   assigned. A load as an operand has no place: `load()` has one.
 
    A pointer is noted as 0, or as j + 1 if it points into thread j's record, and a `next` or
    `locked` is of the thread in whose record it is. `lr_own_record(pointer)` says which is the
@@ -21,6 +23,12 @@ enum {
     LR_LOCKED = LR_PLACE_locked
 };
 
+#if LR_RECORDS
+#define lr_own_record(pointer) lr_set_record(pointer, sizeof *(pointer))
+#else
+#define lr_own_record(pointer) ((void)0)
+#endif
+
 #ifndef __cplusplus
 #include <stdatomic.h>
 
@@ -32,7 +40,6 @@ enum {
     lr_compare_exchange_explicit(p, e, d, memory_order_seq_cst, memory_order_seq_cst, word)
 
 #if LR_RECORDS
-#define lr_own_record(pointer) lr_set_record(pointer, sizeof *(pointer))
 /* The note of a value: GCC and Clang number the class of pointers 5. */
 #define LR_WORTH(v)                                                                                \
     (__builtin_classify_type(v) == 5 ? lr_pointer_at(lr_self, (uintptr_t)(v))                      \
@@ -82,7 +89,6 @@ enum {
         lr_w;                                                                                      \
     })
 #else
-#define lr_own_record(pointer) ((void)0)
 #define lr_load_explicit(p, o, word) atomic_load_explicit(p, o)
 #define lr_store_explicit(p, v, o, word) atomic_store_explicit(p, v, o)
 #define lr_exchange_explicit(p, v, o, word) atomic_exchange_explicit(p, v, o)

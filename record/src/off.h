@@ -1,9 +1,12 @@
 /* OFF: the functions of a run do nothing, so that a driver is the same in each mode. */
 
+#include <errno.h>
+#include <limits.h>
 #include <stddef.h>
 #include <stdint.h>
 #include <stdio.h>
 #include <stdlib.h>
+#include <string.h>
 #include <pthread.h>
 
 typedef struct lr_run {
@@ -30,6 +33,8 @@ static inline lr_log *lr_log_of(lr_run *run, unsigned thread)
     return &logs[thread % 64];
 }
 
+/* Nothing is noted of a record, so it does not matter whose it is. */
+static inline unsigned lr_thread(void) { return 0; }
 static inline void lr_begin(lr_log *log) { (void)log; }
 static inline void lr_end(lr_log *log) { (void)log; }
 static inline unsigned lr_await(lr_run *run, unsigned seconds)

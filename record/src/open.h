@@ -82,13 +82,13 @@ static inline lr_run *lr_open(const char *lock, unsigned threads, unsigned bits,
 {
     if (lr_is_wrong(lock, threads, bits, moves) || lr_folder_fault(folder)) return NULL;
     /* Logs of an earlier run must not pass for this one's until it is saved. */
-    if (lr_remove_earlier(folder, 0)) return NULL;
+    if (lr_remove_earlier(folder, 0) || lr_remove_earlier_notes(folder)) return NULL;
     lr_run *run = lr_memory_of(threads, moves, folder);
     if (!run) return NULL;
     run->mode = LR_CHOSEN;
     snprintf(run->name, sizeof run->name, "%s", lock);
     run->lock = run->name;
-    run->folder = folder;
+    if (folder) run->folder = strcpy(run->own_folder, folder);
     run->threads = threads;
     run->bits = bits;
     run->seed = run->drawn = seed;

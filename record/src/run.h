@@ -3,6 +3,7 @@
 #include <errno.h>
 #include <fcntl.h>
 #include <inttypes.h>
+#include <limits.h>
 #include <pthread.h>
 #include <semaphore.h>
 #include <stdarg.h>
@@ -19,7 +20,7 @@
 
 enum { LR_THREADS = 64, LR_OWN = 256, LR_NOBODY = 256, LR_APART = 128, LR_SAID = 1024 };
 enum { LR_UNKNOWN = 255 }; /* in place of the thread whose record it is, if none has it */
-enum { LR_FILES = 256, LR_STAMP = 64, LR_NAME = 16 };
+enum { LR_FILES = 256, LR_STAMP = 64, LR_NAME = 16, LR_PATH = 4096 };
 #define LR_NOTES "run.notes"
 
 /* A note costs what its bytes cost, so a move has two words. From the lowest bit on the second one
@@ -139,11 +140,12 @@ typedef struct lr_run {
     pthread_mutex_t mutex; /* of `begun`, `ended` of each log and `is_over` */
     pthread_cond_t changed;
     unsigned begun;
-    int is_over;        /* nobody gets a turn any more */
-    int is_left;        /* threads were left behind, so its memory stays */
-    int is_crashed;     /* the program ended before the run was saved */
-    int lacks;          /* the errno of what the system refused, a thread or memory, or 0 */
-    int watch;          /* by which the process that saves it then is told that all is well */
+    int is_over;    /* nobody gets a turn any more */
+    int is_left;    /* threads were left behind, so its memory stays */
+    int is_crashed; /* the program ended before the run was saved */
+    int lacks;      /* the errno of what the system refused, a thread or memory, or 0 */
+    int watch;      /* by which the process that saves it then is told that all is well */
+    char own_folder[LR_PATH];
     char said[LR_SAID]; /* why it ended before its threads, or why it is refused */
     lr_log logs[LR_THREADS];
     lr_move *moves; /* of all logs */

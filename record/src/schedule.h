@@ -4,10 +4,10 @@
        int fault = lr_calls(&driver, "tour", "traces", &called);
 
    follows each `*.schedule` of the first folder, in one process. The trace of each is saved in the
-   second folder; with LR_CHECK each is checked in the process, and only those are saved that are
-   refused. `called` counts schedules and moves. A line on standard error says why a schedule was
-   not followed. The answer is an errno,
-   EINVAL for a file that is no schedule of this lock, or 0. */
+   second folder, which is made; with LR_CHECK each is checked in the process, and only those are
+   saved that are refused. `called` counts schedules and moves. A line on standard error says why a
+   schedule was not followed. The answer is an errno, EINVAL for a file that is no schedule of this
+   lock, ENOENT if there is no schedule, or 0. */
 
 #if LR_FOLLOWS
 
@@ -123,27 +123,34 @@ static inline int lr_compare_names(const void *one, const void *other)
     return strcmp(*(char *const *)one, *(char *const *)other);
 }
 
-/* The names of a folder's schedules, sorted: how many, or -1 and an errno. */
-static inline int lr_names_in(const char *folder, char ***names)
+/* Appends a name: 0, or an errno. */
+static inline int lr_add_name(char ***names, int count, const char *name)
+{
+    size_t length = strlen(name) + 1;
+    char **more = (char **)realloc(*names, ((size_t)count + 1) * sizeof(char *));
+    if (!more) return ENOMEM;
+    *names = more;
+    more[count] = (char *)malloc(length);
+    if (!more[count]) return ENOMEM;
+    memcpy(more[count], name, length);
+    return 0;
+}
+
+/* The names of a folder's schedules, sorted, and how many they are: 0, or an errno. */
+static inline int lr_names_in(const char *folder, char ***names, int *count)
 {
     DIR *open = opendir(folder);
-    int count = 0;
+    int fault = open ? 0 : errno;
     *names = NULL;
-    if (!open) return -1;
-    for (struct dirent *entry; count >= 0 && (entry = readdir(open));) {
+    *count = 0;
+    for (struct dirent *entry; !fault && (entry = readdir(open));) {
         if (!lr_is_schedule(entry->d_name)) continue;
-        size_t length = strlen(entry->d_name) + 1;
-        char **more = (char **)realloc(*names, ((size_t)count + 1) * sizeof(char *));
-        if (more) *names = more;
-        if (!more || !(more[count] = (char *)malloc(length)))
-            count = -2;
-        else
-            memcpy(more[count], entry->d_name, length);
-        count++;
+        fault = lr_add_name(names, *count, entry->d_name);
+        *count += !fault;
     }
-    closedir(open);
-    if (count > 1) qsort(*names, (size_t)count, sizeof(char *), lr_compare_names);
-    return count;
+    if (open) closedir(open);
+    if (*count > 1) qsort(*names, (size_t)*count, sizeof(char *), lr_compare_names);
+    return fault;
 }
 
 /* Follows one schedule: 0, an errno, or EINVAL for a file that is no schedule of this lock. */
@@ -152,6 +159,10 @@ static inline int lr_call_one(const lr_driver *driver, const char *path, const c
 {
     lr_run *run = lr_follow(driver->lock, driver->bits, path);
     if (!run) return EINVAL;
+    if (!driver->call && run->lines_count) {
+        lr_say("FOLLOW makes calls by the driver's last function, `call`, which is NULL");
+        _Exit(2);
+    }
     unsigned missing = lr_go(run, driver, 0, 10);
     int is_wrong = run->said[0] != 0, fault = 0;
 #if LR_CHECKS
@@ -167,18 +178,35 @@ static inline int lr_call_one(const lr_driver *driver, const char *path, const c
     return fault;
 }
 
+/* Follows a schedule of a folder. */
+static inline int lr_call_in(const lr_driver *driver, const char *folder, const char *name,
+                             const char *directory, lr_called *called)
+{
+    char path[LR_PATH], own[LR_PATH], trace[LR_PATH];
+    snprintf(own, sizeof own, "%.*s.trace", (int)(strlen(name) - strlen(".schedule")), name);
+    int fault = lr_path_in(path, folder, name);
+    if (!fault) fault = lr_path_in(trace, directory, own);
+    if (!fault) fault = lr_call_one(driver, path, trace, called);
+    if (fault) lr_say("%s: %s", folder, strerror(fault));
+    return fault;
+}
+
 static inline int lr_calls(const lr_driver *driver, const char *folder, const char *directory,
                            lr_called *called)
 {
-    char **names, path[4096], trace[4096];
+    char **names;
+    int count, fault = lr_names_in(folder, &names, &count);
     memset(called, 0, sizeof *called);
-    errno = ENOMEM;
-    int count = lr_names_in(folder, &names), fault = count < 0 ? errno : 0;
+    if (fault) {
+        lr_say("%s: %s", folder, strerror(fault));
+    } else if (!count) {
+        lr_say("%s: no file there is named *.schedule", folder);
+        fault = ENOENT;
+    } else {
+        fault = lr_folder_fault(directory);
+    }
     for (int i = 0; i < count; i++) {
-        int end = (int)(strlen(names[i]) - strlen(".schedule"));
-        snprintf(path, sizeof path, "%s/%s", folder, names[i]);
-        snprintf(trace, sizeof trace, "%s/%.*s.trace", directory, end, names[i]);
-        if (!fault) fault = lr_call_one(driver, path, trace, called);
+        if (!fault) fault = lr_call_in(driver, folder, names[i], directory, called);
         free(names[i]);
     }
     free(names);

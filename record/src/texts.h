@@ -40,11 +40,12 @@ static inline const char *lr_text_of(char *line, const lr_log *log, const lr_mov
     return line;
 }
 
-/* Writes a place in a source, without folders, into at most LR_LINE bytes. */
+/* Writes a place in a source, without folders, into at most LR_LINE bytes. What has no place has a
+   text in place of the file, and no line. */
 static inline const char *lr_at(char *text, const char *file, unsigned line)
 {
     const char *slash = strrchr(file, '/');
-    snprintf(text, LR_LINE, "%.99s:%u", slash ? slash + 1 : file, line);
+    snprintf(text, LR_LINE, line ? "%.99s:%u" : "%.99s", slash ? slash + 1 : file, line);
     return text;
 }
 

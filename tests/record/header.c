@@ -297,6 +297,20 @@ static void a_log_that_has_not_ended_says_so(void)
               "lock ticket threads 1 bits 64 thread 0\nacquire\n# thread 0 has not ended\n");
 }
 
+/* A caller may use the memory of a folder's name again before it saves the run. */
+static void a_run_knows_its_folder_by_itself(void)
+{
+    char name[4096];
+    snprintf(name, sizeof name, "%s", directory);
+    lr_run *run = lr_open("mcs", 1, 64, 1, 0, name);
+    if (!run) exit(3);
+    memset(name, 0, sizeof name);
+    lr_begin(lr_log_of(run, 0));
+    lr_end(lr_log_of(run, 0));
+    check_log("a run of a name that is gone", run,
+              "lock mcs threads 1 bits 64 thread 0\ndropped 0\n");
+}
+
 static void what_cannot_be_opened_or_saved(void)
 {
     check("no thread", !lr_open("mcs", 0, 64, 1, 0, NULL));
@@ -335,6 +349,7 @@ int main(int count, char **words)
     a_move_has_its_place();
     a_record_is_of_the_last_thread_that_took_it();
     a_log_that_has_not_ended_says_so();
+    a_run_knows_its_folder_by_itself();
     what_cannot_be_opened_or_saved();
     return failed;
 }

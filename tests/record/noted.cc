@@ -55,7 +55,7 @@ record *swap_tail(record *own)
 void acquire(record *own)
 {
     LR_CALL(acquire);
-    lr::own_record(own);
+    lr_own_record(own);
     own->next = nullptr;
     record *before = swap_tail(own);
     if (!before) return;

@@ -75,6 +75,9 @@ template <class Word> static void shared_operations(Word &word)
     OF_BOTH(exchange, due);
     OF_BOTH(fetch_add, due);
     OF_BOTH(compare_exchange_strong, due, due);
+    OF_BOTH(compare_exchange_weak, due, due);
+    HAS(acquire, relaxed, word.compare_exchange_strong(due, due, acquire, relaxed));
+    HAS(acquire, relaxed, word.compare_exchange_weak(due, due, acquire, relaxed));
 }
 
 int main()
@@ -88,8 +91,5 @@ int main()
     OF_BOTH(fetch_and, due);
     OF_BOTH(fetch_or, due);
     OF_BOTH(fetch_xor, due);
-    OF_BOTH(compare_exchange_weak, due, due);
-    HAS(acquire, relaxed, word.compare_exchange_strong(due, due, acquire, relaxed));
-    HAS(acquire, relaxed, word.compare_exchange_weak(due, due, acquire, relaxed));
     return failed != 0;
 }

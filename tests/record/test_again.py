@@ -1,10 +1,11 @@
-"""Saved runs that are made again by the choices in their traces, also after a crash."""
+"""Saved runs that are made again by the choices in their traces, also after a crash; and what a
+search leaves: no memory, and no notes of another run."""
 import signal
 
 import pytest
 
-from recorders import compile_c
-from tree import ran
+from recorders import CHECKED, compile_c
+from tree import TOP, ran
 
 from test_modes import HERE
 
@@ -71,3 +72,74 @@ def test_choice_of_a_thread_that_cannot_go_on(built, tmp_path):
     done = ran(built("(void)0"), 2, 1, "again", "it.trace", cwd=tmp_path)
     assert done.stdout == "the driver does not do the same after the same turns\n"
     assert (done.stderr, done.returncode) == ("", 1)
+
+
+@pytest.mark.parametrize("mode, most", [("EXPLORE", 1000), ("SEED", 20000)])
+@pytest.mark.parametrize("less, status", [(1, 0), (0, 1)])
+def test_operations_without_notes(tmp_path, library, mode, most, less, status):
+    """So many turns without a note are a hang. One turn begins the run, and each store has one."""
+    stores = (f"static _Atomic int word; int left = {most - less}; "
+              "do atomic_store(&word, left); while (--left)")
+    assert compile_c("gcc", HERE / "notes.c", tmp_path / "it", f"-DLR_MODE={mode}",
+                     '-DLOCK="ticket"', f"-DNOTES={stores}",
+                     library=library if mode in CHECKED else None) == ""
+    done = ran(tmp_path / "it", 1, 1, 0, tmp_path / "logs")
+    said = "the run hangs: thread 0 has noted nothing\n"
+    assert (said in done.stdout + done.stderr, done.returncode) == (status == 1, status)
+
+
+# A search that ends after two runs, one that ends with a refusal, and a run that is made again.
+SEARCHES = f"""#include "{TOP}/record/lockreplay_record.h"
+static void one_round(unsigned thread, unsigned round)
+{{
+    (void)round;
+    {BETWEEN.replace("abort()", "LR_CALL(release)")};
+}}
+int main(int count, char **words)
+{{
+    const lr_driver driver = {{"ticket", 8, NULL, one_round, NULL}};
+    lr_explored explored;
+    if (count != 3 || lr_explore(&driver, 2, 1, 1, 2, words[1], &explored)) return 9;
+    if (explored.is_refused || explored.is_complete) return 8;
+    if (lr_explore(&driver, 2, 1, 1, 99, words[1], &explored) || !explored.is_refused) return 7;
+    return lr_explore_again(&driver, 2, 1, words[2], &explored) || !explored.is_refused;
+}}
+"""
+
+
+@pytest.mark.parametrize("flags", [[], ["-DLR_REDUCE=0"]], ids=str)
+def test_memory_of_a_search(tmp_path, library, flags):
+    """A search gives back all memory, also if it ends early."""
+    (tmp_path / "it.c").write_text(SEARCHES)
+    assert compile_c("gcc", tmp_path / "it.c", tmp_path / "it", "-DLR_MODE=EXPLORE", *flags,
+                     "-fsanitize=address", library=library) == ""
+    done = ran(tmp_path / "it", tmp_path / "logs", tmp_path / "logs" / "run.trace")
+    assert (done.stdout, done.stderr, done.returncode) == ("", "", 0)
+
+
+@pytest.mark.parametrize("mode", ["VALUES", "SEED", "EXPLORE"])
+def test_notes_of_an_earlier_run(tmp_path, library, mode):
+    """Notes that a killed run left would become logs in place of the later run's."""
+    assert compile_c("gcc", HERE / "notes.c", tmp_path / "it", f"-DLR_MODE={mode}",
+                     '-DLOCK="ticket"', "-DNOTES=(void)0",
+                     library=library if mode in CHECKED else None) == ""
+    (tmp_path / "run.notes").write_text("of an earlier run\n")
+    assert ran(tmp_path / "it", 1, 1, 1, tmp_path).returncode == 0
+    assert not (tmp_path / "run.notes").exists()
+
+
+# Refuses memory to the check alone.
+REFUSES = """#include <stdlib.h>
+#define realloc(old, size) _Generic(old, unsigned char *: NULL, default: realloc(old, size))
+"""
+
+
+def test_no_memory_for_the_check(tmp_path):
+    """A run that cannot be checked is neither right nor wrong."""
+    (tmp_path / "refuses.h").write_text(REFUSES)
+    assert compile_c("gcc", HERE / "notes.c", tmp_path / "it", "-DLR_MODE=EXPLORE", "-include",
+                     tmp_path / "refuses.h", '-DLOCK="ticket"', "-DNOTES=(void)0",
+                     TOP / "record" / "locktrace.c") == ""
+    done = ran(tmp_path / "it", 1, 1, 1, tmp_path / "logs")
+    assert done.stdout.splitlines()[1] == "no memory for the check", done.stdout
+    assert (done.stderr, done.returncode) == ("", 3)

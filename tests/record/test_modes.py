@@ -165,10 +165,14 @@ def test_words_that_are_macros(compiler, tmp_path):
 
 @pytest.mark.parametrize("words", [
     (0, 1, 1, "logs"), (65, 1, 1, "logs"), ("one", 1, 1, "logs"), (0, 1, "again", "run.trace"),
-    (65, 1, "again", "run.trace"), (2, 1, 1), (2, 1, 1, "logs", 9, 9)], ids=str)
+    (65, 1, "again", "run.trace"), (2, 1, 1), (2, 1, 1, "logs", 9, 9), ("2x", 1, 1, "logs"),
+    (2, "x", 1, "logs"), (2, 0, 1, "logs"), (2, -1, 1, "logs"), (2, 2**32, 1, "logs"),
+    (2, 1, "x", "logs"), (2, 1, "", "logs"), (2, 1, 2**32, "logs"), (2, 1, 1, "logs", 0),
+    (2, 1, 1, "logs", "9 "), (2, 1, 1, "logs", 2**64), (2, 1, "again", "run.trace", 9)], ids=str)
 @pytest.mark.parametrize("recorder", ["c"], indirect=True)
 def test_words_of_a_search(recorder, tmp_path, words):
-    """A search of no thread, or of more than 64, is refused as other wrong words are."""
+    """A search of no thread, or of more than 64, of no round or of no run, and a word that is no
+    number, are refused as other wrong words are."""
     [program] = recorder.command("rw_fifo", "EXPLORE")
     done = ran(program, *words, cwd=tmp_path)
     assert (done.stdout, done.returncode) == ("", 2)
@@ -179,10 +183,12 @@ def test_words_of_a_search(recorder, tmp_path, words):
 @pytest.mark.parametrize("mode", ["OFF", "VALUES", "SEED"])
 @pytest.mark.parametrize("words, status", [
     ((1, 1, 1), 0), ((64, 1, 1), 0), ((64, 1, 1, 60), 0), ((0, 1, 1), 2), ((65, 1, 1), 2),
-    ((-1, 1, 1), 2), ((2, 1), 2), ((2, 1, 1, 9, 9), 2)])
+    ((-1, 1, 1), 2), ((2, 1), 2), ((2, 1, 1, 9, 9), 2), ((2, 0, 1), 2), ((2, "x", 1), 2),
+    ((2, 1, "x"), 2), ((2, 1, -1), 2), ((2, 1, 2**64), 2), ((2, 1, 2**64 - 1), 0),
+    ((2, 1, 1, 0), 2), ((2, 1, 1, "1s"), 2)])
 @pytest.mark.parametrize("recorder", ["c"], indirect=True)
 def test_words_of_a_program(recorder, tmp_path, mode, words, status):
-    """A run has 1 to 64 threads. Other words are refused before it begins."""
+    """A run has 1 to 64 threads, and a round or more. Other words are refused before it begins."""
     [program] = recorder.command("rw_fifo", mode)
     done = ran(program, *words[:3], tmp_path / "logs", *words[3:])
     assert done.stderr == ("" if status == 0 else

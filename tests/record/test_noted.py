@@ -69,6 +69,26 @@ def test_order_in_c_plus_plus(tmp_path, compiler, mode):
     assert (done.stdout, done.returncode) == ("", 0)
 
 
+@pytest.mark.parametrize("compiler", ["g++", "clang++"])
+@pytest.mark.parametrize("standard", STANDARDS)
+def test_operators_in_c_plus_plus(tmp_path, compiler, standard):
+    """An assignment is noted in its own line. A load by a conversion has no line, and an exchange
+    that fails for no reason is no step."""
+    assert compile_c(compiler, HERE / "operators.cc", tmp_path / "it", "-DLR_MODE=SEED",
+                     standard=standard) == ""
+    assert ran(tmp_path / "it", 1, 1, 1, tmp_path).stderr == ""
+    trace = (tmp_path / "run.trace").read_text().splitlines()
+    moves = [re.sub(" of 255| found| left", "", line[2:]) for line in trace if line[:2] == "0 "]
+    places = [line.split(" is ")[1] for line in trace if line.startswith("# line ")]
+    noted = [(move, f"operators.cc:{number}") for number, line in
+             enumerate((HERE / "operators.cc").read_text().splitlines(), 1)
+             for move in re.findall(r"; +// (.*)", line)]
+    loads = {3: "read tail 0", 4: "read locked 0"}  # before which of the noted lines
+    due = [it for at, row in enumerate(noted) for it in
+           [*([(loads[at], "an implicit load")] if at in loads else []), row]]
+    assert list(zip(moves, places, strict=True)) == due and len(due) == 10
+
+
 # The orders of Rust as LLVM names them, and operations that change a word.
 OF_LLVM = {"Relaxed": "monotonic", "Acquire": "acquire", "Release": "release", "AcqRel": "acq_rel",
            "SeqCst": "seq_cst"}
@@ -204,6 +224,16 @@ def test_record_that_no_thread_has(built, tmp_path):
     done = ran(built("gcc", "11", "EXPLORE", "-DNOBODYS"), 2, 1, 2, tmp_path)
     said = ": no thread has this record (lr_own_record says whose it is)\n"
     assert done.returncode == 1 and said in done.stdout, done.stdout
+
+
+@pytest.mark.parametrize("mode", RUNS)
+@pytest.mark.parametrize("compiler", ["gcc", "g++"])
+def test_thread_of_a_record(tmp_path, library, compiler, mode):
+    """A lock may keep in each record whose it is, also where nothing is recorded."""
+    assert compile_c(compiler, HERE / "notes.c", tmp_path / "it", f"-DLR_MODE={mode}",
+                     '-DLOCK="mcs"', "-DNOTES=if (lr_thread() != (LR_RECORDS ? thread : 0)) "
+                     "abort()", library=library if mode in CHECKED else None) == ""
+    assert ran(tmp_path / "it", 2, 1, 1, tmp_path / "logs").returncode == 0
 
 
 @pytest.mark.parametrize("compiler", ["gcc", "g++"])
