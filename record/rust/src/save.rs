@@ -126,26 +126,33 @@ fn write_log_head(run: &Shared, thread: usize, out: &mut impl Write) -> io::Resu
 
 /// Which threads have ended, in comments after a trace's last move.
 fn write_ends(run: &Shared, out: &mut impl Write) -> io::Result<()> {
-    let stage = run.turns.stage();
-    (0..run.header.threads)
-        .try_for_each(|thread| writeln!(out, "# thread {thread} {}", stage.end_of(thread)))
+    (0..run.header.threads).try_for_each(|thread| match run.tape(thread).as_deref() {
+        Some(Some(_)) => writeln!(out, "# thread {thread} {}", run.turns.stage().end_of(thread)),
+        _ => write_absence(thread, out),
+    })
+}
+
+/// A thread's moves are not known as long as the thread itself has its log.
+fn write_absence(thread: usize, out: &mut impl Write) -> io::Result<()> {
+    writeln!(out, "# thread {thread} still has its log, so its moves are missing here")
 }
 
 /// A thread's log. It has a last line if the thread came to its end, else a comment that says so.
 fn write_log(run: &Shared, thread: usize, out: &mut impl Write) -> io::Result<()> {
     write_log_head(run, thread, out)?;
     let place = run.tape(thread);
-    if let Some(tape) = place.as_deref().and_then(Option::as_ref) {
-        tape.moves().iter().try_for_each(|made| writeln!(out, "{made}"))?;
-        if tape.has_ended() {
-            writeln!(out, "dropped {}", tape.dropped())?;
-        } else if tape.dropped() == 0 && !run.mode.has_order() {
-            writeln!(out, "# thread {thread} has not ended")?;
-        } else {
-            writeln!(out, "# thread {thread} {}", run.turns.stage().end_of(thread))?;
-        }
+    let tape = match place.as_deref() {
+        Some(Some(tape)) => tape,
+        _ => return write_absence(thread, out),
+    };
+    tape.moves().iter().try_for_each(|made| writeln!(out, "{made}"))?;
+    if tape.has_ended() {
+        writeln!(out, "dropped {}", tape.dropped())
+    } else if tape.dropped() == 0 && !run.mode.has_order() {
+        writeln!(out, "# thread {thread} has not ended")
+    } else {
+        writeln!(out, "# thread {thread} {}", run.turns.stage().end_of(thread))
     }
-    Ok(())
 }
 
 /// The moves of all threads in their order, as far as the logs have them.
