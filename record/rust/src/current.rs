@@ -64,7 +64,7 @@ pub(crate) struct Recorder {
     operations: usize,
     /// How many monitors the thread is in, and whether it is in a call.
     monitors: usize,
-    in_call: bool,
+    pub(crate) in_call: bool,
 }
 
 thread_local! {

@@ -309,8 +309,8 @@ impl Drop for Log {
     fn drop(&mut self) {
         let ended = self.has_begun && !thread::panicking();
         let own = current::remove().zip(self.shared.tape(self.thread));
-        if let Some((Recorder { mut tape, .. }, mut place)) = own {
-            tape.leave(ended);
+        if let Some((Recorder { mut tape, in_call, .. }, mut place)) = own {
+            tape.leave(ended, in_call);
             *place = Some(tape);
         }
         self.shared.turns.leave(self.thread, ended);
