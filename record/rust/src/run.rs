@@ -184,7 +184,7 @@ impl Run {
         if thread >= threads {
             return Err(Error::NoSuchThread { thread, threads });
         }
-        if current::is_recorded() {
+        if current::thread().is_some() {
             return Err(Error::AlreadyRecorded);
         }
         self.0.turns.come(thread)?;
