@@ -7,6 +7,9 @@ use std::process::Command;
 
 /// In a package, and in the repository.
 const SOURCES: [&str; 2] = ["locktrace.c", "../locktrace.c"];
+const MISSING: &str = "the feature `check` compiles locktrace.c, which is not here: copy \
+    record/locktrace.c of the repository beside the Cargo.toml of lockreplay-record, or take the \
+    package that packaging/crate.sh writes";
 
 fn main() {
     println!("cargo:rerun-if-env-changed=CC");
@@ -14,7 +17,7 @@ fn main() {
     if env::var_os("CARGO_FEATURE_CHECK").is_none() {
         return;
     }
-    let source = SOURCES.into_iter().find(|it| Path::new(it).exists()).expect("locktrace.c");
+    let source = SOURCES.into_iter().find(|it| Path::new(it).exists()).expect(MISSING);
     println!("cargo:rerun-if-changed={source}");
     let out = env::var("OUT_DIR").expect("cargo says where");
     let (object, archive) = (format!("{out}/locktrace.o"), format!("{out}/liblocktrace.a"));

@@ -57,6 +57,9 @@ fn main() -> Result<(), Error> {
         eprintln!("{error}");
         error
     })?;
+    if words[3] == "save" {
+        run.save(&words[1])?;
+    }
     Ok(())
 }
 """
@@ -121,6 +124,18 @@ def test_no_room_in_rust(keeper, tmp_path, blocks, rounds):
     assert done.returncode == 0
     assert [path.stat().st_size for path in logs.iterdir()] == THREADS * [blocks * BLOCK]
     assert not any("##" in path.read_text() for path in logs.iterdir())
+
+
+@pytest.mark.xdist_group("cargo")
+def test_no_room_to_save_in_rust(keeper, tmp_path):
+    """A run that cannot be saved where its logs are kept leaves them as they are."""
+    logs = tmp_path / "logs"
+    done = ran("sh", "-c", f"trap '' XFSZ; ulimit -f 300; exec {keeper} {logs} 3000 save")
+    assert re.search(r'^Error: Save \{ path: ".*/thread-0\.log", error: .* code: 27,', done.stderr,
+                     re.MULTILINE)
+    assert done.returncode == 1
+    sizes = {path.name: path.stat().st_size for path in logs.iterdir()}
+    assert sizes == {f"thread-{thread}.log": 300 * BLOCK for thread in range(THREADS)}
 
 
 @pytest.mark.xdist_group("cargo")

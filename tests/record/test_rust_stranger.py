@@ -4,6 +4,7 @@ The user's crate has the lock of the package's README, right or with a mistake, 
 names.
 """
 import re
+import shutil
 import tarfile
 
 import pytest
@@ -60,6 +61,19 @@ def test_package(package):
     assert files >= {"README.md", "LICENSE-APACHE", "LICENSE-MIT", "build.rs", "locktrace.c",
                      "src/lib.rs"}
     assert (package / "locktrace.c").read_text() == (TOP / "record/locktrace.c").read_text()
+
+
+def test_crate_alone(tmp_path):
+    """A copy of the crate's folder has no check, and its build says what to do."""
+    crate = tmp_path / "lockreplay-record"
+    shutil.copytree(CRATE, crate, ignore=shutil.ignore_patterns("target"))
+    done = cargo("build", "--features", "check", folder=crate)
+    assert done.returncode != 0
+    assert ("locktrace.c, which is not here: copy record/locktrace.c of the repository beside the "
+            "Cargo.toml of lockreplay-record, or take the package that packaging/crate.sh writes"
+            ) in done.stderr
+    shutil.copy(TOP / "record" / "locktrace.c", crate)
+    assert cargo("build", "--features", "check", folder=crate).returncode == 0
 
 
 @pytest.fixture

@@ -331,7 +331,7 @@ impl<A: Counter> Atomic<A> {
         found
     }
 
-    /// A fetch-and-subtract. It is noted as a fetch-and-add, with what it left.
+    /// A fetch-and-subtract. It is noted as [`fetch_add`](Atomic::fetch_add) is, with what it left.
     #[track_caller]
     pub fn fetch_sub(&self, amount: A::Value, order: Ordering) -> A::Value {
         let (turn, owner) = self.begin(true);

@@ -96,6 +96,7 @@ impl RunBuilder {
     /// the mode has no seed for [wakes](RunBuilder::spurious), memory was refused, or a log cannot
     /// be [kept](RunBuilder::kept_in).
     pub fn open(self) -> Result<Run, Error> {
+        self.header.checked()?;
         let (rule, chooser) = match &self.mode {
             Mode::Free | Mode::Noise(_) => (Rule::AtOnce, Chooser::Seed(Draw::new(0))),
             Mode::Ordered => (Rule::Alone, Chooser::Seed(Draw::new(0))),

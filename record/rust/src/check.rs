@@ -8,6 +8,7 @@ use std::sync::{Mutex, PoisonError};
 use crate::error::Error;
 use crate::published::{self, Made};
 use crate::run::{Run, Shared};
+use crate::tape::Tape;
 
 /// One thread may call the check at a time, and tests run side by side.
 static ALONE: Mutex<()> = Mutex::new(());
@@ -56,8 +57,8 @@ extern "C" {
 
 impl Run {
     /// Checks the run's trace as `locktrace check` does, in this process: up to 65,536 moves. The
-    /// run is refused too if a thread has not ended though the lock's machine has completed its
-    /// last call, or if a thread has ended inside a call.
+    /// run is refused too if a thread was stopped inside a call that the lock's machine has
+    /// completed, or if a thread has ended inside a call.
     ///
     /// With the feature `check` alone, for which the build needs a C compiler.
     ///
@@ -155,17 +156,21 @@ fn text_of(fault: u32) -> String {
     String::from_utf8_lossy(text.get(..length).unwrap_or(&text)).into_owned()
 }
 
-/// The fault of how a thread ended: inside a call, or not at all though its call is over.
+/// The fault of how a thread ended: inside a call, or not at all though that call is over.
 fn beside(run: &Shared, steps: &[Step]) -> Option<Error> {
     let stage = run.turns.stage();
     let (missing, is_cut) = (stage.missing(), stage.is_cut);
     drop(stage);
+    if is_cut {
+        return None; // the last moves are not known
+    }
     (0..run.header.threads).find_map(|thread| {
         let is_own = |step: &&Step| usize::try_from(step.thread) == Ok(thread);
         let last = steps.iter().rev().find(is_own)?;
+        let goes_on = || run.tape(thread)?.as_ref().map(Tape::is_stopped_in_call);
         match (matches!(last.outcome, ENTERED | LEFT), missing.contains(&thread)) {
-            (true, true) => Some(Error::GoesOn { thread }),
-            (false, false) if !is_cut => Some(Error::EndsInCall { thread }),
+            (true, true) if goes_on() == Some(true) => Some(Error::GoesOn { thread }),
+            (false, false) => Some(Error::EndsInCall { thread }),
             _ => None,
         }
     })

@@ -20,6 +20,7 @@ use crate::records::Extent;
 use crate::run::Shared;
 use crate::tape::{Source, Tape};
 use crate::turns::Place;
+pub(crate) use crate::waiters::Waiters;
 
 /// The word that an atomic is, and its values in a trace.
 pub(crate) struct Name<V> {
@@ -64,7 +65,7 @@ pub(crate) struct Recorder {
     operations: usize,
     /// How many monitors the thread is in, and whether it is in a call.
     monitors: usize,
-    in_call: bool,
+    pub(crate) in_call: bool,
 }
 
 thread_local! {
@@ -362,9 +363,9 @@ pub(crate) fn wake(address: usize, all: bool) {
     with(|recorder| recorder.shared.turns.wake(address, all, at));
 }
 
-/// Whether this thread records.
-pub(crate) fn is_recorded() -> bool {
-    with(|_| ()).is_some()
+/// The thread's number in its run, if this thread records.
+pub(crate) fn thread() -> Option<usize> {
+    with(|recorder| recorder.thread)
 }
 
 /// Whether one thread runs at a time.

@@ -70,7 +70,7 @@ pub enum Error {
         /// The fault, and the step of the published lock there.
         reason: String,
     },
-    /// A thread has not ended, though the lock's machine has completed its call.
+    /// A thread was stopped inside a call that the lock's machine has completed.
     GoesOn {
         /// The thread.
         thread: usize,

@@ -179,6 +179,8 @@ mod tape;
 #[cfg(feature = "record")]
 mod turns;
 #[cfg(feature = "record")]
+mod waiters;
+#[cfg(feature = "record")]
 mod wakes;
 
 pub use atomic::{

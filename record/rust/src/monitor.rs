@@ -3,12 +3,11 @@
 
 use std::fmt;
 use std::ops::{Deref, DerefMut};
-use std::sync::atomic::{AtomicUsize, Ordering};
 use std::sync::{self, LockResult, PoisonError, TryLockError, TryLockResult};
 use std::thread;
 use std::time::Duration;
 
-use crate::current::{self, Held, Sections};
+use crate::current::{self, Held, Sections, Waiters};
 use crate::moves::Outcome;
 
 /// How often a thread that waits looks whether its run was stopped.
@@ -65,7 +64,7 @@ pub struct MutexGuard<'a, T> {
 #[derive(Debug, Default)]
 pub struct Condvar {
     plain: sync::Condvar,
-    notified: AtomicUsize,
+    waiters: Waiters,
 }
 
 impl<T> Mutex<T> {
@@ -179,7 +178,7 @@ impl Condvar {
     /// A condition variable.
     #[must_use]
     pub const fn new() -> Condvar {
-        Condvar { plain: sync::Condvar::new(), notified: AtomicUsize::new(0) }
+        Condvar { plain: sync::Condvar::new(), waiters: Waiters::none() }
     }
 
     /// Leaves the mutex, waits until another thread notifies, and takes the mutex again.
@@ -195,8 +194,8 @@ impl Condvar {
             current::sleep(self.address());
             return mutex.lock();
         }
-        if current::is_recorded() {
-            return mutex.guard(Ok(self.wait_for_real(plain)));
+        if let Some(thread) = current::thread() {
+            return mutex.guard(Ok(self.wait_for_real(plain, thread)));
         }
         mutex.guard(self.plain.wait(plain))
     }
@@ -221,36 +220,35 @@ impl Condvar {
     /// Wakes one of the threads that wait.
     #[track_caller]
     pub fn notify_one(&self) {
-        self.notified.fetch_add(1, Ordering::Relaxed);
         current::wake(self.address(), false);
-        self.plain.notify_one();
+        if self.waiters.notify(false) {
+            self.plain.notify_all(); // each looks whether it is the one
+        } else {
+            self.plain.notify_one();
+        }
     }
 
     /// Wakes the threads that wait.
     #[track_caller]
     pub fn notify_all(&self) {
-        self.notified.fetch_add(1, Ordering::Relaxed);
         current::wake(self.address(), true);
+        self.waiters.notify(true);
         self.plain.notify_all();
     }
 
-    /// Waits, and looks now and then whether the run was stopped. A notification that comes during
-    /// a look is not lost: it was counted.
+    /// Waits until the thread is notified, and looks now and then whether the run was stopped.
     fn wait_for_real<'a, T>(
         &self,
         plain: sync::MutexGuard<'a, Counted<T>>,
+        thread: usize,
     ) -> sync::MutexGuard<'a, Counted<T>> {
-        let before = self.notified.load(Ordering::Relaxed);
-        let mut plain = plain;
-        loop {
+        let (waiter, mut plain) = (self.waiters.add(thread), plain);
+        while !waiter.is_notified() {
             let woken = self.plain.wait_timeout(plain, LOOK);
-            let (again, time) = woken.unwrap_or_else(PoisonError::into_inner);
-            plain = again;
-            if !time.timed_out() || self.notified.load(Ordering::Relaxed) != before {
-                return plain;
-            }
+            plain = woken.unwrap_or_else(PoisonError::into_inner).0;
             current::go_on();
         }
+        plain
     }
 
     fn address(&self) -> usize {

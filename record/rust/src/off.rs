@@ -58,6 +58,37 @@ pub(crate) fn hold() -> Held {
     Held
 }
 
+/// No threads of a run.
+#[derive(Debug, Default)]
+pub(crate) struct Waiters;
+
+/// No thread waits.
+pub(crate) struct Waiter;
+
+impl Waiters {
+    #[inline]
+    pub(crate) const fn none() -> Waiters {
+        Waiters
+    }
+
+    #[inline]
+    pub(crate) fn add(&self, _thread: usize) -> Waiter {
+        Waiter
+    }
+
+    #[inline]
+    pub(crate) fn notify(&self, _all: bool) -> bool {
+        false
+    }
+}
+
+impl Waiter {
+    #[inline]
+    pub(crate) fn is_notified(&self) -> bool {
+        true
+    }
+}
+
 /// An operation.
 pub(crate) struct Turn;
 
@@ -129,8 +160,8 @@ pub(crate) fn sleep(_address: usize) {}
 pub(crate) fn wake(_address: usize, _all: bool) {}
 
 #[inline]
-pub(crate) fn is_recorded() -> bool {
-    false
+pub(crate) fn thread() -> Option<usize> {
+    None
 }
 
 #[inline]

@@ -184,7 +184,7 @@ impl Run {
         if thread >= threads {
             return Err(Error::NoSuchThread { thread, threads });
         }
-        if current::is_recorded() {
+        if current::thread().is_some() {
             return Err(Error::AlreadyRecorded);
         }
         self.0.turns.come(thread)?;
@@ -212,6 +212,9 @@ impl Run {
     /// Writes the log of each thread into a folder, which is made if it is missing, and `run.trace`
     /// if the order is known. Logs that an earlier run left there are removed.
     ///
+    /// Drop each [`Log`] first. Of a thread that still has its own a comment takes the place of its
+    /// moves, and the trace ends before the first of them.
+    ///
     /// # Errors
     ///
     /// A file could not be written or removed.
@@ -220,7 +223,8 @@ impl Run {
     }
 
     /// The trace of the run, if its order is known; else the header alone. The first line is a
-    /// comment with a number, which all texts of the run have.
+    /// comment with a number, which all texts of the run have. It ends before the first move of a
+    /// thread that still has its [`Log`].
     ///
     /// # Errors
     ///
@@ -305,8 +309,8 @@ impl Drop for Log {
     fn drop(&mut self) {
         let ended = self.has_begun && !thread::panicking();
         let own = current::remove().zip(self.shared.tape(self.thread));
-        if let Some((Recorder { mut tape, .. }, mut place)) = own {
-            tape.leave(ended);
+        if let Some((Recorder { mut tape, in_call, .. }, mut place)) = own {
+            tape.leave(ended, in_call);
             *place = Some(tape);
         }
         self.shared.turns.leave(self.thread, ended);

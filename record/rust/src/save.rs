@@ -21,11 +21,11 @@ fn refused(path: &Path, error: io::Error) -> Error {
     Error::Save { path: path.to_owned(), error }
 }
 
-/// Makes the folder, and removes what an earlier run left there. A thread that still keeps its log
-/// there goes on with a file that has no name any more.
-fn clear(folder: &Path) -> Result<(), Error> {
+/// Makes the folder, and removes what an earlier run left there: its trace, and its logs from a
+/// thread on.
+fn clear(folder: &Path, first: usize) -> Result<(), Error> {
     fs::create_dir_all(folder).map_err(|error| refused(folder, error))?;
-    let stale = (0..MOST_THREADS).map(name_of_log).chain([TRACE.to_owned()]);
+    let stale = (first..MOST_THREADS).map(name_of_log).chain([TRACE.to_owned()]);
     for path in stale.map(|name| folder.join(name)) {
         remove(&path).map_err(|error| refused(&path, error))?;
     }
@@ -34,7 +34,7 @@ fn clear(folder: &Path) -> Result<(), Error> {
 
 /// Begins the log of each thread in a folder, where its tape goes on with it.
 pub(crate) fn begin(run: &Shared, folder: &Path) -> Result<(), Error> {
-    clear(folder)?;
+    clear(folder, 0)?;
     for thread in 0..run.header.threads {
         let path = folder.join(name_of_log(thread));
         let mut head = Vec::new();
@@ -47,10 +47,11 @@ pub(crate) fn begin(run: &Shared, folder: &Path) -> Result<(), Error> {
     Ok(())
 }
 
-/// Writes the files of a run, and removes those that an earlier one left.
+/// Writes the files of a run, and removes those that an earlier one left. A thread that still keeps
+/// its log there goes on with a file that has no name any more.
 pub(crate) fn save(run: &Shared, folder: &Path) -> Result<(), Error> {
     let threads = run.header.threads;
-    clear(folder)?;
+    clear(folder, threads)?;
     for thread in 0..threads {
         let path = folder.join(name_of_log(thread));
         write_file(&path, |out| write_log(run, thread, out))
@@ -74,11 +75,26 @@ fn remove(path: &Path) -> io::Result<()> {
     }
 }
 
+/// Writes a file, which gets its name when it is whole. So a full disk, or the end of the process,
+/// leaves a log that was kept under this name.
 fn write_file(
     path: &Path,
     write: impl FnOnce(&mut BufWriter<File>) -> io::Result<()>,
 ) -> io::Result<()> {
-    let mut out = BufWriter::new(File::create(path)?);
+    let mut part = path.as_os_str().to_owned();
+    part.push(".part");
+    let written = write_part(Path::new(&part), write).and_then(|()| fs::rename(&part, path));
+    if written.is_err() {
+        drop(fs::remove_file(&part));
+    }
+    written
+}
+
+fn write_part(
+    part: &Path,
+    write: impl FnOnce(&mut BufWriter<File>) -> io::Result<()>,
+) -> io::Result<()> {
+    let mut out = BufWriter::new(File::create(part)?);
     write(&mut out)?;
     out.flush()
 }
@@ -110,26 +126,33 @@ fn write_log_head(run: &Shared, thread: usize, out: &mut impl Write) -> io::Resu
 
 /// Which threads have ended, in comments after a trace's last move.
 fn write_ends(run: &Shared, out: &mut impl Write) -> io::Result<()> {
-    let stage = run.turns.stage();
-    (0..run.header.threads)
-        .try_for_each(|thread| writeln!(out, "# thread {thread} {}", stage.end_of(thread)))
+    (0..run.header.threads).try_for_each(|thread| match run.tape(thread).as_deref() {
+        Some(Some(_)) => writeln!(out, "# thread {thread} {}", run.turns.stage().end_of(thread)),
+        _ => write_absence(thread, out),
+    })
+}
+
+/// A thread's moves are not known as long as the thread itself has its log.
+fn write_absence(thread: usize, out: &mut impl Write) -> io::Result<()> {
+    writeln!(out, "# thread {thread} still has its log, so its moves are missing here")
 }
 
 /// A thread's log. It has a last line if the thread came to its end, else a comment that says so.
 fn write_log(run: &Shared, thread: usize, out: &mut impl Write) -> io::Result<()> {
     write_log_head(run, thread, out)?;
     let place = run.tape(thread);
-    if let Some(tape) = place.as_deref().and_then(Option::as_ref) {
-        tape.moves().iter().try_for_each(|made| writeln!(out, "{made}"))?;
-        if tape.has_ended() {
-            writeln!(out, "dropped {}", tape.dropped())?;
-        } else if tape.dropped() == 0 && !run.mode.has_order() {
-            writeln!(out, "# thread {thread} has not ended")?;
-        } else {
-            writeln!(out, "# thread {thread} {}", run.turns.stage().end_of(thread))?;
-        }
+    let tape = match place.as_deref() {
+        Some(Some(tape)) => tape,
+        _ => return write_absence(thread, out),
+    };
+    tape.moves().iter().try_for_each(|made| writeln!(out, "{made}"))?;
+    if tape.has_ended() {
+        writeln!(out, "dropped {}", tape.dropped())
+    } else if tape.dropped() == 0 && !run.mode.has_order() {
+        writeln!(out, "# thread {thread} has not ended")
+    } else {
+        writeln!(out, "# thread {thread} {}", run.turns.stage().end_of(thread))
     }
-    Ok(())
 }
 
 /// The moves of all threads in their order, as far as the logs have them.

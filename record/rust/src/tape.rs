@@ -28,6 +28,8 @@ pub(crate) struct Tape {
     kept: Option<Kept>,
     /// Whether the thread came to its end.
     ended: bool,
+    /// Whether it left in the midst of a call.
+    in_call: bool,
 }
 
 /// The fate of a move.
@@ -50,8 +52,8 @@ impl Tape {
     pub(crate) fn with_room(room: usize, polls_written: u32) -> Result<Tape, Error> {
         let moves = touched(room, Move::Call(crate::moves::Call::Acquire))?;
         let sources = touched(room, Location::caller())?;
-        let (last, dropped, polls, kept, ended) = (None, 0, 0, None, false);
-        Ok(Tape { moves, sources, room, dropped, last, polls, polls_written, kept, ended })
+        let (last, dropped, polls, kept, ended, in_call) = (None, 0, 0, None, false, false);
+        Ok(Tape { moves, sources, room, dropped, last, polls, polls_written, kept, ended, in_call })
     }
 
     /// Has each further line written to this file too.
@@ -70,9 +72,10 @@ impl Tape {
         }
     }
 
-    /// The thread adds no more, and came to its end or not.
-    pub(crate) fn leave(&mut self, ended: bool) {
+    /// The thread adds no more, and came to its end or not, in a call or not.
+    pub(crate) fn leave(&mut self, ended: bool, in_call: bool) {
         self.ended = ended;
+        self.in_call = in_call;
         let dropped = self.dropped;
         if ended {
             self.keep(|| format!("dropped {dropped}\n"));
@@ -82,6 +85,12 @@ impl Tape {
 
     pub(crate) fn has_ended(&self) -> bool {
         self.ended
+    }
+
+    /// Whether the thread was stopped in the midst of a call.
+    #[cfg(feature = "check")]
+    pub(crate) fn is_stopped_in_call(&self) -> bool {
+        self.in_call && !self.ended
     }
 
     /// Adds a move. `is_later` if other threads moved since the thread's last one: a section that

@@ -160,6 +160,34 @@ fn one_or_all_are_woken() -> Result<(), Error> {
     Ok(())
 }
 
+/// Two real threads wait, and each notification is for one of them, however long the other waits.
+#[test]
+fn one_real_thread_is_woken() -> Result<(), Error> {
+    for (notifications, due) in [(1, 1), (2, 0)] {
+        for mode in [Mode::Free, Mode::Ordered] {
+            let (waiting, changed) = (Mutex::new(0), Condvar::new());
+            let run = Run::of(Lock::RwSimple, 3).mode(mode).open()?;
+            let ending = run.threads(LONG, |log| {
+                if log.thread() < 2 {
+                    let mut state = waiting.lock().unwrap();
+                    *state += 1;
+                    drop(changed.wait(state).unwrap());
+                } else {
+                    while *waiting.lock().unwrap() < 2 {}
+                    (0..notifications).for_each(|_| changed.notify_one());
+                }
+            })?;
+            let left = match ending {
+                Ending::Complete => 0,
+                Ending::Stopped(left) => left.len(),
+                other => panic!("{other:?}"),
+            };
+            assert_eq!(left, due, "{notifications}");
+        }
+    }
+    Ok(())
+}
+
 /// Thread 0 waits for one condition, and thread 1 notifies another one.
 #[test]
 fn a_notification_is_of_one_condition() -> Result<(), Error> {

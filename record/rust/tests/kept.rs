@@ -6,10 +6,11 @@ mod ticket;
 
 use std::fs;
 use std::path::{Path, PathBuf};
+use std::sync::atomic::Ordering::SeqCst;
 use std::sync::Barrier;
 use std::time::Duration;
 
-use lockreplay_record::{Call, Ending, Error, Lock, Run};
+use lockreplay_record::{Call, Ending, Error, Lock, Mode, Run};
 use ticket::TicketLock;
 
 const LIMIT: Duration = Duration::from_secs(60);
@@ -94,6 +95,30 @@ fn a_run_may_be_saved_where_it_is_kept() -> Result<(), Error> {
     run.save(&kept)?;
     assert!(logs(&kept).iter().all(|log| log.ends_with("\ndropped 0\n")));
     fs::remove_dir_all(kept).expect("nobody uses it");
+    Ok(())
+}
+
+/// Nobody knows the moves of a thread that still has its log.
+#[test]
+fn a_thread_that_still_has_its_log_is_named() -> Result<(), Error> {
+    let saved = folder("early");
+    let run = Run::of(Lock::Ticket, 1).bits(8).mode(Mode::Ordered).open()?;
+    let texts = || -> Result<[String; 2], Error> {
+        run.save(&saved)?;
+        let text = |name| fs::read_to_string(saved.join(name)).expect("it was saved");
+        let texts = ["thread-0.log", "run.trace"].map(text);
+        Ok(texts.map(|text| text.split_once('\n').expect("it has lines").1.to_owned()))
+    };
+    let log = run.enter(0)?;
+    TicketLock::new().next_ticket.fetch_add(1, SeqCst);
+    let head = "lock ticket threads 1 bits 8";
+    let missing = "# thread 0 still has its log, so its moves are missing here\n";
+    assert_eq!(texts()?, [" thread 0", ""].map(|of| format!("{head}{of}\n{missing}")));
+    drop(log);
+    let [made, ended] = ["add next_ticket found 0 left 1\n", "# thread 0 has ended\n"];
+    let log = format!("{head} thread 0\n{made}dropped 0\n");
+    assert_eq!(texts()?, [log, format!("{head}\n0 {made}{ended}")]);
+    fs::remove_dir_all(saved).expect("nobody uses it");
     Ok(())
 }
 

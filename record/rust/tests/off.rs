@@ -7,7 +7,7 @@ use std::sync::atomic::{self, Ordering::SeqCst};
 
 use lockreplay_record::{
     call, note, operation, own_record, switch, AtomicBool, AtomicPtr, AtomicU64, AtomicU8, Call,
-    InCall, Mutex, Outcome, Step, Word,
+    Condvar, InCall, Mutex, Outcome, Step, Word,
 };
 
 #[test]
@@ -17,6 +17,7 @@ fn nothing_takes_room() {
     assert_eq!(size_of::<AtomicBool>(), size_of::<atomic::AtomicBool>());
     assert_eq!(size_of::<AtomicPtr<u8>>(), size_of::<atomic::AtomicPtr<u8>>());
     assert_eq!(size_of::<Mutex<u64>>(), size_of::<std::sync::Mutex<u64>>());
+    assert_eq!(size_of::<Condvar>(), size_of::<std::sync::Condvar>());
     assert_eq!(size_of::<InCall>(), 0);
 }
 

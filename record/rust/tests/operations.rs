@@ -124,13 +124,17 @@ fn values_are_looked_up_before_they_are_left() -> Result<(), Error> {
     Ok(())
 }
 
+/// It is the release of a ticket lock, in whichever direction the tickets are served.
 #[test]
-fn an_increment_of_the_served_ticket_is_two_steps() -> Result<(), Error> {
+fn a_change_of_the_served_ticket_is_two_steps() -> Result<(), Error> {
     let served = AtomicU8::new(255).noted(Word::NowServing);
     let got = moves(Run::of(Lock::Ticket, 1), || {
-        served.fetch_add(1, SeqCst);
+        assert_eq!(served.fetch_add(1, SeqCst), 255);
+        assert_eq!(served.fetch_sub(1, SeqCst), 0);
     })?;
-    assert_eq!(got, ["read now_serving found 255", "write now_serving left 0"]);
+    let up = ["read now_serving found 255", "write now_serving left 0"];
+    let down = ["read now_serving found 0", "write now_serving left 255"];
+    assert_eq!(got, [up, down].concat());
     Ok(())
 }
 
