@@ -14,6 +14,7 @@
 
 #ifdef __cplusplus
 #include <atomic>
+#include <type_traits>
 #endif
 
 #if LR_POINTS

@@ -259,8 +259,8 @@ def test_no_memory(built, mode):
 def test_no_memory_for_a_saved_run(library, tmp_path):
     """A saved run whose choices cannot be kept is not made again."""
     (tmp_path / "refuses.h").write_text(
-        "#include <stdlib.h>\n#define realloc(old, size) "
-        "_Generic(old, lr_way *: NULL, default: realloc(old, size))\n")
+        "#include <stdlib.h>\nstruct lr_way;\n#define realloc(old, size) "
+        "_Generic(old, struct lr_way *: NULL, default: realloc(old, size))\n")
     (tmp_path / "way").write_text("# way 1\n")
     assert compile_c("gcc", SOURCES / "mcs.c", tmp_path / "it", "-DLR_MODE=EXPLORE", "-include",
                      tmp_path / "refuses.h", library=library) == ""
