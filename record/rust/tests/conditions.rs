@@ -163,11 +163,11 @@ fn one_or_all_are_woken() -> Result<(), Error> {
 /// Two real threads wait, and each notification is for one of them, however long the other waits.
 #[test]
 fn one_real_thread_is_woken() -> Result<(), Error> {
-    for (notifications, due) in [(1, 1), (2, 0)] {
+    for (notifications, limit, due) in [(1, LONG, 1), (2, LIMIT, 0)] {
         for mode in [Mode::Free, Mode::Ordered] {
             let (waiting, changed) = (Mutex::new(0), Condvar::new());
             let run = Run::of(Lock::RwSimple, 3).mode(mode).open()?;
-            let ending = run.threads(LONG, |log| {
+            let ending = run.threads(limit, |log| {
                 if log.thread() < 2 {
                     let mut state = waiting.lock().unwrap();
                     *state += 1;
