@@ -188,15 +188,14 @@ def test_a_run_is_played(page):
 
 
 @cases("look", {
-    "another line": ["y", "ArrowRight"], "the last line": ["y", "End"],
-    "another lock": ["o", "[data-why=ticket]"]})
+    "another line": ["y", "ArrowRight"], "the last line": ["y", "End"]})
 def test_back_to_the_change_after_a_look_elsewhere(page, look):
     """Y leads to the change that was played, whatever was looked at since."""
     page.open(f"{LATE_LINK}9")
     page.press("y")
     page.click("[data-play='2']")
     for act in look:
-        (page.click if act.startswith("[") else page.press)(act)
+        page.press(act)
     assert page.js("stop")["lines"] != [12]
     page.press("Escape", "y")
     assert page.js("stop")["lines"] == [12] and page.js("isAtPlayed", 2)
