@@ -162,6 +162,17 @@ def test_words_beside_one_another(library, tmp_path, operation):
         assert (said_by(done)[0] == 2) == is_enough, (apart, done.stdout)
 
 
+def without_later_waits(trace):
+    """The trace with two waits in a row of a thread at most. A later one changes nothing, so it is
+    not looked for: within its preemptions a search may have it in another place, or not at all."""
+    kept, in_a_row = [], {}
+    for line in trace.splitlines():
+        thread = line.split(" ", 1)[0]
+        in_a_row[thread] = in_a_row.get(thread, 0) + 1 if line.endswith(" waits") else 0
+        kept += [line] if in_a_row[thread] <= 2 else []
+    return "\n".join(kept)
+
+
 @pytest.mark.slow
 @pytest.mark.parametrize("counts", [(2, 1, 2), (2, 2, 2), (3, 1, 1), (3, 1, 2)], ids=str)
 @pytest.mark.parametrize("recorder", ["rust"], indirect=True)
@@ -172,7 +183,8 @@ def test_right_lock_in_rust(recorder, tmp_path, example, counts):
     for search in SEARCHES:
         folder = tmp_path / search
         made.append(said_by(recorder.search(counts, folder, example, search))[0])
-        found.append({normal_form(path.read_text()) for path in folder.glob("*.trace")})
+        found.append({normal_form(without_later_waits(path.read_text()))
+                      for path in folder.glob("*.trace")})
     assert found[0] == found[1]
     assert made[1] < made[0]
     assert counts != (3, 1, 2) or tuple(made) == RUNS_IN_RUST[example]
