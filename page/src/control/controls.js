@@ -151,7 +151,7 @@ function files(page) {
   });
   addEventListener('dragover', (event) => {
     const { types } = event.dataTransfer;
-    if (types.includes('Files') || !fieldOf(event)) event.preventDefault();
+    if (!fieldOf(event) || types.includes('Files')) event.preventDefault();
   });
   addEventListener('drop', (event) => {
     const { files } = event.dataTransfer;
