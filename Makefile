@@ -173,11 +173,11 @@ page: $(MODULE)
 
 ## test-page | the page is what its sources build to, and works in two browsers
 test-page: $(PROGRAM) page-built
-	$(PYTEST) $(SPREAD) -m 'not timed' tests/page
+	$(PYTEST) $(SPREAD) -m 'not (timed or planted)' tests/page
 	$(PYTEST) -m timed tests/page
 
 test-page-built: $(PROGRAM) page-built
-	$(PYTEST) $(SPREAD) -m built tests/page
+	$(PYTEST) $(SPREAD) -m 'built and not planted' tests/page
 	$(PYTEST) -m timed tests/page
 
 # The page is what its sources build to.
@@ -194,9 +194,9 @@ test-library: $(LIBRARY) test-needs
 test-traces: $(TRACER) $(PROGRAM) $(LIBRARY) test-needs
 	$(PYTEST) $(SPREAD) -m 'not planted' tests/locktrace tests/record
 
-## test-planted | planted mistakes of recorded locks are noticed as the tables say, right locks not
-test-planted: $(TRACER) $(PROGRAM) $(LIBRARY) test-needs
-	$(PYTEST) $(SPREAD) -m planted tests/record
+## test-planted | planted mistakes of recorded locks and of the page are noticed, right locks not
+test-planted: $(TRACER) $(PROGRAM) $(LIBRARY) $(MODULE) test-needs
+	$(PYTEST) $(SPREAD) -m planted tests/record tests/page
 
 LOCK    :=
 THREADS := 3

@@ -37,6 +37,13 @@ def module():
     return built("module")
 
 
+@pytest.fixture(scope="session")
+def shared(tmp_path_factory):
+    """A folder for files that the first worker of pytest makes for all workers."""
+    base = tmp_path_factory.getbasetemp()
+    return (base.parent if base.name.startswith("popen-gw") else base) / "shared"
+
+
 @pytest.fixture
 def replayer(lockreplay, tmp_path):
     """Runs `lockreplay` in an empty folder; inputs and outputs are bytes."""

@@ -14,7 +14,7 @@ import pytest
 from devices import Terminal, closing, left_pipe, little_memory
 from traces import (ACTION, FAULTY, FAULTY_LINE, GOOD, MISSPELT, OTHER, OTHER_LINE, ROUND,
                     SCHEDULE, WRONG, WRONG_LINE, has)
-from tree import VERSION, cases
+from tree import ROWS, VERSION, cases, ran
 
 CANNOT = "locktrace: cannot write: "
 SHOWN = "2: not a move (BadLine)\n"
@@ -27,6 +27,21 @@ def test_version_and_help(tracer):
     assert (error, status) == ("", 0) and "check" in output and "order" in output
 
 
+def helps():
+    """The lines of each paragraph of tests/rows/help.txt, by its command."""
+    parts = (ROWS / "help.txt").read_text().replace("\n ", " ").split("\n\n")[1:]
+    return {part.partition(":")[0]: part.splitlines() for part in parts}
+
+
+@pytest.mark.parametrize("command", helps())
+def test_help(tracer, command):
+    output, *more = tracer.run(command, "--help")
+    assert more == ["", 0]
+    said, _, rest = output.partition(f"\n\nUsage: locktrace {command} ")
+    words = [" ".join(line.split()) for line in rest.splitlines() if line.startswith("  ")]
+    assert [f"{command}: {said}", *words] == [*helps()[command], "-h, --help Print help"]
+
+
 @pytest.mark.parametrize("words", [
     "", "walk", "check --format xml", "check -j 0", "check -j 65", "check --color red",
     "order --format xml good -o made", "order thread-0.log -o ''", "tour mcs 2 -o ''",
@@ -37,6 +52,10 @@ def test_usage(tracer, words):
     output, error, status = tracer.run(*shlex.split(words))
     assert (output, status) == ("", 2)
     assert error.startswith("error:") if words else error
+
+
+def test_words_that_are_no_text(tracer):
+    assert tracer.run("check", b"\xff") == ("", "locktrace: the words are not UTF-8 text\n", 2)
 
 
 @cases("words, stdin, due", {
@@ -198,18 +217,6 @@ def test_odd_text(tracer, words, text, due):
     assert tracer.run(*words.split(), stdin=stdin, errors="surrogateescape") == due
 
 
-@pytest.mark.parametrize("name, text, tap", [
-    ("a\x1bb", "a\\x1bb", "a\\x1bb"), ("a\nb", "a\\nb", "a\\nb"),
-    ("x # SKIP y\\z", "x # SKIP y\\z", "x \\# SKIP y\\\\z")], ids=ascii)
-def test_odd_name(tracer, name, text, tap):
-    (tracer.folder / name).write_text("# nothing\n")
-    assert tracer.run("check", name) == (
-        f"{text}:2: no header (NoHeader)\n{text}:2: {BEGIN}\n", "", 4)
-    assert tracer.run("check", "--format", "tap", name) == (
-        f"TAP version 13\n1..1\nnot ok 1 - {tap}\n# line 2: no header (NoHeader)\n# {BEGIN}\n",
-        "", 4)
-
-
 ABSENT = "absent: No such file or directory (os error 2)\n"
 FOLDER = ".: Is a directory (os error 21)\n"
 
@@ -243,8 +250,24 @@ def test_long_schedule(tracer):
     assert tracer.run("schedule", stdin=trace) == ("\nlock ticket threads 1\n" + moves, "", 0)
 
 
+@pytest.mark.parametrize("size", [96, 97, 98, 200, 70_000])
+def test_long_header_of_a_trace(tracer, size):
+    said = ("column 23: nothing after a blank, expected the end, or 'bits'" if size == 96
+            else "no header and no move has more than 96 bytes")
+    assert tracer.run("check", stdin="lock ticket threads 2".ljust(size) + "\n") == (
+        f"-:1: not a header (BadHeader)\n-:1: note: {said}\n", "", 4)
+
+
+def test_refused_move_without_its_end(tracer):
+    assert tracer.run("check", stdin="lock mcs threads 2\n0 release") == (
+        "-:2: refused: '0 release', but thread 0 does not hold the lock in that mode (NotHolder)\n"
+        "-:2: note: held by nobody; queue empty\n"
+        "-:2: help: release a lock once, by the thread that took it, in the mode in which it did\n",
+        "", 1)
+
+
 @pytest.mark.parametrize("jobs", [2, 3, 8, 64])
-def test_several_threads(tracer, jobs):
+def test_jobs_keep_the_order(tracer, jobs):
     names = (["good", "wrong", "absent", "other", "faulty", "."] * 9)[:50]
     alone = tracer.run("check", "--summary", *names)
     assert tracer.run("check", "--summary", "-j", jobs, *names) == alone
@@ -309,6 +332,23 @@ def test_folder(tracer, name):
                "not ok 3 - runs/b.trace\n", "not ok 4 - runs/c.trace\n", "ok 5 - good\n")
 
 
+def test_empty_folder(tracer):
+    (tracer.folder / "empty").mkdir()
+    said = "empty: Is a directory (os error 21)\n"
+    assert tracer.run("check", "empty") == (said, "", 3)
+    assert tracer.run("cover", "empty") == ("", said, 3)
+
+
+@cases("names, status, said", {
+    "all is well": (["good", "good"], 0, "All tests successful."),
+    "not all": (["good", "wrong", "faulty"], 1, "Failed tests:  2-3"),
+})
+def test_what_prove_reads(tracer, names, status, said):
+    tracer.write(**{"tap": tracer.run("check", "--format", "tap", *names)[0]})
+    done = ran("prove", "--nocolor", "--exec", "cat", tracer.folder / "tap")
+    assert (done.returncode, said in done.stdout) == (status, True)
+
+
 @pytest.mark.parametrize("when, on_terminal, has_colors", [
     ("auto", True, True), ("auto", False, False), ("never", True, False), ("always", False, True)])
 def test_colors(tracer, when, on_terminal, has_colors):
@@ -333,9 +373,11 @@ def test_little_memory(tracer):
 
 
 def test_progress_on_a_terminal(tracer):
-    text = "lock ticket threads 2\n" + "# a comment\n" * 2_100_000
+    tracer.write(**{"a\tb": "lock ticket threads 2\n" + "# a comment\n" * 2_100_000})
     with Terminal() as terminal:
-        assert tracer.run("check", "-", stdin=text, stderr=terminal.writer)[2] == 0
-        shown = terminal.written()
-    assert b"-: 1000000 lines" in shown and b"-: 2000000 lines" in shown
+        assert tracer.run("check", "a\tb", stderr=terminal.writer)[2] == 0
+        assert terminal.written() == (b"\ra\\tb: 1000000 lines\ra\\tb: 2000000 lines\r\x1b[K")
+    with Terminal() as terminal:
+        assert tracer.run("check", "-q", "a\tb", stderr=terminal.writer)[2] == 0
+        assert terminal.written() == b""
     assert tracer.run("check", "-", stdin="lock ticket threads 2\n") == ("", "", 0)

@@ -15,19 +15,19 @@ from tree import cases
 
 FAILED = "release: failed compare-and-swap"
 ROUND = "{0} acquire\n{0} add\n{0} read\n{0} release\n{0} read\n{0} write\n"
-TICKET = """ticket: 6 of 7 kinds of transition, in 54 moves
-         9  acquire: called
-         9  acquire: took a ticket
-         9  acquire: entered
+TICKET = """ticket: 6 of 7 kinds of transition, in 60 moves
+        10  acquire: called
+        10  acquire: took a ticket
+        10  acquire: entered
          0  acquire: poll before its turn: locktrace find ticket 2 '0 add next_ticket found 1' \
 '0 read now_serving found 0'
-         9  release: called
-         9  release: read the ticket served
-         9  release: served the next ticket
+        10  release: called
+        10  release: read the ticket served
+        10  release: served the next ticket
          2  the counter wrapped around
 """
 MCS = "lock mcs threads 2\n"
-TEXTS = {"ticket": "lock ticket threads 1 bits 2\n" + 9 * ROUND.format(0), "none": MCS,
+TEXTS = {"ticket": "lock ticket threads 1 bits 2\n" + 10 * ROUND.format(0), "none": MCS,
          "refused": MCS + "0 acquire\n0 swap\n",
          "differs": MCS + "0 acquire\n0 write\n0 swap tail found 1\n"}
 ALL_MISSING = "".join(f"locktrace: missing in mcs: {name}\n"
@@ -42,6 +42,7 @@ def program(tracer):
 
 def test_rounds(program):
     assert program.run("cover", "ticket") == (TICKET, "", 0)
+    assert json.loads(program.run("cover", "--format", "json", "ticket")[0])["wraps"] == 2
     output, *more = program.run("cover", "late", "ticket", "late")
     assert more == ["", 0]
     assert output.startswith(TICKET + "mcs: 7 of 16 kinds of transition, in 18 ")
@@ -62,7 +63,7 @@ def test_rounds(program):
                       "differs:4: help: swap the tail by one atomic operation: a load and a "
                       "store let two threads find one value\n", 1),
 })
-def test_status(program, words, begin, error, status):
+def test_required_kinds_and_status(program, words, begin, error, status):
     output, *more = program.run("cover", *words)
     assert more == [error, status]
     assert output.startswith(begin)

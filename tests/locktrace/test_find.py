@@ -103,6 +103,9 @@ NO_FACT = ("not facts of this lock: 'hold T', 'queue T,..', 'T at PHASE' or 'WOR
 # The message for a `not` in the last line.
 OPEN_NOT = "'not' holds up to the next line, and there is none (NoNextLine)\n"
 
+# The message for a comment that begins as a remark and is none.
+NO_REMARK = "not a remark of a sketch: '#! rounds R' (BadRemark)\n"
+
 # Arguments of `space` that name no lock, and the message.
 NO_LOCKS = [
     (["ms", "2"], "'lock ms threads 2': not a header (BadHeader)\n  column 6: 'ms', expected "
@@ -117,7 +120,8 @@ NO_LOCKS = [
 
 @pytest.mark.parametrize("words", [
     "find", "find mcs 2", "find mcs 2 --rounds 0 '0 cas'", "find mcs 2 --rounds 256 '0 cas'",
-    "space mcs", "space mcs 2 --format xml", "space mcs 2 --limit 0", "cover --require release",
+    "space mcs", "space mcs 2 --format xml", "space mcs 2 --limit 0",
+    "space mcs 2 --limit 4000000001", "cover --require release",
     "cover --format tap"])
 def test_usage(tracer, words):
     output, error, status = tracer.run(*shlex.split(words))
@@ -212,6 +216,10 @@ def test_not_before_a_position(tracer):
     "no header": ("# none\n", "-:2: no header (NoHeader)\n"),
     "no rounds": ("#! rounds 0\n",
                   "-:1: not a number of rounds, from 1 to 255, or any (BadRounds)\n"),
+    "an unknown remark": ("#! rond 2\n", f"-:1: {NO_REMARK}"),
+    "a remark without a blank": ("#!rounds 2\n", f"-:1: {NO_REMARK}"),
+    "again after 255 lines": ("lock mcs threads 2\n" + 255 * "* acquire\n" + "again\n",
+                              "-:257: a sketch has at most 255 lines (TooManyLines)\n"),
     "a long line": (f"lock mcs threads 2\n0 cas{92 * ' '}\n",
                     f"-:2: {LINE}\n  no header and no move has more than 96 bytes\n"),
 })
@@ -381,8 +389,10 @@ def test_a_bar_after_again_needs_no_next_line(tracer):
         "locktrace: 'not 3 swap': no run has this line: no such thread (NoSuchThread)\n", 2)
 
 
-def test_an_endless_space(tracer):
-    """Wide counters only grow, so a run is in no cycle that is found within the limit."""
-    assert tracer.run("find", "ticket", "2", "--limit", "50", "again") == (
-        "", "locktrace: not decided: the search stopped at 51 states; in wide words the counts "
-        "have no end, and narrow ones (--bits 2) make the space finite\n", 3)
+@pytest.mark.parametrize("words, states", [
+    ("2 --limit 50 again", 51), ("1 --rounds any --limit 3 '0 release'", 4)])
+def test_an_endless_space(tracer, words, states):
+    """Wide counters only grow, so a search goes on to its limit. Words have at least two bits."""
+    assert tracer.run("find", "ticket", *shlex.split(words)) == (
+        "", f"locktrace: not decided: the search stopped at {states} states; in wide words the "
+        "counts have no end, and narrow ones (--bits 2) make the space finite\n", 3)

@@ -5,8 +5,8 @@ Expected texts are worked out by hand from docs/FORMATS.md and packaging/man/loc
 """
 import pytest
 
-from devices import Terminal, little_memory
-from traces import LOGS, ROUND
+from devices import Terminal, little_memory, short_files
+from traces import GOOD, LOGS, ROUND
 from tree import cases
 
 ORDERED = b"\r\x1b[Kordering 100000 moves\r\x1b[Kwriting 100000 moves\r\x1b[K"
@@ -151,22 +151,6 @@ def test_long_line(tracer, size, before, line, after, error):
     assert order(tracer, HEADER.format("", 0) + TAKEN, text) == ("", error, 4)
 
 
-@pytest.mark.parametrize("size", [96, 97, 98, 200, 70_000])
-def test_long_header_of_a_trace(tracer, size):
-    said = ("column 23: nothing after a blank, expected the end, or 'bits'" if size == 96
-            else "no header and no move has more than 96 bytes")
-    assert tracer.run("check", stdin="lock ticket threads 2".ljust(size) + "\n") == (
-        f"-:1: not a header (BadHeader)\n-:1: note: {said}\n", "", 4)
-
-
-def test_refused_move_without_its_end(tracer):
-    assert tracer.run("check", stdin="lock mcs threads 2\n0 release") == (
-        "-:2: refused: '0 release', but thread 0 does not hold the lock in that mode (NotHolder)\n"
-        "-:2: note: held by nobody; queue empty\n"
-        "-:2: help: release a lock once, by the thread that took it, in the mode in which it did\n",
-        "", 1)
-
-
 def test_order(tracer):
     made = tracer.folder / "made"
     assert tracer.run("order", *LOGS, "-o", "made") == ("", "", 0)
@@ -216,9 +200,18 @@ def test_logs_that_are_named(tracer, files, names, status, begin, end):
     assert (tracer.folder / "made").exists() == (status == 0)
 
 
+def test_log_of_the_last_thread(tracer):
+    logs = {f"{t}.log": log("ticket", t, WHOLE, 64) for t in range(63)}
+    logs["63.log"] = log("ticket", 63, ["read now_serving found 0", *WHOLE], 64)
+    tracer.write(**logs)
+    assert tracer.run("order", *logs, "-o", "made") == ("", STUCK.format(
+        "63.log:2", "'63 read', but thread 63 has no pending call (NoCall)", 0,
+        "held by nobody; queue empty", ""), 1)
+
+
 def test_folder_that_cannot_be_made(tracer):
-    output, error, status = tracer.run("order", *LOGS, "-o", "good/made")
-    assert (output, status) == ("", 3) and error.startswith("locktrace: cannot write: ")
+    assert tracer.run("order", *LOGS, "-o", "good/made") == (
+        "", "locktrace: cannot write good/made: Not a directory (os error 20)\n", 3)
 
 
 def test_ten_million_moves(tracer):
@@ -313,6 +306,23 @@ def test_file_that_no_order_wrote(tracer, name):
     assert [path.name for path in (tracer.folder / "own").iterdir()] == [name]
 
 
+@pytest.mark.parametrize("name", ["run.trace.new", "run-0001.schedule.new", "order.list.new"])
+def test_links_are_not_followed(tracer, name):
+    """A link with the name of a temporary file is replaced, and its target stays as it was."""
+    (tracer.folder / "linked").mkdir()
+    (tracer.folder / "linked" / name).symlink_to(tracer.folder / "good")
+    assert tracer.run("order", *LOGS, "-o", "linked") == ("", "", 0)
+    assert (tracer.folder / "good").read_text() == GOOD
+    assert not any(path.is_symlink() for path in (tracer.folder / "linked").iterdir())
+
+
+def test_write_that_fails(tracer):
+    """Nothing of a trace that cannot be written whole is left, and no list."""
+    assert tracer.run("order", *LOGS, "-o", "short", preexec_fn=short_files(100)) == (
+        "", "locktrace: cannot write short/run.trace: File too large (os error 27)\n", 3)
+    assert list((tracer.folder / "short").iterdir()) == []
+
+
 @pytest.mark.parametrize("moves, said", [(99_998, b""), (100_000, ORDERED)])
 def test_progress_on_a_terminal(tracer, moves, said):
     """From 100,000 moves on the terminal shows the progress, which is cleared at the end."""
@@ -322,5 +332,8 @@ def test_progress_on_a_terminal(tracer, moves, said):
     with Terminal() as terminal:
         output = tracer.run("order", "one.log", "-o", "-", stderr=terminal.writer)[0]
         assert terminal.written() == said
+    with Terminal() as terminal:
+        tracer.run("order", "-q", "one.log", "-o", "-", stderr=terminal.writer)
+        assert terminal.written() == b""
     assert len(output.splitlines()) == moves + 1
     assert not (tracer.folder / "-").exists()

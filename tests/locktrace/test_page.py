@@ -88,7 +88,7 @@ def test_write_that_fails(tracer, file, how, error):
     before = files_in(tracer.folder)
     output, said, status = tracer.run("check", "--page", file, "--from", PAGE, "good", **how)
     assert (output, status) == ("", 3)
-    assert said.startswith("locktrace: cannot write: ") and error in said
+    assert said.startswith(f"locktrace: cannot write {file}: ") and error in said
     assert files_in(tracer.folder) == before
 
 

@@ -59,6 +59,9 @@ def test_counts(tracer, row, counts, _):
                                    '{"lock":"rw-fifo","threads":2,"rounds":"any","bits":9,'
                                    '"states":27136,"transitions":66560,"depth":2051,'
                                    '"dead_ends":0}\n'),
+    "the greatest limit": ("ticket 1 --limit 4000000000",
+                           "ticket, 1 thread with 1 round: 7 states, 6 transitions, "
+                           f"6 moves to the farthest state; {ENDS}\n"),
     "a drawing": ("ticket 1 --format dot", TICKET_DRAWN),
 })
 def test_format(tracer, words, due):
@@ -80,6 +83,13 @@ def graph_of(text):
     for start, end, thread, word in edges:
         graph[int(start)][int(thread), word] = int(end)
     return graph
+
+
+def test_labels(tracer):
+    output = tracer.run("space", "ticket", "2", "--format", "dot")[0]
+    for phases, begun in ("0 TakeTicket, 1 Idle", "1, 0"), ("0 Idle, 1 TakeTicket", "0, 1"):
+        label = f"next_ticket = 0, now_serving = 0\\n{phases}\\nrounds begun: {begun}"
+        assert f'[label="{label}"]\n' in output
 
 
 @pytest.mark.parametrize("rounds", [1, search_rows.ANY])

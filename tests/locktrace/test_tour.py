@@ -38,7 +38,7 @@ lock ticket threads 1
 """
 COUNTS = re.compile(r".*: ([\d,]+) transitions, ([\d,]+) schedules, ([\d,]+) moves\n")
 LIST = "tour.list"
-CANNOT = "locktrace: cannot write: "
+CANNOT = "locktrace: cannot write{}\n"
 
 
 def files_in(folder):
@@ -144,19 +144,30 @@ def test_link_in_the_place_of_a_schedule(tracer):
     "no folder is named": ("ticket 1", 2, "error:"),
     "no lock": ("tickets 1 -o none", 2,
                 "locktrace: 'lock tickets threads 1': not a header (BadHeader)\n"),
-    "a folder in a file": ("ticket 1 -o good/tour", 3, CANNOT),
-    "a folder that takes nothing": ("ticket 1 -o /proc", 3, CANNOT),
+    "a folder in a file": ("ticket 1 -o good/tour", 3,
+                           CANNOT.format(" good/tour: Not a directory (os error 20)")),
+    "a folder that takes nothing": ("ticket 1 -o /proc", 3, CANNOT.format(
+        " /proc/0001.schedule.new: No such file or directory (os error 2)")),
 })
 def test_failure(tracer, words, status, said):
     output, error, found = tracer.run("tour", *words.split())
     assert (output, found) == ("", status) and error.startswith(said)
 
 
+def test_list_that_cannot_be_read(tracer):
+    (tracer.folder / "own" / LIST).mkdir(parents=True)
+    assert tracer.run("tour", "ticket", "1", "-o", "own") == (
+        "", "locktrace: cannot read own/tour.list: Is a directory (os error 21)\n", 3)
+
+
 def test_write_that_fails(tracer):
     """A tour fails if its schedule or its output does. The second failure leaves the files."""
-    words = ["tour", "ticket", "1", "-o", "short"]
+    words, left = ["tour", "ticket", "1", "-o", "short"], []
     with open("/dev/full", "w", encoding="utf-8") as full:
-        for how in ({"preexec_fn": short_files(100)}, {"stdout": full}):
-            output, error, status = tracer.run(*words, **how)
-            assert (output, status) == ("", 3) and error.startswith(CANNOT)
+        for how, said in [({"preexec_fn": short_files(100)},
+                           " short/0001.schedule: File too large (os error 27)"),
+                          ({"stdout": full}, ": No space left on device (os error 28)")]:
+            assert tracer.run(*words, **how) == ("", CANNOT.format(said), 3)
+            left.append(len(files_in(tracer.folder / "short")))
+    assert left == [0, 2]
     assert files_in(tracer.folder / "short") == {"0001.schedule": TICKET, LIST: "0001.schedule\n"}

@@ -97,6 +97,14 @@ def test_run(tracer, lockreplay, lock, change):
         assert (refused.stdout, refused.returncode) == ("fault line 2 BadHeader\n", 1)
 
 
+def test_four_threads_are_the_most(tracer):
+    """Each of four threads has one call to begin with. A row has five threads."""
+    output, *more = tracer.run("why", "mcs", "4", "--limit", "1")
+    assert more == ["", 3]
+    assert output.startswith("mcs, 4 threads with 2 rounds each\nas it is: not decided: the search "
+                             "stopped at 5 states\n")
+
+
 @pytest.mark.parametrize("lock", CHANGES)
 def test_what_the_page_has(tracer, lock):
     kept = (TOP / "page" / "why" / f"{lock}.txt").read_text()

@@ -6,7 +6,7 @@ from pathlib import Path
 import pytest
 
 from installs import LARGE, Tree, make
-from recorders import folder_of, once
+from recorders import once
 from tree import TOP, VERSION, output
 
 
@@ -20,12 +20,6 @@ def pytest_collection_modifyitems(items):
 def only_root():
     if os.geteuid() != 0:
         pytest.fail("only root may run this: it makes Debian roots", pytrace=False)
-
-
-@pytest.fixture(scope="session")
-def shared(tmp_path_factory):
-    """A folder that all workers of pytest share."""
-    return folder_of(tmp_path_factory.getbasetemp()) / "package"
 
 
 @pytest.fixture

@@ -134,7 +134,7 @@ class Shell:
         self.process, self.terminal = pty.fork()
         if self.process == 0:
             os.chdir(folder)
-            os.execvpe(words[0], words, environment(tree, folder))
+            os.execvpe(words[0], words, variables(tree, folder))
         for order in told.replace("TREE", tree).strip().splitlines():
             self.type(order.strip() + "\r")
         self.type("echo begun > begun\r")
@@ -165,7 +165,7 @@ class Shell:
         os.close(self.terminal)
 
 
-def environment(tree, folder):
+def variables(tree, folder):
     return {"HOME": str(folder), "XDG_CONFIG_HOME": str(folder), "TERM": "dumb", "LANG": "C.UTF-8",
             "PATH": f"{tree}/bin:/usr/bin:/bin", "XDG_DATA_DIRS": f"{tree}/share:/usr/share"}
 

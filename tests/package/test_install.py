@@ -9,7 +9,7 @@ from pathlib import Path
 import pytest
 
 from installs import MANUALS, make
-from tree import BUILT, TOP, VERSION, output
+from tree import BUILT, TOP, VERSION, built, output
 
 LICENCE = "SPDX-License-Identifier: Apache-2.0 OR MIT"
 # The command that builds each part.
@@ -86,6 +86,7 @@ def test_licences(installed):
 def test_missing_part(tmp_path, part, is_empty):
     """If a part is missing or empty, install.sh names it and installs nothing."""
     copy, root = tmp_path / "copy", tmp_path / "nothing"
+    assert all(built(name).is_file() for name in ("lockreplay", "locktrace", "library"))
     for pattern in [*DOCUMENTS.split(), "packaging/**/*", *BUILDS]:
         for file in filter(Path.is_file, TOP.glob(pattern)):
             (copy / file.relative_to(TOP)).parent.mkdir(parents=True, exist_ok=True)

@@ -5,7 +5,7 @@ import shutil
 import pytest
 
 from installs import make
-from tree import BUILT, TOP, VERSION, environment, output
+from tree import TOP, VERSION, built, environment, output
 
 
 @pytest.fixture
@@ -50,8 +50,8 @@ class Release:
     def __init__(self, folder):
         self.tree = folder
         listed = output("git", "ls-files", "-co", "--exclude-standard", cwd=TOP).splitlines()
-        built = [BUILT[name][0] for name in ("lockreplay", "locktrace", "library")]
-        for name in [*filter(lambda name: (TOP / name).is_file(), listed), *built]:
+        programs = [built(name).relative_to(TOP) for name in ("lockreplay", "locktrace", "library")]
+        for name in [*filter(lambda name: (TOP / name).is_file(), listed), *programs]:
             (folder / name).parent.mkdir(parents=True, exist_ok=True)
             shutil.copy(TOP / name, folder / name)
         log = folder / "CHANGELOG.md"

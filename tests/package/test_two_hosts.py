@@ -37,8 +37,7 @@ SSH = ("ssh -F none -i {}/key -o StrictHostKeyChecking=no -o UserKnownHostsFile=
 
 class Host:
     def __init__(self, folder):
-        with socket.socket() as asked:
-            asked.bind(("127.0.0.1", 0))
+        with socket.create_server(("127.0.0.1", 0)) as asked:
             self.port = asked.getsockname()[1]
         (folder / str(self.port)).mkdir()
         (folder / f"{self.port}.server").write_text(SERVER.format(port=self.port, folder=folder))

@@ -278,12 +278,6 @@ static void make_points(unsigned thread, unsigned count)
 
 int main(void)
 {
-    (void)orders, (void)make_notes, (void)twice, (void)start, (void)keeps_its_turn,
-        (void)waits_for_ever, (void)polls_for_ever;
-    (void)wakes_one, (void)polls_without_a_note, (void)signals_nothing, (void)wakes;
-    (void)make_points, (void)comes, (void)wakes_for_nothing;
-    (void)wakes_one_for_nothing, (void)comes_and_goes, (void)interrupts;
-    (void)switches_for_ever, (void)opens_after_polls;
     run = lr_open("mcs", 2, 64, 8000, 1, NULL);
     BODY;
     return 0;

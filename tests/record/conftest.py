@@ -3,14 +3,8 @@ import re
 
 import pytest
 
-from recorders import RECORDERS, Judge, folder_of, once
-from tree import ran
-
-
-@pytest.fixture(scope="session")
-def shared(tmp_path_factory):
-    """A folder for files that the first worker of pytest builds for all workers."""
-    return folder_of(tmp_path_factory.getbasetemp()) / "recorders"
+from recorders import HERE, RECORDERS, SOURCES, Judge, compile_c, once
+from tree import output, ran
 
 
 @pytest.fixture(scope="session")
@@ -21,6 +15,41 @@ def recorder(request, shared, library, locktrace):
 @pytest.fixture(scope="session")
 def judge(locktrace, lockreplay):
     return Judge(locktrace, lockreplay)
+
+
+@pytest.fixture
+def built(tmp_path, library):
+    """Builds a source in a mode, with the library if the mode checks runs."""
+    def build(source, mode, *flags, compiler="gcc", standard="17"):
+        linked = library if mode == "EXPLORE" or "-DLR_CHECK" in flags else None
+        assert compile_c(compiler, source, tmp_path / "it", f"-DLR_MODE={mode}", *flags,
+                         library=linked, standard=standard) == ""
+        return tmp_path / "it"
+    return build
+
+
+@pytest.fixture
+def noting(built):
+    """Builds a program whose rounds are these notes of a lock."""
+    return lambda lock, notes, *flags, mode="EXPLORE", compiler="gcc": built(
+        HERE / "notes.c", mode, f'-DLOCK="{lock}"', f"-DNOTES={notes}", *flags, compiler=compiler)
+
+
+@pytest.fixture
+def ended(built, tmp_path):
+    """Builds the lock of endings.c with a BODY: the program, and a folder for its logs."""
+    return lambda mode, body, *flags: (
+        built(HERE / "endings.c", mode, f"-DBODY={body}", *flags), tmp_path / "logs")
+
+
+@pytest.fixture
+def refusing(tmp_path):
+    """The flags by which a call that is defined so is refused, after these lines."""
+    def flags(define, *lines):
+        (tmp_path / "refuses.h").write_text(
+            "\n".join(["#include <stdlib.h>", *lines, f"#define {define}\n"]))
+        return ["-include", tmp_path / "refuses.h"]
+    return flags
 
 
 @pytest.fixture
@@ -37,12 +66,16 @@ def ordered(locktrace):
 
 
 @pytest.fixture
-def tour(shared, locktrace):
-    """Writes a tour of a lock for three threads with one round each, and returns its folder."""
-    def made(lock):
-        folder = shared / f"tour-{lock}"
-        once(folder.with_suffix(".made"), lambda: ran(
-            locktrace, "tour", lock.replace("_", "-"), "3", "-o", folder))
+def tour(shared, locktrace, pytestconfig):
+    """Writes a tour of an example's lock once, by the options of the tests: its folder."""
+    threads, rounds = pytestconfig.getoption("threads"), pytestconfig.getoption("rounds")
+
+    def made(example):
+        text = (SOURCES / f"{example}.c").read_text()
+        lock = re.search(r'^#define LOCK "(.*)"', text, re.MULTILINE)[1]
+        folder = shared / f"tour-{lock}-{threads}-{rounds}"
+        once(folder.with_suffix(".made"), lambda: output(
+            locktrace, "tour", lock, threads, "--rounds", rounds, "-o", folder))
         return folder
     return made
 
@@ -52,9 +85,8 @@ def pytest_sessionfinish(session):
     reporter = session.config.pluginmanager.get_plugin("terminalreporter")
     if reporter is None or not session.config.getoption("write_planted"):
         return
-    import planted_table
-    from test_planted import MISTAKES, MODES
+    import planted
     found = {tuple(value[:3]): value[3] for reports in reporter.stats.values()
              for report in reports for name, value in getattr(report, "user_properties", [])
              if name == "planted"}
-    planted_table.write(MISTAKES, found, MODES)
+    planted.write(found)

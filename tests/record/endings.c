@@ -3,6 +3,7 @@
 #include <signal.h>
 
 #include "ticket.h"
+#include "main.h"
 
 static void reset(void) { next_ticket = now_serving = 0; }
 
@@ -14,8 +15,4 @@ static void one_round(unsigned thread, unsigned round)
     release();
 }
 
-int main(int count, char **words)
-{
-    const lr_driver driver = {"ticket", 8, reset, one_round, NULL};
-    return lr_main(&driver, count, words);
-}
+MAIN("ticket", 8, reset)

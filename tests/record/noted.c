@@ -7,15 +7,12 @@
 #include <stdatomic.h>
 #include <stddef.h>
 
-#include "../../record/lockreplay_record.h"
+#include "main.h"
 
 typedef struct record {
     _Atomic(struct record *) next;
     _Atomic unsigned locked;
 } record;
-#ifdef POOL
-#include "pool.h"
-#endif
 
 static _Atomic(record *) tail;
 
@@ -53,36 +50,6 @@ static void release(record *own)
     lr_store(&next->locked, 0, LR_LOCKED);
 }
 
-static void reset(void)
-{
-    tail = NULL;
-#ifdef POOL
-    fill();
-#endif
-}
+#include "rounds.h"
 
-static void one_round(unsigned thread, unsigned round)
-{
-#ifdef SIDE_BY_SIDE
-    static record records[2][4];
-    record *own = &records[round % 2][thread];
-#elif defined POOL
-    record *own = take();
-#else
-    record on_the_stack = {NULL, 0}, *own = &on_the_stack;
-#endif
-    (void)thread, (void)round;
-    acquire(own);
-    LR_SWITCH();
-    release(own);
-#ifdef POOL
-    give_back(own);
-    LR_SWITCH();
-#endif
-}
-
-int main(int count, char **words)
-{
-    const lr_driver driver = {"mcs", 64, reset, one_round, NULL};
-    return lr_main(&driver, count, words);
-}
+MAIN("mcs", 64, reset)

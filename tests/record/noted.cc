@@ -6,7 +6,7 @@
 #include <type_traits>
 #include <utility>
 
-#include "../../record/lockreplay_record.h"
+#include "main.h"
 
 namespace {
 
@@ -35,9 +35,6 @@ struct record {
     lr::noted<record *, LR_NEXT> next{nullptr};
     lr::noted<bool, LR_LOCKED> locked{false};
 };
-#ifdef POOL
-#include "pool.h"
-#endif
 
 lr::noted<record *, LR_TAIL> tail{nullptr};
 
@@ -73,38 +70,8 @@ void release(record *own)
     next->locked.store(false);
 }
 
-void reset()
-{
-    tail.store(nullptr);
-#ifdef POOL
-    fill();
-#endif
-}
-
-void one_round(unsigned thread, unsigned round)
-{
-#ifdef SIDE_BY_SIDE
-    static record records[2][4];
-    record *own = &records[round % 2][thread];
-#elif defined POOL
-    record *own = take();
-#else
-    record on_the_stack, *own = &on_the_stack;
-#endif
-    (void)thread, (void)round;
-    acquire(own);
-    LR_SWITCH();
-    release(own);
-#ifdef POOL
-    give_back(own);
-    LR_SWITCH();
-#endif
-}
+#include "rounds.h"
 
 } // namespace
 
-int main(int count, char **words)
-{
-    const lr_driver driver = {"mcs", 64, reset, one_round, nullptr};
-    return lr_main(&driver, count, words);
-}
+MAIN("mcs", 64, reset)

@@ -1,5 +1,19 @@
-/* Two threads, one after the other, note what a test tries: NOTES of a lock, LOCK. */
-#include "../../record/lockreplay_record.h"
+/* Two threads, one after the other, note what a test tries: NOTES of a lock, LOCK. RESET, if it is
+   defined, makes the lock new before each of the `runs`. */
+#include <stdio.h>
+
+#include "main.h"
+
+#ifdef RESET
+static int runs;
+static void reset(void)
+{
+    runs++;
+    RESET;
+}
+#else
+#define reset NULL
+#endif
 
 static void one_round(unsigned thread, unsigned round)
 {
@@ -8,8 +22,4 @@ static void one_round(unsigned thread, unsigned round)
     (void)thread;
 }
 
-int main(int count, char **words)
-{
-    const lr_driver driver = {LOCK, 64, NULL, one_round, NULL};
-    return lr_main(&driver, count, words);
-}
+MAIN(LOCK, 64, reset)

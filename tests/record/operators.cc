@@ -16,7 +16,7 @@ template <> struct atomic<flaky> {
 };
 } // namespace std
 
-#include "../../record/lockreplay_record.h"
+#include "main.h"
 
 static const std::memory_order relaxed = std::memory_order_relaxed;
 static const std::memory_order acq_rel = std::memory_order_acq_rel;
@@ -41,8 +41,4 @@ static void one_round(unsigned, unsigned)
     next.compare_exchange_weak(due, due, relaxed, relaxed);
 }
 
-int main(int count, char **words)
-{
-    const lr_driver driver = {"mcs", 64, nullptr, one_round, nullptr};
-    return lr_main(&driver, count, words);
-}
+MAIN("mcs", 64, nullptr)

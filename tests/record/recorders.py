@@ -11,12 +11,18 @@ from pathlib import Path
 from mistakes import IN_RUST
 from tree import EXAMPLES, TOP, environment, output, ran
 
+HERE = Path(__file__).parent
 SOURCES = EXAMPLES / "recording"
 WARNINGS = ["-Wall", "-Wextra", "-Wpedantic", "-Werror"]
 COMPILERS = ["gcc", "g++", "clang", "clang++"]
 IN_C_PLUS_PLUS = ["rw_simple", "rw_fifo"]
 STANDARDS = ["14", "17", "20"]  # of C++
 CHECKED = ["FOLLOW", "EXPLORE"]  # modes in which a program checks its runs
+# A schedule in which the first of two threads takes an MCS lock.
+HEAD, IN = "lock mcs threads 2\n", "0 acquire\n0 write\n0 swap\n"
+# What a program says after a crash, before the folder of its logs.
+KEPT = ("lockreplay_record: the program ended before its run was saved: "
+        "its moves until then are in the folder ")
 
 
 def once(path, make):
@@ -30,14 +36,19 @@ def once(path, make):
     return path
 
 
+def apply(patch, folder):
+    """Applies a patch to the files in a folder, which may lie in a repository."""
+    subprocess.run(["git", "apply", patch], cwd=folder, check=True,
+                   env=environment(GIT_CEILING_DIRECTORIES=str(folder.parent)))
+
+
 def plant(patch, folder):
     """Copies the files that a patch changes, applies the patch, and returns their paths."""
     names = re.findall(r"^--- a/(\S+)", patch.read_text(), re.MULTILINE)
     for name in names:
         (folder / name).parent.mkdir(parents=True, exist_ok=True)
         shutil.copy(TOP / name, folder / name)
-    subprocess.run(["git", "apply", patch], cwd=folder, check=True,
-                   env=environment(GIT_CEILING_DIRECTORIES=str(folder.parent)))
+    apply(patch, folder)
     return [folder / name for name in names]
 
 
@@ -213,8 +224,3 @@ def schedule_of(trace):
 def words_of(text):
     """The first two words of each move of a text."""
     return [" ".join(line.split()[:2]) for line in text.splitlines() if line[:1].isdigit()]
-
-
-def folder_of(base):
-    """The folder that all workers share, from the folder of one worker."""
-    return base.parent if re.match(r"popen-gw\d+$", base.name) else Path(base)

@@ -4,10 +4,8 @@ import signal
 
 import pytest
 
-from recorders import CHECKED, compile_c
+from recorders import HERE, compile_c
 from tree import TOP, ran
-
-from test_modes import HERE
 
 pytestmark = pytest.mark.slow
 
@@ -17,22 +15,12 @@ BETWEEN = ("static _Atomic int word; if (!thread) atomic_store(&word, 1), atomic
            "else if (atomic_load(&word)) abort()")
 
 
-@pytest.fixture
-def built(tmp_path, library):
-    """Builds a driver whose rounds are these notes, and returns the program."""
-    def build(notes, *flags):
-        assert compile_c("gcc", HERE / "notes.c", tmp_path / "it", "-DLR_MODE=EXPLORE",
-                         '-DLOCK="ticket"', f"-DNOTES={notes}", *flags, library=library) == ""
-        return tmp_path / "it"
-    return build
-
-
 @pytest.mark.parametrize("notes, threads, way", [
     # Thread 0 begins, goes on at its first store, and not at the second; thread 1 then goes on.
     (BETWEEN, 2, "# way 0 0 1 1\n"), ("abort()", 1, "# way\n")], ids=["preempted", "no choice"])
-def test_crash_again(built, tmp_path, notes, threads, way):
+def test_crash_again(noting, tmp_path, notes, threads, way):
     """The trace of a run that crashed has its choices, by which it crashes again."""
-    program = built(notes)
+    program = noting("ticket", notes)
     assert ran(program, threads, 1, 1, tmp_path / "logs").returncode == -signal.SIGABRT
     text = (tmp_path / "logs" / "run.trace").read_text()
     assert text.endswith(f"\n{way}# the program ended before its run was saved\n"), text
@@ -41,11 +29,11 @@ def test_crash_again(built, tmp_path, notes, threads, way):
 
 
 @pytest.mark.parametrize("stores, is_kept", [(6, True), (7, True), (8, False)])
-def test_room_for_the_choices_of_a_crash(built, tmp_path, stores, is_kept):
+def test_room_for_the_choices_of_a_crash(noting, tmp_path, stores, is_kept):
     """There is room for a choice with each of four moves of two threads. One choice comes before
     the first store, and one at each. Half a way would make another run, so there is none."""
-    program = built(f"static _Atomic int word; int left = {stores}; "
-                    "do atomic_store(&word, left); while (--left); abort()", "-DLR_MOVES=2")
+    program = noting("ticket", f"static _Atomic int word; int left = {stores}; "
+                     "do atomic_store(&word, left); while (--left); abort()", "-DLR_MOVES=2")
     assert ran(program, 2, 1, 0, tmp_path / "logs").returncode == -signal.SIGABRT
     trace = tmp_path / "logs" / "run.trace"
     assert (f"\n# way{' 0' * (stores + 1)}\n" in trace.read_text()) == is_kept
@@ -58,32 +46,29 @@ def test_room_for_the_choices_of_a_crash(built, tmp_path, stores, is_kept):
 @pytest.mark.parametrize("text", [
     "", "lock ticket threads 2\n", "# ways 0\n", "# way 0 64\n", "# way 0 -1\n", "# way 0 one\n",
     "# way 0 1x\n", "# way 0\n# way 18446744073709551616\n"])
-def test_no_way(built, tmp_path, text):
+def test_no_way(noting, tmp_path, text):
     """A file without choices, or with one of a thread that no run has, is not made again."""
     (tmp_path / "it.trace").write_text(text)
-    done = ran(built("(void)0"), 2, 1, "again", "it.trace", cwd=tmp_path)
+    done = ran(noting("ticket", "(void)0"), 2, 1, "again", "it.trace", cwd=tmp_path)
     assert done.stderr == f"lockreplay_record: it.trace: {NO_WAY}\n"
     assert (done.stdout, done.returncode) == ("", 3)
 
 
-def test_choice_of_a_thread_that_cannot_go_on(built, tmp_path):
+def test_choice_of_a_thread_that_cannot_go_on(noting, tmp_path):
     """The run of a way of another driver is refused."""
     (tmp_path / "it.trace").write_text("# line 1 is the way 1\n# way 63\n# turns 9\n")
-    done = ran(built("(void)0"), 2, 1, "again", "it.trace", cwd=tmp_path)
+    done = ran(noting("ticket", "(void)0"), 2, 1, "again", "it.trace", cwd=tmp_path)
     assert done.stdout == "the driver does not do the same after the same turns\n"
     assert (done.stderr, done.returncode) == ("", 1)
 
 
 @pytest.mark.parametrize("mode, most", [("EXPLORE", 1000), ("SEED", 20000)])
 @pytest.mark.parametrize("less, status", [(1, 0), (0, 1)])
-def test_operations_without_notes(tmp_path, library, mode, most, less, status):
+def test_operations_without_notes(noting, tmp_path, mode, most, less, status):
     """So many turns without a note are a hang. One turn begins the run, and each store has one."""
     stores = (f"static _Atomic int word; int left = {most - less}; "
               "do atomic_store(&word, left); while (--left)")
-    assert compile_c("gcc", HERE / "notes.c", tmp_path / "it", f"-DLR_MODE={mode}",
-                     '-DLOCK="ticket"', f"-DNOTES={stores}",
-                     library=library if mode in CHECKED else None) == ""
-    done = ran(tmp_path / "it", 1, 1, 0, tmp_path / "logs")
+    done = ran(noting("ticket", stores, mode=mode), 1, 1, 0, tmp_path / "logs")
     said = "the run hangs: thread 0 has noted nothing\n"
     assert (said in done.stdout + done.stderr, done.returncode) == (status == 1, status)
 
@@ -108,38 +93,29 @@ int main(int count, char **words)
 
 
 @pytest.mark.parametrize("flags", [[], ["-DLR_REDUCE=0"]], ids=str)
-def test_memory_of_a_search(tmp_path, library, flags):
+def test_memory_of_a_search(built, tmp_path, flags):
     """A search gives back all memory, also if it ends early."""
     (tmp_path / "it.c").write_text(SEARCHES)
-    assert compile_c("gcc", tmp_path / "it.c", tmp_path / "it", "-DLR_MODE=EXPLORE", *flags,
-                     "-fsanitize=address", library=library) == ""
-    done = ran(tmp_path / "it", tmp_path / "logs", tmp_path / "logs" / "run.trace")
+    program = built(tmp_path / "it.c", "EXPLORE", *flags, "-fsanitize=address")
+    done = ran(program, tmp_path / "logs", tmp_path / "logs" / "run.trace")
     assert (done.stdout, done.stderr, done.returncode) == ("", "", 0)
 
 
 @pytest.mark.parametrize("mode", ["VALUES", "SEED", "EXPLORE"])
-def test_notes_of_an_earlier_run(tmp_path, library, mode):
+def test_notes_of_an_earlier_run(noting, tmp_path, mode):
     """Notes that a killed run left would become logs in place of the later run's."""
-    assert compile_c("gcc", HERE / "notes.c", tmp_path / "it", f"-DLR_MODE={mode}",
-                     '-DLOCK="ticket"', "-DNOTES=(void)0",
-                     library=library if mode in CHECKED else None) == ""
     (tmp_path / "run.notes").write_text("of an earlier run\n")
-    assert ran(tmp_path / "it", 1, 1, 1, tmp_path).returncode == 0
+    assert ran(noting("ticket", "(void)0", mode=mode), 1, 1, 1, tmp_path).returncode == 0
     assert not (tmp_path / "run.notes").exists()
 
 
-# Refuses memory to the check alone.
-REFUSES = """#include <stdlib.h>
-#define realloc(old, size) _Generic(old, unsigned char *: NULL, default: realloc(old, size))
-"""
-
-
-def test_no_memory_for_the_check(tmp_path):
-    """A run that cannot be checked is neither right nor wrong."""
-    (tmp_path / "refuses.h").write_text(REFUSES)
-    assert compile_c("gcc", HERE / "notes.c", tmp_path / "it", "-DLR_MODE=EXPLORE", "-include",
-                     tmp_path / "refuses.h", '-DLOCK="ticket"', "-DNOTES=(void)0",
-                     TOP / "record" / "locktrace.c") == ""
+def test_no_memory_for_the_check(refusing, tmp_path):
+    """A run that cannot be checked is neither right nor wrong. Memory is refused to the check
+    alone."""
+    refuses = refusing("realloc(old, size) "
+                       "_Generic(old, unsigned char *: NULL, default: realloc(old, size))")
+    assert compile_c("gcc", HERE / "notes.c", tmp_path / "it", "-DLR_MODE=EXPLORE", *refuses,
+                     '-DLOCK="ticket"', "-DNOTES=(void)0", TOP / "record" / "locktrace.c") == ""
     done = ran(tmp_path / "it", 1, 1, 1, tmp_path / "logs")
     assert done.stdout.splitlines()[1] == "no memory for the check", done.stdout
     assert (done.stderr, done.returncode) == ("", 3)

@@ -5,17 +5,15 @@ A program that knows every line checks the header's output. The tests also build
 docs/GUIDE.md, and run the Rust crate's own tests, its documentation and clippy.
 """
 import re
-from pathlib import Path
 
 import pytest
 
-from recorders import (COMPILERS, IN_C_PLUS_PLUS, RECORDERS, SOURCES, STANDARDS, WARNINGS,
+from recorders import (COMPILERS, HERE, IN_C_PLUS_PLUS, RECORDERS, SOURCES, STANDARDS, WARNINGS,
                        compile_c, language)
 from tree import TOP, output, ran
 
 pytestmark = pytest.mark.slow
 
-HERE = Path(__file__).parent
 GUIDE = (TOP / "docs" / "GUIDE.md").read_text()
 SANITIZERS = ["address,undefined", "thread"]
 # The argument of each macro that a program evaluates when the header has no mode.
@@ -30,9 +28,8 @@ BUILDS = [(compiler, example) for compiler in COMPILERS
 
 @pytest.mark.parametrize("mode", ["OFF", "VALUES", "SEED"])
 @pytest.mark.parametrize("compiler, example", BUILDS)
-def test_build(tmp_path, compiler, example, mode):
-    source = SOURCES / f"{example}.c"
-    assert compile_c(compiler, source, tmp_path / "program", f"-DLR_MODE={mode}") == ""
+def test_build(built, compiler, example, mode):
+    assert built(SOURCES / f"{example}.c", mode, compiler=compiler).is_file()
 
 
 @pytest.mark.parametrize("mode", OPTIONS)
@@ -47,12 +44,11 @@ def test_compiles(compiler, example, standard, mode):
 @pytest.mark.parametrize("sanitizer", SANITIZERS)
 @pytest.mark.parametrize("mode", ["VALUES", "SEED"])
 @pytest.mark.parametrize("compiler, example", [it for it in BUILDS if it[0] in ("gcc", "g++")])
-def test_sanitizer(tmp_path, compiler, example, mode, sanitizer):
+def test_sanitizer(built, tmp_path, compiler, example, mode, sanitizer):
     """No sanitizer finds a fault. Optimizations are off: they would remove code that a sanitizer
     could check, and take ten times as long to compile."""
-    program = tmp_path / "program"
-    assert compile_c(compiler, SOURCES / f"{example}.c", program, f"-DLR_MODE={mode}", "-g", "-O0",
-                     f"-fsanitize={sanitizer}") == ""
+    program = built(SOURCES / f"{example}.c", mode, "-g", "-O0", f"-fsanitize={sanitizer}",
+                    compiler=compiler)
     assert output(program, 3, 200, 1, tmp_path, 60) == ""
 
 
@@ -214,27 +210,16 @@ def test_manual(library, tmp_path, compiler, mode, words, said):
     assert output("./ticket", *words, "logs", cwd=tmp_path) == said
 
 
-# A lock in a file of its own, and the program that takes it.
-INCLUDED = f'#include "{TOP}/record/lockreplay_record.h"\nvoid take(void);\n'
-IN_TWO_FILES = {
-    "lock": "void take(void) { LR_CALL(acquire); LR_ADD(next_ticket, 0); }\n",
-    "program": "static void one_round(unsigned, unsigned);\n"
-               "static void one_round(unsigned t, unsigned r) { (void)t, (void)r; take(); }\n"
-               "int main(int count, char **words) {\n"
-               '    const lr_driver driver = {"ticket", 64, NULL, one_round, NULL};\n'
-               "    return lr_main(&driver, count, words);\n}\n",
-}
-
-
 @pytest.mark.parametrize("mode", ["VALUES", "SEED"])
 @pytest.mark.parametrize("compiler", COMPILERS)
-def test_program_of_two_files(tmp_path, compiler, mode):
+def test_program_of_two_files(noting, tmp_path, compiler, mode):
     """What a thread notes in one file is in the run that another file began."""
-    for name, text in IN_TWO_FILES.items():
-        (tmp_path / f"{name}.c").write_text(INCLUDED + text)
-    assert compile_c(compiler, tmp_path / "program.c", tmp_path / "it", f"-DLR_MODE={mode}",
-                     tmp_path / "lock.c") == ""
-    assert ran(tmp_path / "it", 1, 1, 1, tmp_path / "logs").stderr == ""
+    (tmp_path / "lock.c").write_text(
+        f'#include "{TOP}/record/lockreplay_record.h"\nvoid take(void);\n'
+        "void take(void) { LR_CALL(acquire); LR_ADD(next_ticket, 0); }\n")
+    program = noting("ticket", "void take(void); take()", tmp_path / "lock.c", mode=mode,
+                     compiler=compiler)
+    assert ran(program, 1, 1, 1, tmp_path / "logs").stderr == ""
     log = (tmp_path / "logs" / "thread-0.log").read_text()
     assert log.endswith("thread 0\nacquire\nadd next_ticket found 0\ndropped 0\n")
 

@@ -6,18 +6,15 @@ a line that is no move. The joined files of record/ are those that join.py makes
 import ctypes
 import random
 import re
-import sys
 
 import pytest
 
 import worked_rows
+from locktrace import Answer, Step
 from random_runs import random_run
 from recorders import WARNINGS, once
 from transcripts import text_of, transcripts
-from tree import EXAMPLES, TOP, output, ran
-
-sys.path.append(str(EXAMPLES / "bindings"))
-from locktrace import Answer, Step  # noqa: E402
+from tree import TOP, output, ran
 
 pytestmark = pytest.mark.slow
 
@@ -125,13 +122,13 @@ def test_random_texts(both, request):
 
 
 @pytest.mark.parametrize("room", [0, 1, 20, 200])
-def test_text_of_each_fault(both, room):
+@pytest.mark.parametrize("fault", [*range(21), 99])
+def test_text_of_each_fault(both, fault, room):
     """The size is that of the whole text, also if there is room for a part of it."""
-    for fault in [*range(21), 99]:
-        texts = [ctypes.create_string_buffer(200) for _ in both]
-        sizes = [check.lt_fault_text(fault, text, ctypes.c_size_t(room))
-                 for check, text in zip(both, texts)]
-        assert sizes[0] == sizes[1] > 7 and texts[0].raw == texts[1].raw
+    texts = [ctypes.create_string_buffer(200) for _ in both]
+    sizes = [check.lt_fault_text(fault, text, ctypes.c_size_t(room))
+             for check, text in zip(both, texts)]
+    assert sizes[0] == sizes[1] > 7 and texts[0].raw == texts[1].raw
 
 
 @pytest.mark.parametrize("compiler", ["gcc", "clang"])

@@ -9,8 +9,8 @@ import re
 import pytest
 
 from mistakes import IN_C, IN_RUST
-from recorders import RECORDERS, SOURCES, once, words_of
-from tree import environment, output, ran
+from recorders import RECORDERS, SOURCES, words_of
+from tree import environment, ran
 
 pytestmark = pytest.mark.slow
 
@@ -25,21 +25,6 @@ LOCKS = [pytest.param(name, example, id=f"{name}-{example}")
 def mistakes(of):
     return pytest.mark.parametrize("recorder, mistake", [
         pytest.param(it.recorder, it, id=str(it)) for it in of], indirect=["recorder"])
-
-
-@pytest.fixture
-def tour(shared, locktrace, pytestconfig):
-    """Writes the tour of an example's lock once, and returns its folder."""
-    threads, rounds = pytestconfig.getoption("threads"), pytestconfig.getoption("rounds")
-
-    def made(example):
-        text = (SOURCES / f"{example}.c").read_text()
-        lock = re.search(r'^#define LOCK "(.*)"', text, re.MULTILINE)[1]
-        folder = shared / f"tour-{lock}-{threads}-{rounds}"
-        once(folder.with_suffix(".made"), lambda: output(
-            locktrace, "tour", lock, threads, "--rounds", rounds, "-o", folder))
-        return folder
-    return made
 
 
 def counts_of(said):

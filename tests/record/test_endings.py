@@ -7,43 +7,27 @@ import signal
 
 import pytest
 
-from recorders import CHECKED, SOURCES, WARNINGS, compile_c
+from recorders import KEPT, SOURCES
 from tree import ran
-
-from test_modes import HERE
 
 pytestmark = pytest.mark.slow
 
-LEFT = ("lockreplay_record: the program ended before its run was saved: "
-        "its moves until then are in the folder ")
 # The BODY of thread 1, and the signal or the status with which the program ends.
 ENDS = {"abort()": -signal.SIGABRT, "raise(SIGKILL)": -signal.SIGKILL, "exit(0)": 0, "exit(7)": 7,
         "_Exit(0)": 0, "raise(SIGSEGV)": -signal.SIGSEGV, "assert(0)": -signal.SIGABRT}
 
 
-@pytest.fixture
-def built(tmp_path, library):
-    """Builds the lock with a BODY in a mode."""
-    def build(mode, body, *flags):
-        program, logs = tmp_path / "endings", tmp_path / "logs"
-        linked = [library] if mode in CHECKED or "-DLR_CHECK" in flags else []
-        assert ran("gcc", "-std=c11", "-O2", *WARNINGS, "-pthread", f"-DLR_MODE={mode}", *flags,
-                   f"-DBODY={body}", "-o", program, HERE / "endings.c", *linked).stderr == ""
-        return program, logs
-    return build
-
-
 @pytest.mark.parametrize("mode", ["VALUES", "SEED", "EXPLORE"])
 @pytest.mark.parametrize("body", ENDS)
-def test_crash(built, judge, mode, body):
+def test_crash(ended, judge, mode, body):
     """The logs have every note before the crash. If one thread runs at a time, the message names
     the thread that ran."""
-    program, logs = built(mode, body)
+    program, logs = ended(mode, body)
     done = ran(program, 2, 9, 1, logs)
-    said = re.sub(r"^endings: .* Assertion `0' failed\.\n", "", done.stderr)
+    said = re.sub(r"^it: .* Assertion `0' failed\.\n", "", done.stderr)
     ran_last = "" if mode == "VALUES" else (
         r"; thread 1 ran \('(add next_ticket|read now_serving) found \d+' at ticket\.h:\d+\)")
-    assert re.fullmatch(f"{LEFT}{logs}{ran_last}\n", said), said
+    assert re.fullmatch(f"{KEPT}{logs}{ran_last}\n", said), said
     assert done.returncode == ENDS[body]
     texts = {path.name: path.read_text() for path in logs.iterdir()}
     assert sorted(texts) == ["run.trace"][mode == "VALUES":] + ["thread-0.log", "thread-1.log"]
@@ -56,34 +40,34 @@ def test_crash(built, judge, mode, body):
         assert texts["run.trace"].endswith("# the program ended before its run was saved\n")
 
 
-def test_slow_run(built):
+def test_slow_run(ended):
     """A run may take longer than the time limit, which holds for each move."""
-    program, logs = built("SEED", "struct timespec ms = {0, 200000000}; nanosleep(&ms, NULL)",
+    program, logs = ended("SEED", "struct timespec ms = {0, 200000000}; nanosleep(&ms, NULL)",
                           "-D_GNU_SOURCE")
     done = ran(program, 3, 40000, 1, logs, 1)
     assert (done.stderr, done.returncode) == ("", 0)
 
 
-def test_all_threads_end_without_a_record(built):
+def test_all_threads_end_without_a_record(ended):
     """In the mode OFF too the program waits for its last thread."""
-    program, logs = built("OFF", "struct timespec ms = {0, 300000000}; nanosleep(&ms, NULL); "
+    program, logs = ended("OFF", "struct timespec ms = {0, 300000000}; nanosleep(&ms, NULL); "
                           'printf("done\\n")', "-D_GNU_SOURCE", "-include", "stdio.h",
                           "-include", "time.h")
     done = ran(program, 2, 4, 1, logs)
     assert (done.stdout, done.stderr, done.returncode) == ("done\n", "", 0)
 
 
-def test_pause(built):
+def test_pause(ended):
     """By itself a program waits for a minute, so a pause of two seconds ends no run."""
-    program, logs = built("SEED", "struct timespec s = {2, 0}; nanosleep(&s, NULL)",
+    program, logs = ended("SEED", "struct timespec s = {2, 0}; nanosleep(&s, NULL)",
                           "-D_GNU_SOURCE")
     done = ran(program, 2, 9, 1, logs)
     assert (done.stderr, done.returncode) == ("", 0)
 
 
-def test_run_that_hangs(built):
+def test_run_that_hangs(ended):
     """A run that hangs is refused, though the check accepts all of its moves."""
-    program, logs = built("SEED", "LR_WAIT(&next_ticket, (void)0, (void)0, (void)0)", "-DLR_CHECK",
+    program, logs = ended("SEED", "LR_WAIT(&next_ticket, (void)0, (void)0, (void)0)", "-DLR_CHECK",
                           "-DLR_PATIENCE=500")
     done = ran(program, 12, 9, 1, logs)
     said, trace = done.stderr.removeprefix("lockreplay_record: "), (logs / "run.trace").read_text()
@@ -96,17 +80,17 @@ def test_run_that_hangs(built):
         assert trace.count(end) == 1
 
 
-def test_sections_that_wait(built):
+def test_sections_that_wait(ended):
     """A thread that only has sections which wait polls, as one does that only reads."""
-    program, logs = built("SEED", "for (;;) LR_LOCK((void)0), LR_SECTION(1, waits), "
+    program, logs = ended("SEED", "for (;;) LR_LOCK((void)0), LR_SECTION(1, waits), "
                           "LR_UNLOCK((void)0)", "-DLR_PATIENCE=99")
     done = ran(program, 2, 9, 1, logs)
     assert re.search(r"the run hangs: .*thread 1 polls \('section 1 waits' at ", done.stderr)
     assert done.returncode == 1
 
 
-def test_threads_that_stand_still(built):
-    program, logs = built("VALUES", "for (;;) sched_yield()")
+def test_threads_that_stand_still(ended):
+    program, logs = ended("VALUES", "for (;;) sched_yield()")
     done = ran(program, 2, 9, 1, logs, 1)
     assert re.match(r"lockreplay_record: [12] of 2 threads have not ended, and made no move for 1 "
                     r"s: (thread 0 \(.*\), )?thread 1 \('read now_serving found \d+' at "
@@ -115,9 +99,9 @@ def test_threads_that_stand_still(built):
     assert (logs / "thread-1.log").read_text().endswith("# thread 1 has not ended\n")
 
 
-def test_thread_that_ends_in_a_call(built):
+def test_thread_that_ends_in_a_call(ended):
     """Thread 1 ends inside `release`, and the message names the call."""
-    program, logs = built("SEED", "LR_CALL(release); lr_end(&lr_self->run->logs[1]); "
+    program, logs = ended("SEED", "LR_CALL(release); lr_end(&lr_self->run->logs[1]); "
                           "pthread_exit(NULL)", "-DLR_CHECK")
     done = ran(program, 2, 9, 1, logs)
     assert re.sub(r":\d+", ":LINE", done.stderr).startswith(
@@ -125,17 +109,16 @@ def test_thread_that_ends_in_a_call(built):
     assert done.returncode == 1
 
 
-def test_thread_that_goes_on(library, tmp_path):
+def test_thread_that_goes_on(built, tmp_path):
     """A thread polls once more than the published lock, which the schedule does not have."""
     text, returns = (SOURCES / "ticket.c").read_text(), "if (!must_wait(served, ticket)) return;"
     assert text.count(returns) == 1
     (tmp_path / "ticket.c").write_text(
         text.replace(returns, "if (must_wait(served, ticket) > 1) return;"))
-    assert compile_c("gcc", tmp_path / "ticket.c", tmp_path / "it", "-DLR_MODE=FOLLOW",
-                     "-DLR_CHECK", "-I", SOURCES, library=library) == ""
+    program = built(tmp_path / "ticket.c", "FOLLOW", "-DLR_CHECK", "-I", SOURCES)
     (tmp_path / "it.schedule").write_text(
         "lock ticket threads 1 bits 4\n0 acquire\n0 add\n0 read\n")
-    done = ran("./it", ".", ".", cwd=tmp_path)
+    done = ran(program, ".", ".", cwd=tmp_path)
     assert re.sub(r"ticket\.c:\d+", "ticket.c:LINE", done.stderr) == (
         "lockreplay_record: ./it.schedule: thread 0 goes on with a call that is over "
         "('read now_serving found 0' at ticket.c:LINE)\n")
@@ -143,10 +126,10 @@ def test_thread_that_goes_on(library, tmp_path):
 
 
 @pytest.mark.parametrize("mode", ["VALUES", "SEED"])
-def test_full_log(built, judge, mode):
+def test_full_log(ended, judge, mode):
     """A full log keeps its first moves and counts the dropped ones, and the status is 3."""
     body = "for (int i = 0; i < 2000; i++) { release(); acquire(); }"
-    program, logs = built(mode, body)
+    program, logs = ended(mode, body)
     done = ran(program, 2, 5, 1, logs)
     assert re.match(r"lockreplay_record: the log of thread 1 (was|is) full: it has room for 640 "
                     "moves", done.stderr)
@@ -157,10 +140,10 @@ def test_full_log(built, judge, mode):
         assert re.search(r"\ndropped [1-9]\d+\n$", (logs / "thread-1.log").read_text())
 
 
-def test_full_log_of_a_thread_that_goes_on(built):
+def test_full_log_of_a_thread_that_goes_on(ended):
     """Nobody knows what the thread would have noted, so its log does not claim that it hangs. The
     message names the threads that have not ended, and no other, with what each noted last."""
-    program, logs = built("VALUES", "release(); while (lr_missing(lr_self->run) > 1) {} acquire(); "
+    program, logs = ended("VALUES", "release(); while (lr_missing(lr_self->run) > 1) {} acquire(); "
                           "do release(), acquire(); while (!lr_self->dropped); "
                           "LR_CALL(downgrade); for (;;) {}")
     done = ran(program, 2, 5, 1, logs, 5)
@@ -172,17 +155,17 @@ def test_full_log_of_a_thread_that_goes_on(built):
     assert (logs / "thread-1.log").read_text().endswith("\n# thread 1 was stopped\n")
 
 
-def test_no_room_on_the_disk(built):
+def test_no_room_on_the_disk(ended):
     """The program removes a file that it cannot write to the end."""
-    program, logs = built("SEED", "(void)0")
+    program, logs = ended("SEED", "(void)0")
     done = ran("sh", "-c", f"trap '' XFSZ; ulimit -f 4; exec {program} 3 400 1 {logs}")
     assert done.stderr == f"lockreplay_record: {logs}/thread-0.log: File too large\n"
     assert done.returncode == 3 and list(logs.iterdir()) == []
 
 
-def test_log_that_cannot_be_made(built):
+def test_log_that_cannot_be_made(ended):
     """The message names the file, and why the system refuses it."""
-    program, logs = built("SEED", "(void)0")
+    program, logs = ended("SEED", "(void)0")
     (logs / "thread-1.log.part").mkdir(parents=True)
     done = ran(program, 3, 9, 1, logs)
     assert done.stderr == f"lockreplay_record: {logs}/thread-1.log: Is a directory\n"
@@ -194,28 +177,23 @@ def test_log_that_cannot_be_made(built):
     ("/dev/null", "/dev/null: Not a directory"),
     ("/dev/null/logs", "/dev/null/logs: Not a directory"),
     ("/no/such/folder", "/no/such/folder: No such file or directory")])
-def test_wrong_folder(built, mode, folder, said):
+def test_wrong_folder(ended, mode, folder, said):
     """The program reports a folder that it cannot use before the first run begins."""
-    done = ran(built(mode, "(void)0")[0], 2, 1, 1, folder)
+    done = ran(ended(mode, "(void)0")[0], 2, 1, 1, folder)
     assert (done.stdout, done.stderr) == ("", f"lockreplay_record: {said}\n")
     assert done.returncode == 3
 
 
-# The thread goes on when its run was given up, and the check has asked for room for its moves.
-LATE = """#include <stdlib.h>
-#include <unistd.h>
-static volatile int is_given_up;
-static void *late(void *room) { is_given_up = 1; usleep(300000); return room; }
-#define calloc(count, size) late(calloc(count, size))
-"""
-
-
-def test_thread_that_goes_on_after_its_run_was_given_up(built, tmp_path):
-    """It makes at most the move that ends its turn, and the check has room for its moves."""
-    (tmp_path / "late.h").write_text(LATE)
-    program, logs = built("SEED", "while (!is_given_up) { usleep(1000); } "
+def test_thread_that_goes_on_after_its_run_was_given_up(ended, refusing):
+    """It makes at most the move that ends its turn, and the check has room for its moves. The
+    thread goes on when its run was given up, and the check has asked for this room."""
+    late = refusing(
+        "calloc(count, size) late(calloc(count, size))", "#include <unistd.h>",
+        "static volatile int is_given_up;",
+        "static void *late(void *room) { is_given_up = 1; usleep(300000); return room; }")
+    program, logs = ended("SEED", "while (!is_given_up) { usleep(1000); } "
                           "for (int i = 0; i < 50; i++) { release(); acquire(); }", "-DLR_CHECK",
-                          "-D_GNU_SOURCE", "-fsanitize=address", "-include", tmp_path / "late.h")
+                          "-D_GNU_SOURCE", "-fsanitize=address", *late)
     done = ran(program, 2, 9, 1, logs, 1)
     assert re.fullmatch(r"lockreplay_record: thread 1 \('read now_serving found \d+' at ticket\.h:"
                         r"\d+\) has its turn and does not give it back: .*\n", done.stderr)
@@ -223,55 +201,44 @@ def test_thread_that_goes_on_after_its_run_was_given_up(built, tmp_path):
     assert (logs / "thread-1.log").read_text().count("\nacquire\n") == 4
 
 
-# Refuses to start the second thread.
-REFUSES = """#include <pthread.h>
-static int created;
-#define pthread_create(...) (created++ == 1 ? 11 : pthread_create(__VA_ARGS__))
-"""
-
-
 @pytest.mark.parametrize("mode, words", [
     *((mode, (2, 1, 1, "logs")) for mode in ("OFF", "VALUES", "SEED", "EXPLORE")),
     ("EXPLORE", (2, 1, "again", "way")), ("FOLLOW", (".", "logs"))], ids=str)
-def test_no_thread(library, tmp_path, mode, words):
-    """Neither a lock nor a schedule is wrong if the system refuses a thread."""
-    (tmp_path / "refuses.h").write_text(REFUSES)
+def test_no_thread(built, refusing, tmp_path, mode, words):
+    """Neither a lock nor a schedule is wrong if the system refuses the second thread."""
+    refuses = refusing("pthread_create(...) (created++ == 1 ? 11 : pthread_create(__VA_ARGS__))",
+                       "#include <pthread.h>", "static int created;")
     (tmp_path / "way").write_text("# way 1\n")
     (tmp_path / "it.schedule").write_text("lock mcs threads 2\n0 acquire\n")
     (tmp_path / "logs").mkdir()
-    assert compile_c("gcc", SOURCES / "mcs.c", tmp_path / "it", f"-DLR_MODE={mode}", "-include",
-                     tmp_path / "refuses.h", library=library if mode in CHECKED else None) == ""
-    done = ran("./it", *words, cwd=tmp_path)
+    done = ran(built(SOURCES / "mcs.c", mode, *refuses), *words, cwd=tmp_path)
     assert "no memory for thread 1\n" in done.stdout + done.stderr
     assert "way: " not in done.stderr and done.returncode == 3
 
 
 @pytest.mark.parametrize("mode", ["VALUES", "SEED"])
-def test_no_memory(built, mode):
+def test_no_memory(ended, mode):
     """Nothing is left in the folder, where free threads would have had their notes."""
-    program, logs = built(mode, "(void)0")
+    program, logs = ended(mode, "(void)0")
     done = ran("sh", "-c", f"ulimit -v 100000; exec {program} 2 40000 1 {logs}")
     assert done.stderr == ("lockreplay_record: no memory for 5120000 moves of each of 2 threads: "
                            "Cannot allocate memory\n")
     assert done.returncode == 3 and list(logs.iterdir()) == []
 
 
-def test_no_memory_for_a_saved_run(library, tmp_path):
+def test_no_memory_for_a_saved_run(built, refusing, tmp_path):
     """A saved run whose choices cannot be kept is not made again."""
-    (tmp_path / "refuses.h").write_text(
-        "#include <stdlib.h>\nstruct lr_way;\n#define realloc(old, size) "
-        "_Generic(old, struct lr_way *: NULL, default: realloc(old, size))\n")
+    refuses = refusing("realloc(old, size) _Generic(old, struct lr_way *: NULL, "
+                       "default: realloc(old, size))", "struct lr_way;")
     (tmp_path / "way").write_text("# way 1\n")
-    assert compile_c("gcc", SOURCES / "mcs.c", tmp_path / "it", "-DLR_MODE=EXPLORE", "-include",
-                     tmp_path / "refuses.h", library=library) == ""
-    done = ran("./it", 2, 1, "again", "way", cwd=tmp_path)
+    done = ran(built(SOURCES / "mcs.c", "EXPLORE", *refuses), 2, 1, "again", "way", cwd=tmp_path)
     assert done.stderr == "lockreplay_record: way: Cannot allocate memory\n"
     assert (done.stdout, done.returncode) == ("", 3)
 
 
-def test_wrong_schedule_among_others(built, tmp_path):
+def test_wrong_schedule_among_others(ended, tmp_path):
     """A right schedule after a wrong one does not hide it."""
-    program, logs = built("FOLLOW", "(void)0")
+    program, logs = ended("FOLLOW", "(void)0")
     logs.mkdir()
     right = "lock ticket threads 1 bits 8\n"
     for name, text in zip("abc", (right, "0 acquire\n", right)):

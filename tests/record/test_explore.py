@@ -13,10 +13,8 @@ import pytest
 
 from explored_runs import runs_of
 from mistakes import IN_C, IN_RUST, PATCHES
-from recorders import RECORDERS, SOURCES, compile_c, plant, words_of
+from recorders import HERE, RECORDERS, SOURCES, plant, words_of
 from tree import TOP, ran
-
-from test_modes import HERE
 
 pytestmark = pytest.mark.slow
 
@@ -126,12 +124,11 @@ def test_most_runs(recorder, tmp_path, most, said):
     "__sync_fetch_and_add(&plain, 2 * n - 1)", "__sync_lock_test_and_set(&plain, n)",
     "__sync_fetch_and_add(&plain, -1 - __sync_fetch_and_add(&plain, 1))",
     "__atomic_store_n((char *)&plain + 1, n, 5)"])
-def test_write_without_a_note(library, tmp_path, compiler, write):
+def test_write_without_a_note(built, tmp_path, compiler, write):
     """The one preemption between two writes is tried, though neither is noted, also if the first
     gives the second its value, or if they are on a part of the word that is loaded."""
-    assert compile_c(compiler, HERE / "unnoted.c", tmp_path / "it", "-DLR_MODE=EXPLORE",
-                     f"-DSET(n)=(void){write}", library=library) == ""
-    done = ran(tmp_path / "it", 2, 1, 1, tmp_path / "logs")
+    program = built(HERE / "unnoted.c", "EXPLORE", f"-DSET(n)=(void){write}", compiler=compiler)
+    done = ran(program, 2, 1, 1, tmp_path / "logs")
     assert "'1 release': NotHolder" in done.stdout and done.returncode == 1, done.stdout
 
 
@@ -142,36 +139,30 @@ OPERATORS = {"atomic_fetch_add(&lock->next_ticket, 1)": "lock->next_ticket++",
 
 
 @pytest.mark.parametrize("old, line", [(old, line) for old, line in zip(OPERATORS, (23, 26, 39))])
-def test_operation_that_is_not_seen(library, tmp_path, old, line):
+def test_operation_that_is_not_seen(built, tmp_path, old, line):
     """After accepted runs a message names the line of a note without an atomic operation. A refused
     run says more."""
     text = (SOURCES / "ticket.c").read_text()
     assert text.count(old) >= 1
     source = tmp_path / "ticket.c"
     source.write_text(text.replace(old, OPERATORS[old]))
-    assert compile_c("gcc", source, tmp_path / "it", "-DLR_MODE=EXPLORE", "-I", SOURCES,
-                     library=library) == ""
-    done = ran(tmp_path / "it", 2, 1, 2, tmp_path / "logs")
+    done = ran(built(source, "EXPLORE", "-I", SOURCES), 2, 1, 2, tmp_path / "logs")
     assert done.stdout.endswith(", all of them accepted\n") and done.returncode == 0
     assert done.stderr.startswith(f"lockreplay_record: ticket.c:{line}: no atomic operation was ")
     source.write_text(source.read_text().replace("(served + 1)", "(served + 2)"))
-    assert compile_c("gcc", source, tmp_path / "it", "-DLR_MODE=EXPLORE", "-I", SOURCES,
-                     library=library) == ""
-    done = ran(tmp_path / "it", 2, 1, 2, tmp_path / "logs")
+    done = ran(built(source, "EXPLORE", "-I", SOURCES), 2, 1, 2, tmp_path / "logs")
     assert (done.stderr, done.returncode) == ("", 1)
 
 
 @pytest.fixture
-def planted(library, tmp_path):
+def planted(built, tmp_path):
     """Builds an example in C, with or without a mistake, in the mode EXPLORE."""
     def build(example, name, *flags):
         shutil.copytree(SOURCES, tmp_path / SOURCES.relative_to(TOP))
         (tmp_path / "record").symlink_to(TOP / "record")
         if name:
             plant(PATCHES / "c" / example / f"{name}.patch", tmp_path)
-        assert compile_c("gcc", tmp_path / SOURCES.relative_to(TOP) / f"{example}.c",
-                         tmp_path / "it", "-DLR_MODE=EXPLORE", *flags, library=library) == ""
-        return tmp_path / "it"
+        return built(tmp_path / SOURCES.relative_to(TOP) / f"{example}.c", "EXPLORE", *flags)
     return build
 
 
@@ -189,19 +180,14 @@ def test_wake_for_nothing(planted, tmp_path, flags, is_refused):
         assert (done.stderr, again.stderr) == ("", "")
 
 
-REFUSES = """#include <stdlib.h>
-#define realloc(old, size) ((size) == 256 * sizeof(lr_{}) ? NULL : realloc(old, size))
-"""
-
-
 @pytest.mark.parametrize("compiler", ["gcc", "clang"])
 @pytest.mark.parametrize("kept", ["choice", "step"])
-def test_no_memory(library, tmp_path, compiler, kept):
+def test_no_memory(built, refusing, tmp_path, compiler, kept):
     """A search that cannot keep what it did does not say that all runs are accepted."""
-    (tmp_path / "refuses.h").write_text(REFUSES.format(kept))
-    assert compile_c(compiler, HERE / "unnoted.c", tmp_path / "it", "-DLR_MODE=EXPLORE", "-include",
-                     tmp_path / "refuses.h", "-DSET(n)=(void)n", library=library) == ""
-    done = ran(tmp_path / "it", 2, 1, 1, tmp_path / "logs")
+    refuses = refusing(f"realloc(old, size) ((size) == 256 * sizeof(lr_{kept}) ? NULL : "
+                       "realloc(old, size))")
+    program = built(HERE / "unnoted.c", "EXPLORE", *refuses, "-DSET(n)=(void)n", compiler=compiler)
+    done = ran(program, 2, 1, 1, tmp_path / "logs")
     first, refusal, *_ = done.stdout.splitlines()
     assert first == "1 run with up to 0 preemptions, the last one is refused"
     assert (refusal, done.returncode) == (f"no memory for the run's {kept}s", 3)
@@ -211,11 +197,9 @@ def test_no_memory(library, tmp_path, compiler, kept):
 @pytest.mark.parametrize("refused", [
     "malloc(size) (NULL)", "calloc(count, size) ((count) == 1 ? NULL : calloc(count, size))",
     "realloc(old, size) _Generic(old, unsigned *: NULL, default: realloc(old, size))"])
-def test_no_memory_for_the_other_runs(library, tmp_path, refused):
-    (tmp_path / "refuses.h").write_text(f"#include <stdlib.h>\n#define {refused}\n")
-    assert compile_c("gcc", HERE / "unnoted.c", tmp_path / "it", "-DLR_MODE=EXPLORE", "-include",
-                     tmp_path / "refuses.h", "-DSET(n)=(void)n", library=library) == ""
-    done = ran(tmp_path / "it", 2, 1, 1, tmp_path / "logs")
+def test_no_memory_for_the_other_runs(built, refusing, tmp_path, refused):
+    program = built(HERE / "unnoted.c", "EXPLORE", *refusing(refused), "-DSET(n)=(void)n")
+    done = ran(program, 2, 1, 1, tmp_path / "logs")
     said = "1 run with up to 0 preemptions, all of them accepted, and there are more\n"
     assert (done.stdout, done.stderr, done.returncode) == (
         said, "lockreplay_record: no memory for the other runs\n", 3)
@@ -231,31 +215,14 @@ def test_room_of_a_search(planted, tmp_path):
     assert done.returncode == 3
 
 
-# In the first run each thread makes three stores, and then thread 0 none and the others six.
-CHANGES = f"""#include "{TOP}/record/lockreplay_record.h"
-static _Atomic int word;
-static int runs;
-static void reset(void) {{ runs++; }}
-static void one_round(unsigned thread, unsigned round)
-{{
-    int stores = runs == 1 ? 3 : thread ? 6 : 0;
-    while (stores--) atomic_store(&word, (int)round);
-}}
-int main(int count, char **words)
-{{
-    const lr_driver driver = {{"ticket", 8, reset, one_round, NULL}};
-    return lr_main(&driver, count, words);
-}}
-"""
-
-
 @pytest.mark.parametrize("threads", [2, 3])
-def test_driver_that_changes(library, tmp_path, threads):
-    """Of two threads a choice that is due does not come up, of three it is not possible."""
-    (tmp_path / "it.c").write_text(CHANGES)
-    assert compile_c("gcc", tmp_path / "it.c", tmp_path / "it", "-DLR_MODE=EXPLORE",
-                     library=library) == ""
-    done = ran(tmp_path / "it", threads, 1, 1, tmp_path / "logs")
+def test_driver_that_changes(noting, tmp_path, threads):
+    """In the first run each thread makes three stores, and then thread 0 none and the others six.
+    Of two threads a choice that is due does not come up, of three it is not possible."""
+    stores = ("static _Atomic int word; int stores = runs == 1 ? 3 : thread ? 6 : 0; "
+              "while (stores--) atomic_store(&word, (int)round)")
+    program = noting("ticket", stores, "-DRESET=(void)0")
+    done = ran(program, threads, 1, 1, tmp_path / "logs")
     assert "\nthe driver does not do the same after the same turns\n" in done.stdout, done.stdout
     assert done.returncode == 1
 
@@ -341,12 +308,10 @@ WOKEN = ("static int come; LR_LOCK((void)0); if (++come < 3) { "
          "come == 5 ? (void)(come = 0) : LR_SIGNAL(&come, (void)0); LR_UNLOCK((void)0)")
 
 
-def test_who_is_woken(library, tmp_path):
+def test_who_is_woken(noting, tmp_path):
     """Three threads come in six orders. Of each two that wait either is woken, which costs no
     preemption."""
-    assert compile_c("gcc", HERE / "notes.c", tmp_path / "it", "-DLR_MODE=EXPLORE",
-                     '-DLOCK="rw-fifo"', f"-DNOTES={WOKEN}", library=library) == ""
-    done = ran(tmp_path / "it", 3, 1, 0, tmp_path / "logs")
+    done = ran(noting("rw-fifo", WOKEN), 3, 1, 0, tmp_path / "logs")
     *woken, last = done.stdout.splitlines()
     assert last == "12 runs with up to 0 preemptions, all of them accepted"
     assert sorted(woken) == sorted(4 * [f"woken: {thread}" for thread in range(3)])
@@ -365,15 +330,13 @@ SECOND = [
 
 
 @pytest.mark.parametrize("notes, said", SECOND)
-def test_second_run(library, tmp_path, notes, said):
+def test_second_run(noting, tmp_path, notes, said):
     """A run knows nothing of the one before it."""
-    assert compile_c("gcc", HERE / "notes.c", tmp_path / "it", "-DLR_MODE=EXPLORE",
-                     '-DLOCK="rw-fifo"', f"-DNOTES={notes}", library=library) == ""
-    done = ran(tmp_path / "it", 2, 1, 0, tmp_path / "logs")
+    done = ran(noting("rw-fifo", notes), 2, 1, 0, tmp_path / "logs")
     assert done.stdout.startswith(f"2 runs with up to 0 preemptions, {said}\n"), done.stdout
 
 
-def test_record_that_changes(library, tmp_path):
+def test_record_that_changes(noting, tmp_path):
     """Thread 0 has another record after its step. The one preemption is tried after which thread 1
     finds that the first is still its own."""
     look = "__atomic_load_n(&words[thread], 5)"
@@ -381,9 +344,7 @@ def test_record_that_changes(library, tmp_path):
              "if (lr_thread_at(lr_self, (uintptr_t)&of[0]) == 0) LR_CALL(release); } "
              f"for (int i = 0; i < 2 && !thread; i++) {{ (void){look}; "
              "lr_set_record(&of[i], sizeof of[i]); }")
-    assert compile_c("gcc", HERE / "notes.c", tmp_path / "it", "-DLR_MODE=EXPLORE",
-                     '-DLOCK="mcs"', f"-DNOTES={notes}", library=library) == ""
-    done = ran(tmp_path / "it", 2, 1, 1, tmp_path / "logs")
+    done = ran(noting("mcs", notes), 2, 1, 1, tmp_path / "logs")
     assert "'1 release': NotHolder" in done.stdout and done.returncode == 1, done.stdout
 
 

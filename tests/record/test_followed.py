@@ -4,10 +4,8 @@ test_modes.py has what a schedule says, and test_conform.py the schedules of tou
 """
 import pytest
 
-from recorders import SOURCES, compile_c
+from recorders import SOURCES
 from tree import ran
-
-from test_modes import HERE
 
 pytestmark = pytest.mark.slow
 
@@ -15,19 +13,16 @@ ONE = "lock ticket threads 1 bits 4\n0 acquire\n0 add\n0 read\n"
 
 
 @pytest.fixture
-def program(tmp_path):
+def program(built, tmp_path):
     """Builds the ticket lock of the examples, which saves the trace of each schedule."""
-    assert compile_c("gcc", SOURCES / "ticket.c", tmp_path / "it", "-DLR_MODE=FOLLOW") == ""
     (tmp_path / "tour").mkdir()
-    return tmp_path / "it"
+    return built(SOURCES / "ticket.c", "FOLLOW")
 
 
-def test_driver_without_calls(tmp_path):
+def test_driver_without_calls(noting, tmp_path):
     """The driver of notes.c, like that of the guide, makes only whole rounds."""
-    assert compile_c("gcc", HERE / "notes.c", tmp_path / "it", "-DLR_MODE=FOLLOW",
-                     '-DLOCK="ticket"', "-DNOTES=LR_CALL(acquire)") == ""
     (tmp_path / "one.schedule").write_text("lock ticket threads 1\n0 acquire\n")
-    done = ran("./it", ".", "logs", cwd=tmp_path)
+    done = ran(noting("ticket", "LR_CALL(acquire)", mode="FOLLOW"), ".", "logs", cwd=tmp_path)
     assert done.stderr == ("lockreplay_record: FOLLOW makes calls by the driver's last function, "
                            "`call`, which is NULL\n")
     assert (done.stdout, done.returncode) == ("", 2)

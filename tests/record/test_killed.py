@@ -11,30 +11,15 @@ from pathlib import Path
 
 import pytest
 
-from recorders import WARNINGS
+from recorders import KEPT
 from tree import PIPE, ran
-
-from test_modes import HERE
 
 pytestmark = pytest.mark.slow
 
-KEPT = ("lockreplay_record: the program ended before its run was saved: "
-        "its moves until then are in the folder ")
 # Thread 1 says that it is in the middle of its run, and goes on until it is killed.
 GOES_ON = 'puts("going"); fflush(stdout); for (;;) { release(); acquire(); }'
 THREADS, ROUNDS, ROOM = 2, 12, 12 * 128
-MOVE, BLOCK = 16, 512  # bytes
-
-
-@pytest.fixture
-def build(tmp_path):
-    """Builds the lock with a BODY, for free threads."""
-    def built(body, *flags):
-        program = tmp_path / "killed"
-        assert ran("gcc", "-std=c11", "-O2", *WARNINGS, "-pthread", "-DLR_MODE=VALUES", *flags,
-                   f"-DBODY={body}", "-o", program, HERE / "endings.c").stderr == ""
-        return program
-    return built
+MOVE = 16  # bytes
 
 
 def started(program, logs):
@@ -55,13 +40,15 @@ def holders(path):
             pass  # the process has ended, or belongs to another user
 
 
-def kill_all(process, logs):
-    """Kills each process of the run, like the end of a container, so none can save the run."""
-    others = set(holders(logs / "run.notes")) - {process.pid}
-    assert others
-    for pid in [*others, process.pid]:
-        os.kill(pid, signal.SIGKILL)
-    assert process.communicate()[1] == ""
+def killed(program, logs):
+    """Starts a run, and kills each of its processes, like the end of a container, so none can save
+    it."""
+    with started(program, logs) as process:
+        others = set(holders(logs / "run.notes")) - {process.pid}
+        assert others
+        for pid in [*others, process.pid]:
+            os.kill(pid, signal.SIGKILL)
+        assert process.communicate()[1] == ""
     assert [path.name for path in logs.iterdir()] == ["run.notes"]
 
 
@@ -70,10 +57,10 @@ def recover(program, logs):
     return done.stderr, done.returncode
 
 
-def test_killed(build, ordered, tmp_path):
+def test_killed(ended, ordered):
     """The process that watches the program makes the logs after a kill. `recover` waits until it
     has done so."""
-    program, logs = build(GOES_ON), tmp_path / "logs"
+    program, logs = ended("VALUES", GOES_ON)
     with started(program, logs) as process:
         process.kill()
         process.wait()
@@ -83,14 +70,13 @@ def test_killed(build, ordered, tmp_path):
     assert recover(program, logs) == ("", 0)
 
 
-def test_all_killed(build, ordered, tmp_path):
+def test_all_killed(ended, ordered):
     """If all processes are killed, `recover` makes the logs, and none of an earlier run is left."""
-    program, logs = build(GOES_ON), tmp_path / "logs"
+    program, logs = ended("VALUES", GOES_ON)
     logs.mkdir()
     for name in ("thread-0.log", "thread-1.log", "thread-5.log", "run.trace", "run.notes"):
         (logs / name).write_text("of an earlier run\n")
-    with started(program, logs) as process:
-        kill_all(process, logs)
+    killed(program, logs)
     assert recover(program, logs) == (f"{KEPT}{logs}\n", 0)
     assert len(ordered(logs)[1]) > 20
     assert (logs / "thread-1.log").read_text().endswith("# thread 1 was stopped\n")
@@ -107,11 +93,10 @@ def note_of(word=0, place=0, part=0, file=1):
     # The last of each, and the number after it.
     (note_of(word=12), 16), (note_of(word=13), 15), (note_of(place=5), 16), (note_of(place=6), 15),
     (note_of(part=8), 16), (note_of(part=9), 15)])
-def test_lost_page(build, tmp_path, lost, moves):
+def test_lost_page(ended, lost, moves):
     """A log ends before bytes that are no note, as if a page had not reached the disk."""
-    program, logs = build(GOES_ON), tmp_path / "logs"
-    with started(program, logs) as process:
-        kill_all(process, logs)
+    program, logs = ended("VALUES", GOES_ON)
+    killed(program, logs)
     notes = logs / "run.notes"
     first = notes.stat().st_size - THREADS * (ROOM + 2) * (MOVE + 1) + (ROOM + 2 + 2) * MOVE
     with open(notes, "r+b") as file:
@@ -122,12 +107,11 @@ def test_lost_page(build, tmp_path, lost, moves):
     assert len(log) == 2 + moves + 1 and log[-1] == "# thread 1 was stopped"
 
 
-def test_lost_page_of_a_thread_that_has_ended(build, ordered, tmp_path):
+def test_lost_page_of_a_thread_that_has_ended(ended, ordered):
     """The log of a thread that has ended is not said to be whole if it lost moves."""
     body = f"release(); while (!lr_count_of(lr_self->run->logs[0].ended)) {{}} acquire(); {GOES_ON}"
-    program, logs = build(body), tmp_path / "logs"
-    with started(program, logs) as process:
-        kill_all(process, logs)
+    program, logs = ended("VALUES", body)
+    killed(program, logs)
     notes = logs / "run.notes"
     first = notes.stat().st_size - THREADS * (ROOM + 2) * (MOVE + 1) + 2 * MOVE
     with open(notes, "r+b") as file:
@@ -138,10 +122,10 @@ def test_lost_page_of_a_thread_that_has_ended(build, ordered, tmp_path):
     assert (logs / "thread-0.log").read_text().endswith("\n# thread 0 was stopped\n")
 
 
-def test_interrupt(build, ordered, tmp_path):
+def test_interrupt(ended, ordered):
     """The interrupt of a terminal goes to all processes of its group, and does not end the one that
     saves the run. A shell may have started the tests with the signal ignored."""
-    program, logs = build(GOES_ON, "-DLR_MAPPED=0"), tmp_path / "logs"
+    program, logs = ended("VALUES", GOES_ON, "-DLR_MAPPED=0")
     words = ["env", "--default-signal=INT", program, str(THREADS), str(ROUNDS), "1", logs]
     with subprocess.Popen(words, stdout=PIPE, stderr=PIPE, text=True, process_group=0) as process:
         assert process.stdout.readline() == "going\n"
@@ -151,9 +135,9 @@ def test_interrupt(build, ordered, tmp_path):
     assert len(ordered(logs)[1]) > 20
 
 
-def test_watcher_is_killed(build, ordered, tmp_path):
+def test_watcher_is_killed(ended, ordered):
     """The program saves its run though the process that watches it was killed."""
-    program, logs = build('puts("going"); fflush(stdout); getchar()'), tmp_path / "logs"
+    program, logs = ended("VALUES", 'puts("going"); fflush(stdout); getchar()')
     words = [program, str(THREADS), str(ROUNDS), "1", logs]
     with subprocess.Popen(words, stdin=PIPE, stdout=PIPE, stderr=PIPE, text=True) as process:
         assert process.stdout.readline() == "going\n"
@@ -166,10 +150,10 @@ def test_watcher_is_killed(build, ordered, tmp_path):
     ordered(logs)
 
 
-def test_child_goes_on(build, ordered, tmp_path):
+def test_child_goes_on(ended, ordered, tmp_path):
     """The run is saved though a program that this one started goes on. That has no notes."""
     sleeps = f"sleep 300 <&- >&- 2>&- & echo $! >{tmp_path}/child"
-    program, logs = build(f'(void)!system("{sleeps}"); {GOES_ON}'), tmp_path / "logs"
+    program, logs = ended("VALUES", f'(void)!system("{sleeps}"); {GOES_ON}')
     with started(program, logs) as process:
         try:
             assert len(set(holders(logs / "run.notes"))) == 2
@@ -183,10 +167,10 @@ def test_child_goes_on(build, ordered, tmp_path):
     ordered(logs)
 
 
-def test_recover_waits(build, ordered, tmp_path):
+def test_recover_waits(ended, ordered):
     """`recover` waits for a run that is still going, which saves its own logs."""
     body = 'struct timespec ms = {0, 300000000}; puts("going"); fflush(stdout); nanosleep(&ms, 0)'
-    program, logs = build(body, "-D_GNU_SOURCE"), tmp_path / "logs"
+    program, logs = ended("VALUES", body, "-D_GNU_SOURCE")
     with started(program, logs) as process:
         assert recover(program, logs) == ("", 0)
         assert process.communicate()[1] == "" and process.returncode == 0
@@ -194,40 +178,31 @@ def test_recover_waits(build, ordered, tmp_path):
     assert (logs / "thread-1.log").read_text().endswith("\ndropped 0\n")
 
 
-def test_logs_that_cannot_be_made(build, ordered, tmp_path):
-    """Neither the program nor `recover` takes notes away whose logs they cannot make."""
-    program, logs = build("(void)0"), tmp_path / "logs"
+@pytest.mark.parametrize("body, status, acquires, least", [
+    ("(void)0", 3, ROUNDS, ROUNDS * 6), ("abort()", -signal.SIGABRT, 4, 0)])
+def test_logs_that_cannot_be_made(ended, ordered, body, status, acquires, least):
+    """Neither the program nor `recover` takes notes away whose logs they cannot make. Nor does the
+    process that watches the program, which then does not say that it made them."""
+    program, logs = ended("VALUES", body)
     inner = logs / "thread-1.log.part" / "inner"
     inner.mkdir(parents=True)
     said = f"lockreplay_record: {logs}/thread-1.log: Is a directory\n"
     done = ran(program, THREADS, ROUNDS, 1, logs)
-    assert (done.stderr, done.returncode) == (said, 3)
+    assert (done.stderr, done.returncode) == (said, status)
     assert recover(program, logs) == (
         f"{said}lockreplay_record: {logs}/run.notes: Is a directory\n", 3)
     inner.rmdir()
     inner.parent.rmdir()
     assert recover(program, logs) == (f"{KEPT}{logs}\n", 0)
-    assert all(len(moves) >= ROUNDS * 6 for moves in ordered(logs))
-
-
-def test_logs_that_cannot_be_made_after_a_crash(build, ordered, tmp_path):
-    """Nor does the process that watches the program, which then does not say that it made them."""
-    program, logs = build("abort()"), tmp_path / "logs"
-    inner = logs / "thread-1.log.part" / "inner"
-    inner.mkdir(parents=True)
-    done = ran(program, THREADS, ROUNDS, 1, logs)
-    assert done.stderr == f"lockreplay_record: {logs}/thread-1.log: Is a directory\n"
-    inner.rmdir()
-    inner.parent.rmdir()
-    assert recover(program, logs) == (f"{KEPT}{logs}\n", 0)
-    assert ordered(logs)[1].count("acquire") == 4
+    moves = ordered(logs)
+    assert moves[1].count("acquire") == acquires and min(map(len, moves)) >= least
 
 
 @pytest.mark.parametrize("lines, fault", [
     (None, "No such file or directory"), (0, "Invalid argument"), (30000, "Invalid argument")])
-def test_nothing_to_recover(build, tmp_path, lines, fault):
+def test_nothing_to_recover(ended, tmp_path, lines, fault):
     """`recover` refuses a folder without a file of notes, and a file of another program."""
-    program, notes = build("(void)0"), tmp_path / "run.notes"
+    (program, _), notes = ended("VALUES", "(void)0"), tmp_path / "run.notes"
     if lines is not None:
         notes.write_text("of another program\n" * lines)
     assert recover(program, tmp_path) == (f"lockreplay_record: {notes}: {fault}\n", 3)
@@ -235,40 +210,38 @@ def test_nothing_to_recover(build, tmp_path, lines, fault):
 
 
 @pytest.mark.parametrize("size", [-1, -MOVE, 4096, 1], ids=str)
-def test_notes_that_were_cut(build, tmp_path, size):
+def test_notes_that_were_cut(ended, size):
     """`recover` refuses a file that lost its end, as by a copy to a full disk, and leaves it."""
-    program, logs = build(GOES_ON), tmp_path / "logs"
-    with started(program, logs) as process:
-        kill_all(process, logs)
+    program, logs = ended("VALUES", GOES_ON)
+    killed(program, logs)
     notes = logs / "run.notes"
     os.truncate(notes, size if size > 0 else notes.stat().st_size + size)
     assert recover(program, logs) == (f"lockreplay_record: {notes}: Invalid argument\n", 3)
     assert [path.name for path in logs.iterdir()] == ["run.notes"]
 
 
-def test_notes_of_another_build(build, tmp_path):
+def test_notes_of_another_build(ended):
     """A program whose counters begin elsewhere would write other values, so it refuses the notes.
     The one that made them still takes them."""
-    logs = tmp_path / "logs"
-    with started(build(GOES_ON), logs) as process:
-        kill_all(process, logs)
+    program, logs = ended("VALUES", GOES_ON)
+    killed(program, logs)
     due = (f"lockreplay_record: {logs}/run.notes: Invalid argument\n", 3)
-    assert recover(build(GOES_ON, "-DLR_START=9"), logs) == due
-    assert recover(build(GOES_ON), logs) == (f"{KEPT}{logs}\n", 0)
+    assert recover(ended("VALUES", GOES_ON, "-DLR_START=9")[0], logs) == due
+    assert recover(ended("VALUES", GOES_ON)[0], logs) == (f"{KEPT}{logs}\n", 0)
 
 
-def test_no_room(build, tmp_path):
+def test_no_room(ended):
     """The program reports before the run that the notes have no room, and leaves no file."""
-    program, logs = build("(void)0"), tmp_path / "logs"
+    program, logs = ended("VALUES", "(void)0")
     done = ran("sh", "-c", f"trap '' XFSZ; ulimit -f 4; exec {program} 3 400 1 {logs}")
     assert re.fullmatch(rf"lockreplay_record: {logs}/run\.notes: File too large: the notes of this "
                         r"run take \d+ bytes there, and none with LR_MAPPED=0\n", done.stderr)
     assert done.returncode == 3 and list(logs.iterdir()) == []
 
 
-def test_full_disk(build, tmp_path):
+def test_full_disk(ended):
     """The same on a file system of 200 KB, mounted in a namespace of its own."""
-    program, logs = build("(void)0"), tmp_path / "logs"
+    program, logs = ended("VALUES", "(void)0")
     logs.mkdir()
     script = f"mount -t tmpfs -o size=200k none {logs} && {program} 3 400 1 {logs}; echo $?"
     done = ran("unshare", "--map-root-user", "--mount", "sh", "-c", script)
@@ -278,9 +251,9 @@ def test_full_disk(build, tmp_path):
     assert done.stdout == "3\n"
 
 
-def test_in_memory(build, tmp_path):
+def test_in_memory(ended):
     """With LR_MAPPED=0 a run keeps its notes in memory, and saves its logs at the end."""
-    program, logs = build("(void)0", "-DLR_MAPPED=0"), tmp_path / "logs"
+    program, logs = ended("VALUES", "(void)0", "-DLR_MAPPED=0")
     done = ran(program, 3, 400, 1, logs)
     assert (done.stderr, done.returncode) == ("", 0)
     assert len(list(logs.iterdir())) == 3

@@ -5,18 +5,15 @@ each atomic operation, in C and in C++.
 """
 import re
 import shutil
-from pathlib import Path
 
 import pytest
 
 from mistakes import PATCHES
-from recorders import (CHECKED, COMPILERS, SOURCES, STANDARDS, WARNINGS, compile_c, language,
-                       plant, words_of)
+from recorders import (COMPILERS, HEAD, HERE, IN, SOURCES, STANDARDS, WARNINGS, compile_c,
+                       language, plant, words_of)
 from tree import EXAMPLES, TOP, ran
 
 pytestmark = pytest.mark.slow
-
-HERE = Path(__file__).parent
 
 # Options of the compiler, and its message.
 OLD = "a mode is a value of LR_MODE, as in -DLR_MODE=SEED"
@@ -76,8 +73,7 @@ NOTES = [
 ]
 
 # An example, a schedule, and the message: empty if the example follows the schedule.
-HEAD = "lock mcs threads 2\n"
-IN, OUT = "0 acquire\n0 write\n0 swap\n", "0 release\n0 read\n0 cas\n"
+OUT = "0 release\n0 read\n0 cas\n"
 FOLLOWED = [
     ("mcs", HEAD + IN + OUT, ""),
     pytest.param("mcs", HEAD + 400 * (IN + OUT), "", id="2400 lines"),
@@ -137,16 +133,16 @@ def test_nothing_is_recorded(tmp_path, flags, said):
 
 
 @pytest.mark.parametrize("compiler", ["gcc", "clang++"])
-def test_wrong_note(tmp_path, compiler):
+@pytest.mark.parametrize("note, due", NOTES)
+def test_wrong_note(tmp_path, compiler, note, due):
     """A note of a step that no lock has does not compile. The error names its line, and the words
     that there are."""
-    for note, due in NOTES:
-        (tmp_path / "notes.c").write_text(f'#include "{TOP}/record/lockreplay_record.h"\n'
-                                          f"void it(void);\nvoid it(void) {{ {note}; }}\n")
-        done = ran(compiler, *language(compiler), *WARNINGS, "-DLR_MODE=VALUES", "-fsyntax-only",
-                   tmp_path / "notes.c")
-        said = re.findall(r"notes\.c:(\d+):\d+: error: (.*)", done.stderr)
-        assert said == ([("3", due)] if due else []), (note, done.stderr)
+    (tmp_path / "notes.c").write_text(f'#include "{TOP}/record/lockreplay_record.h"\n'
+                                      f"void it(void);\nvoid it(void) {{ {note}; }}\n")
+    done = ran(compiler, *language(compiler), *WARNINGS, "-DLR_MODE=VALUES", "-fsyntax-only",
+               tmp_path / "notes.c")
+    said = re.findall(r"notes\.c:(\d+):\d+: error: (.*)", done.stderr)
+    assert said == ([("3", due)] if due else []), done.stderr
 
 
 @pytest.mark.parametrize("compiler", COMPILERS)
@@ -201,8 +197,8 @@ def test_words_of_a_program(recorder, tmp_path, mode, words, status):
 @pytest.mark.parametrize("recorder", ["c"], indirect=True)
 @pytest.mark.parametrize("example, text, said", FOLLOWED)
 def test_schedule(recorder, tmp_path, example, text, said):
-    (tmp_path / "one.schedule").write_text(text)
     """The status tells a lock that leaves a schedule from a file that is no schedule of it."""
+    (tmp_path / "one.schedule").write_text(text)
     done = recorder.search([tmp_path], tmp_path, example, "FOLLOW")
     if said:
         assert said in done.stderr
@@ -224,12 +220,11 @@ def test_folder_of_schedules(recorder, tmp_path):
 
 
 @pytest.mark.parametrize("lesson", ["mcs-late-link", "mcs-third-linked-before-second"])
-def test_trace_of_a_schedule(tmp_path, lesson):
+def test_trace_of_a_schedule(built, tmp_path, lesson):
     """Without LR_CHECK the program saves each trace, which has the moves of the lesson."""
-    program, text = tmp_path / "saves", (EXAMPLES / f"{lesson}.schedule").read_text()
-    assert compile_c("gcc", SOURCES / "mcs.c", program, "-DLR_MODE=FOLLOW") == ""
+    text = (EXAMPLES / f"{lesson}.schedule").read_text()
     (tmp_path / "it.schedule").write_text(text)
-    done = ran(program, tmp_path, tmp_path)
+    done = ran(built(SOURCES / "mcs.c", "FOLLOW"), tmp_path, tmp_path)
     assert (done.stderr, done.returncode) == ("", 0)
     assert words_of((tmp_path / "it.trace").read_text()) == words_of(text)
 
@@ -238,14 +233,12 @@ def test_trace_of_a_schedule(tmp_path, lesson):
     ("malloc(size) ((void)(size), NULL)", ["{}: Cannot allocate memory"]),
     ("realloc(old, size) _Generic(old, lr_line *: NULL, default: realloc(old, size))",
      ["{}/0.schedule: Cannot allocate memory", "{}: Invalid argument"])], ids=["names", "lines"])
-def test_no_memory_for_schedules(tmp_path, refused, said):
+def test_no_memory_for_schedules(built, refusing, tmp_path, refused, said):
     """If the names of a folder's schedules have no room, or the lines of one, none is followed."""
-    (tmp_path / "refuses.h").write_text(f"#include <stdlib.h>\n#define {refused}\n")
-    assert compile_c("gcc", SOURCES / "ticket.c", tmp_path / "it", "-DLR_MODE=FOLLOW", "-include",
-                     tmp_path / "refuses.h") == ""
     for number in range(3):
         (tmp_path / f"{number}.schedule").write_text("lock ticket threads 1 bits 4\n0 acquire\n")
-    done = ran(tmp_path / "it", tmp_path, tmp_path)
+    program = built(SOURCES / "ticket.c", "FOLLOW", *refusing(refused))
+    done = ran(program, tmp_path, tmp_path)
     assert done.stdout == "0 schedules of 0 moves, 0 not followed\n"
     assert done.stderr == "".join(f"lockreplay_record: {it.format(tmp_path)}\n" for it in said)
     assert done.returncode == 3
@@ -281,7 +274,7 @@ int main(int count, char **words)
 """
 
 
-def test_schedule_of_a_monitor(tmp_path):
+def test_schedule_of_a_monitor(built, tmp_path):
     """The schedule alone says when a thread that waits looks again, and nobody has a turn in the
     middle of a section."""
     moves = ("0 wlock 0 section 1 wlock 1 section 2 wlock 2 section 1 section 0 wunlock 0 section "
@@ -290,8 +283,7 @@ def test_schedule_of_a_monitor(tmp_path):
     outcomes = "entered waits waits waits left entered waits left entered left".split()
     (tmp_path / "it.c").write_text(MONITOR)
     (tmp_path / "it.schedule").write_text(text)
-    assert compile_c("gcc", tmp_path / "it.c", tmp_path / "it", "-DLR_MODE=FOLLOW") == ""
-    done = ran(tmp_path / "it", tmp_path, tmp_path)
+    done = ran(built(tmp_path / "it.c", "FOLLOW"), tmp_path, tmp_path)
     assert (done.stdout, done.stderr) == ("1 schedules of 16 moves, 0 not followed\n", "")
     trace = (tmp_path / "it.trace").read_text()
     assert words_of(trace) == words_of(text)
@@ -311,10 +303,9 @@ def test_longest_seed(recorder, tmp_path):
 
 
 @pytest.mark.parametrize("flags", [[], ["-DLR_START=15"]], ids=str)
-def test_places_of_moves(tmp_path, flags):
+def test_places_of_moves(built, tmp_path, flags):
     """A short trace names for each move the line of the source that noted it."""
-    assert compile_c("gcc", SOURCES / "ticket.c", tmp_path / "it", "-DLR_MODE=SEED", *flags) == ""
-    assert ran(tmp_path / "it", 2, 3, 1, tmp_path).stderr == ""
+    assert ran(built(SOURCES / "ticket.c", "SEED", *flags), 2, 3, 1, tmp_path).stderr == ""
     source, lines = ((tmp_path.joinpath(path)).read_text().splitlines()
                      for path in (SOURCES / "ticket.c", "run.trace"))
     places = re.findall(r"^# line (\d+) is ticket\.c:(\d+)$", "\n".join(lines), re.MULTILINE)
@@ -351,9 +342,7 @@ def test_data_race(tmp_path, mode, has_race):
 @pytest.mark.parametrize("compiler, standard", [
     (compiler, standard) for compiler in COMPILERS
     for standard in (STANDARDS if "++" in compiler else ["11"])])
-def test_atomics(library, tmp_path, compiler, standard, mode):
+def test_atomics(built, compiler, standard, mode):
     source = HERE / f"atomics.{'cc' if '++' in compiler else 'c'}"
-    assert compile_c(compiler, source, tmp_path / "atomics", f"-DLR_MODE={mode}", standard=standard,
-                     library=library if mode in CHECKED else None) == ""
-    done = ran(tmp_path / "atomics")
+    done = ran(built(source, mode, compiler=compiler, standard=standard))
     assert (done.stdout, done.returncode) == ("", 0)

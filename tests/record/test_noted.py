@@ -6,10 +6,8 @@ import re
 
 import pytest
 
-from recorders import CHECKED, COMPILERS, STANDARDS, WARNINGS, compile_c, language
+from recorders import COMPILERS, HERE, STANDARDS
 from tree import TOP, output, ran
-
-from test_modes import HERE
 
 pytestmark = pytest.mark.slow
 
@@ -19,21 +17,17 @@ RUNS = {"OFF": (3, 20, 1), "VALUES": (4, 300, 1), "SEED": (3, 50, 2), "EXPLORE":
 
 
 @pytest.fixture
-def built(tmp_path, library):
-    def build(compiler, standard, mode, *flags):
-        source = HERE / f"noted.{'cc' if '++' in compiler else 'c'}"
-        linked = ["-x", "none", library] if mode in CHECKED else []
-        done = ran(compiler, *language(compiler, standard), *WARNINGS, "-O1", "-pthread",
-                   f"-DLR_MODE={mode}", *flags, "-o", tmp_path / "noted", source, *linked)
-        assert done.stderr == ""
-        return tmp_path / "noted"
-    return build
+def locking(built):
+    """Builds the lock in C or C++."""
+    return lambda compiler, mode, *flags, standard="14": built(
+        HERE / f"noted.{'cc' if '++' in compiler else 'c'}", mode, "-O1", *flags,
+        compiler=compiler, standard=standard)
 
 
 @pytest.mark.parametrize("mode", RUNS)
 @pytest.mark.parametrize("compiler, standard", BUILDS)
-def test_right_lock(built, judge, tmp_path, compiler, standard, mode):
-    done = ran(built(compiler, standard, mode), *RUNS[mode], tmp_path)
+def test_right_lock(locking, judge, tmp_path, compiler, standard, mode):
+    done = ran(locking(compiler, mode, standard=standard), *RUNS[mode], tmp_path)
     assert (done.stderr, done.returncode) == ("", 0)
     if mode == "VALUES":
         assert judge.order(tmp_path)[1] == 0
@@ -63,20 +57,18 @@ def test_order(tmp_path, compiler, mode, name, values, orders):
 
 @pytest.mark.parametrize("mode", ["OFF", "VALUES", "SEED"])
 @pytest.mark.parametrize("compiler", ["g++", "clang++"])
-def test_order_in_c_plus_plus(tmp_path, compiler, mode):
-    assert compile_c(compiler, HERE / "orders.cc", tmp_path / "it", f"-DLR_MODE={mode}") == ""
-    done = ran(tmp_path / "it")
+def test_order_in_c_plus_plus(built, compiler, mode):
+    done = ran(built(HERE / "orders.cc", mode, compiler=compiler))
     assert (done.stdout, done.returncode) == ("", 0)
 
 
 @pytest.mark.parametrize("compiler", ["g++", "clang++"])
 @pytest.mark.parametrize("standard", STANDARDS)
-def test_operators_in_c_plus_plus(tmp_path, compiler, standard):
+def test_operators_in_c_plus_plus(built, tmp_path, compiler, standard):
     """An assignment is noted in its own line. A load by a conversion has no line, and an exchange
     that fails for no reason is no step."""
-    assert compile_c(compiler, HERE / "operators.cc", tmp_path / "it", "-DLR_MODE=SEED",
-                     standard=standard) == ""
-    assert ran(tmp_path / "it", 1, 1, 1, tmp_path).stderr == ""
+    program = built(HERE / "operators.cc", "SEED", compiler=compiler, standard=standard)
+    assert ran(program, 1, 1, 1, tmp_path).stderr == ""
     trace = (tmp_path / "run.trace").read_text().splitlines()
     moves = [re.sub(" of 255| found| left", "", line[2:]) for line in trace if line[:2] == "0 "]
     places = [line.split(" is ")[1] for line in trace if line.startswith("# line ")]
@@ -182,25 +174,23 @@ def test_operation_after_its_point(tmp_path, compiler, mode):
 
 
 @pytest.mark.parametrize("compiler", ["gcc", "clang"])
-def test_value_that_does_not_fit(tmp_path, compiler):
+def test_value_that_does_not_fit(noting, tmp_path, compiler):
     """A note has what is in the word, and not what was to be stored there."""
     notes = ("static _Atomic unsigned char word; static _Atomic _Bool flag; int wide = 258; "
              "lr_store(&word, wide - 1, LR_TAIL); lr_exchange(&word, wide, LR_TAIL); "
              "lr_load(&word, LR_TAIL); lr_store(&flag, wide, LR_LOCKED); lr_load(&flag, LR_LOCKED)")
-    assert compile_c(compiler, HERE / "notes.c", tmp_path / "it", "-DLR_MODE=VALUES",
-                     "-Wno-unused-value", '-DLOCK="mcs"', f"-DNOTES={notes}") == ""
-    assert ran(tmp_path / "it", 1, 1, 1, tmp_path / "logs").stderr == ""
+    program = noting("mcs", notes, "-Wno-unused-value", mode="VALUES", compiler=compiler)
+    assert ran(program, 1, 1, 1, tmp_path / "logs").stderr == ""
     assert (tmp_path / "logs" / "thread-0.log").read_text().splitlines()[2:] == [
         "write tail left 1", "swap tail found 1", "read tail found 2",
         "write locked of 255 left 1", "read locked of 255 found 1", "dropped 0"]
 
 
 @pytest.mark.parametrize("compiler", ["gcc", "g++"])
-def test_records_side_by_side(built, judge, tmp_path, compiler):
+def test_records_side_by_side(locking, judge, tmp_path, compiler):
     """In an array a record begins where the one before it ends, and is another thread's. A thread
     may have another record in each round."""
-    standard = "14" if "++" in compiler else "11"
-    done = ran(built(compiler, standard, "SEED", "-DSIDE_BY_SIDE"), *RUNS["SEED"], tmp_path)
+    done = ran(locking(compiler, "SEED", "-DSIDE_BY_SIDE"), *RUNS["SEED"], tmp_path)
     assert (done.stderr, done.returncode) == ("", 0)
     assert judge.accepts([tmp_path / "run.trace"])
 
@@ -208,10 +198,9 @@ def test_records_side_by_side(built, judge, tmp_path, compiler):
 @pytest.mark.parametrize("mode, words", [("VALUES", (4, 300, 1)), ("SEED", (3, 200, 5)),
                                          ("EXPLORE", (3, 1, 1))])
 @pytest.mark.parametrize("compiler", ["gcc", "g++"])
-def test_records_of_a_pool(built, judge, tmp_path, compiler, mode, words):
+def test_records_of_a_pool(locking, judge, tmp_path, compiler, mode, words):
     """A record that goes from one thread to another is the second one's from then on."""
-    done = ran(built(compiler, "14" if "++" in compiler else "11", mode, "-DPOOL"), *words,
-               tmp_path)
+    done = ran(locking(compiler, mode, "-DPOOL"), *words, tmp_path)
     assert (done.stderr, done.returncode) == ("", 0), done.stdout
     if mode == "VALUES":
         assert judge.order(tmp_path)[1] == 0
@@ -219,30 +208,29 @@ def test_records_of_a_pool(built, judge, tmp_path, compiler, mode, words):
         assert judge.accepts([tmp_path / "run.trace"])
 
 
-def test_record_that_no_thread_has(built, tmp_path):
+def test_record_that_no_thread_has(locking, tmp_path):
     """The message tells a lock to name the owner of each record, if it did not."""
-    done = ran(built("gcc", "11", "EXPLORE", "-DNOBODYS"), 2, 1, 2, tmp_path)
+    done = ran(locking("gcc", "EXPLORE", "-DNOBODYS"), 2, 1, 2, tmp_path)
     said = ": no thread has this record (lr_own_record says whose it is)\n"
     assert done.returncode == 1 and said in done.stdout, done.stdout
 
 
 @pytest.mark.parametrize("mode", RUNS)
 @pytest.mark.parametrize("compiler", ["gcc", "g++"])
-def test_thread_of_a_record(tmp_path, library, compiler, mode):
+def test_thread_of_a_record(noting, tmp_path, compiler, mode):
     """A lock may keep in each record whose it is, also where nothing is recorded."""
-    assert compile_c(compiler, HERE / "notes.c", tmp_path / "it", f"-DLR_MODE={mode}",
-                     '-DLOCK="mcs"', "-DNOTES=if (lr_thread() != (LR_RECORDS ? thread : 0)) "
-                     "abort()", library=library if mode in CHECKED else None) == ""
-    assert ran(tmp_path / "it", 2, 1, 1, tmp_path / "logs").returncode == 0
+    program = noting("mcs", "if (lr_thread() != (LR_RECORDS ? thread : 0)) abort()", mode=mode,
+                     compiler=compiler)
+    assert ran(program, 2, 1, 1, tmp_path / "logs").returncode == 0
 
 
 @pytest.mark.parametrize("compiler", ["gcc", "g++"])
-def test_swap_of_two_operations(built, tmp_path, compiler):
+def test_swap_of_two_operations(locking, tmp_path, compiler):
     """The refusal names the source line of the load."""
     source = "noted.cc" if "++" in compiler else "noted.c"
     line = next(number for number, line in enumerate((HERE / source).read_text().splitlines(), 1)
                 if re.search(r"found = (lr_load\(&tail|tail\.load)", line))
-    done = ran(built(compiler, "14", "EXPLORE", "-DSWAP_OF_TWO"), 2, 1, 2, tmp_path)
+    done = ran(locking(compiler, "EXPLORE", "-DSWAP_OF_TWO"), 2, 1, 2, tmp_path)
     assert done.returncode == 1
     said = rf"\nrefused at line 5 of the trace, {source}:{line}: '0 read tail found 0': WrongStep: "
     assert re.search(said, done.stdout)

@@ -5,84 +5,37 @@ refuse a right lock. --write-planted also tries the modes of real threads, and w
 """
 import os
 import re
-import shutil
-import subprocess
-from pathlib import Path
 
 import pytest
 
-import planted_table
+import planted
 from mistakes import PATCHES
-from recorders import SOURCES, plant
+from planted import EXPLORED, LOCKS, MISTAKES, MODES, REAL_MODES, RUNS
 from tree import TOP, ran
 
-HERE = Path(__file__).parent
-LOCKS = ("mcs", "ticket", "rw_fifo")
-RUNS = planted_table.RUNS
 REAL = ("4", "100")  # threads and rounds
 SEEDED = ("3", "30")
 SHORT = ("3", "4")  # for PCT, which is meant for short runs
-EXPLORED = ("3", "1", "2")  # threads, rounds and preemptions
 MOST = "3000"  # the most runs that a search explores
 ENOUGH = 70  # so many mistakes have a mode in which all runs notice them
-CHECKED = ["-DLR_MODE=SEED", "-DLR_CHECK"]
-MODES = {
-    "VALUES": ["-DLR_MODE=VALUES"],
-    "NOISE": ["-DLR_MODE=VALUES", "-DLR_NOISE"],
-    "SEED": [*CHECKED, "-DLR_ATOMICS=0", "-DLR_SPURIOUS=0"],
-    "ATOMICS": [*CHECKED, "-DLR_SPURIOUS=0"],
-    "SPURIOUS": [*CHECKED, "-DLR_SPURIOUS=8"],
-    "PCT": [*CHECKED, "-DLR_SPURIOUS=0", "-DLR_PCT=3", "-DLR_STEPS=150"],
-    "EXPLORE": ["-DLR_MODE=EXPLORE"],
-    "FOLLOW": ["-DLR_MODE=FOLLOW", "-DLR_CHECK"],
-}
-REAL_MODES = ("VALUES", "NOISE")
-
-
-def mistakes_of(lock):
-    """(name, what the lock then does) of each mistake, in the tables' order, new ones last."""
-    what = {path.stem: path.read_text().splitlines()[0]
-            for path in sorted((PATCHES / "c" / lock).glob("*.patch"))}
-    known = [name for of, name in planted_table.read() if of == lock and name in what]
-    return [("none", "nothing is planted"),
-            *((name, what[name]) for name in dict.fromkeys([*known, *what]))]
-
-
-MISTAKES = {lock: mistakes_of(lock) for lock in LOCKS}
 
 
 def test_tables_have_every_patch():
     found = {(path.parent.name, path.stem) for lock in LOCKS
              for path in (PATCHES / "c" / lock).glob("*.patch")}
-    assert {(lock, name) for lock, name in planted_table.read() if name != "none"} == found
+    assert {(lock, name) for lock, name in planted.read() if name != "none"} == found
 
 
 def test_most_mistakes_are_noticed_in_all_runs_of_a_mode():
-    rows = planted_table.read()
-    assert sum(planted_table.is_in_all(row, MODES) for row in rows.values()) >= ENOUGH
+    rows = planted.read()
+    assert sum(planted.is_in_all(row) for row in rows.values()) >= ENOUGH
 
 
 def test_document_counts_what_the_tables_have():
-    rows = planted_table.read().values()
-    counted = {mode: str(sum(planted_table.is_in_all(row, [mode]) for row in rows))
-               for mode in MODES}
+    rows = planted.read().values()
+    counted = {mode: str(sum(planted.is_in_all(row, [mode]) for row in rows)) for mode in MODES}
     text = (TOP / "docs" / "PLANTED.md").read_text().split("\n## ")[0]
     assert dict(re.findall(r"^\| `(\w+)` \| (\d+) \|", text, re.MULTILINE)) == counted
-
-
-def build(lock, name, mode, library, folder, *flags):
-    """Builds a copy of the lock with the mistake, on the driver of planted mistakes."""
-    copy = folder / SOURCES.relative_to(TOP)
-    shutil.copytree(SOURCES, copy)
-    (folder / "record").symlink_to(TOP / "record")
-    if name != "none":
-        plant(PATCHES / "c" / lock / f"{name}.patch", folder)
-    shutil.copy(HERE / "planted_driver.h", copy / "driver.h")
-    shutil.copy(HERE / "stuck.h", copy)
-    subprocess.run(["gcc", "-std=c11", "-O1", "-w", "-pthread", *MODES[mode], *flags,
-                    "-o", folder / "program", copy / f"{lock}.c",
-                    *([] if mode in REAL_MODES else [library])], check=True)
-    return folder / "program"
 
 
 def is_noticed(locktrace, program, seed, logs):
@@ -121,7 +74,7 @@ def test_planted(library, locktrace, tour, tmp_path, pytestconfig, record_proper
     is_written = pytestconfig.getoption("write_planted")
     if mode in REAL_MODES and not is_written:
         pytest.skip("what real threads do differs from run to run")
-    logs, program = tmp_path / "logs", build(lock, name, mode, library, tmp_path)
+    logs, program = tmp_path / "logs", planted.build(lock, name, mode, library, tmp_path)
     logs.mkdir()
     # If one thread runs at a time, one core is fastest.
     cores = sorted(os.sched_getaffinity(0))
@@ -136,4 +89,4 @@ def test_planted(library, locktrace, tour, tmp_path, pytestconfig, record_proper
         said = ran(*on_one, *(SHORT if mode == "PCT" else SEEDED), RUNS).stdout.strip()
     record_property("planted", (lock, name, mode, said))
     assert name != "none" or re.match(r"(0|none)(/\d+)?$", said), "a right lock is blamed"
-    assert is_written or said == planted_table.read()[lock, name].get(mode)
+    assert is_written or said == planted.read()[lock, name].get(mode)

@@ -5,18 +5,13 @@ suite has a mistake; record/rust/tests/published.rs has all messages.
 """
 import ctypes
 import re
-import sys
 
 import pytest
 
+from locktrace import NO_WORD, Answer, Step
 from mistakes import IN_RUST, PATCHES
-from recorders import InRust, SOURCES, compile_c, once, plant
-from tree import EXAMPLES, TOP, output, ran
-
-from test_modes import HERE
-
-sys.path.append(str(EXAMPLES / "bindings"))
-from locktrace import NO_WORD, Answer, Step  # noqa: E402
+from recorders import HERE, InRust, SOURCES, compile_c, once, plant
+from tree import TOP, output, ran
 
 pytestmark = pytest.mark.slow
 
@@ -234,7 +229,6 @@ def check(compiled):
 @pytest.mark.parametrize("text, record", RECORDS)
 def test_record(check, text, record):
     """The check writes the record if there is room for it, and nothing after it."""
-    count = None
     for room in range(text.count("\n") + 2):
         steps, answer = (Step * (room + 1))(), Answer()
         check(text.encode(), ctypes.c_size_t(len(text)), steps, ctypes.c_size_t(room),
@@ -242,6 +236,5 @@ def test_record(check, text, record):
         found = [tuple(getattr(step, name) for name, _ in Step._fields_) for step in steps]
         count = answer.moves
         assert not any(any(step) for step in found[min(room, count + 1):])
-        if count < room:
-            assert found[count] == (record or (0,) * len(found[count]))
-    assert count is not None
+        assert count >= room or found[count] == (record or (0,) * len(found[count]))
+    assert count < room  # the last room has the record

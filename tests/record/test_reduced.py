@@ -9,8 +9,8 @@ import re
 import pytest
 
 from mistakes import IN_RUST
-from recorders import SOURCES, compile_c
-from test_planted import EXPLORED, MISTAKES, build
+from planted import EXPLORED, MISTAKES, build
+from recorders import SOURCES
 from tree import PATIENCE, TOP, environment, ran
 
 MOST = 10000  # the most runs of a search
@@ -83,11 +83,9 @@ def test_document_has_the_runs():
 
 @pytest.mark.slow
 @pytest.mark.parametrize("example", RUNS_IN_C)
-def test_right_lock_in_c(library, tmp_path, example):
+def test_right_lock_in_c(built, tmp_path, example):
     for reduces, runs in enumerate(RUNS_IN_C[example]):
-        program = tmp_path / str(reduces)
-        assert compile_c("gcc", SOURCES / f"{example}.c", program, "-DLR_MODE=EXPLORE",
-                         f"-DLR_REDUCE={reduces}", library=library) == ""
+        program = built(SOURCES / f"{example}.c", "EXPLORE", f"-DLR_REDUCE={reduces}")
         done = ran(program, *EXPLORED, tmp_path / "logs", MOST, timeout=LONG)
         assert done.stdout == f"{runs} runs with up to 2 preemptions, all of them accepted\n"
 
@@ -112,12 +110,12 @@ static int own_words[64];
 
 @pytest.mark.slow
 @pytest.mark.parametrize("example", ["mcs", "ticket"])
-def test_steps_on_other_words(library, tmp_path, example):
+def test_steps_on_other_words(built, tmp_path, example):
     """Steps are dependent by the words of their notes alone, so there are as many runs."""
     (tmp_path / "own.h").write_text(OWN_WORDS)
-    assert compile_c("gcc", SOURCES / f"{example}.c", tmp_path / "it", "-DLR_MODE=EXPLORE",
-                     "-include", tmp_path / "own.h", "-Wno-unused-value", library=library) == ""
-    done = ran(tmp_path / "it", *EXPLORED, tmp_path / "logs", MOST, timeout=LONG)
+    program = built(SOURCES / f"{example}.c", "EXPLORE", "-include", tmp_path / "own.h",
+                    "-Wno-unused-value")
+    done = ran(program, *EXPLORED, tmp_path / "logs", MOST, timeout=LONG)
     runs = RUNS_IN_C[example][1]
     assert done.stdout == f"{runs} runs with up to 2 preemptions, all of them accepted\n"
 
@@ -133,32 +131,17 @@ CHANGES = [
     "__sync_lock_release(word)",
 ]
 # Two threads make an operation twice, on one word or each on a word of its own beside it.
-TWICE = f"""#include <stdlib.h>
-#include "{TOP}/record/lockreplay_record.h"
-static char words[2];
-static void one_round(unsigned thread, unsigned round)
-{{
-    char *word = &words[getenv("APART") ? thread : 0], own = 0, other = 0;
-    for (int i = 0; i < 2; i++) (void)OPERATION;
-    (void)own, (void)other, (void)round;
-}}
-int main(int count, char **words)
-{{
-    const lr_driver driver = {{"mcs", 64, NULL, one_round, NULL}};
-    return lr_main(&driver, count, words);
-}}
-"""
+TWICE = ('static char words[2]; char *word = &words[getenv("APART") ? thread : 0], own = 0; '
+         "char other = 0; for (int i = 0; i < 2; i++) { (void)OPERATION; } (void)own, (void)other")
 
 
 @pytest.mark.slow
 @pytest.mark.parametrize("operation", LOADS + CHANGES)
-def test_words_beside_one_another(library, tmp_path, operation):
+def test_words_beside_one_another(noting, tmp_path, operation):
     """If the steps are independent, the two orders of the threads are enough."""
-    (tmp_path / "it.c").write_text(TWICE)
-    assert compile_c("gcc", tmp_path / "it.c", tmp_path / "it", "-DLR_MODE=EXPLORE",
-                     f"-DOPERATION={operation}", library=library) == ""
+    program = noting("mcs", TWICE, f"-DOPERATION={operation}")
     for apart, is_enough in ({}, operation in LOADS), ({"APART": "1"}, True):
-        done = ran(tmp_path / "it", 2, 1, 9, tmp_path / "logs", env=environment(**apart))
+        done = ran(program, 2, 1, 9, tmp_path / "logs", env=environment(**apart))
         assert (said_by(done)[0] == 2) == is_enough, (apart, done.stdout)
 
 

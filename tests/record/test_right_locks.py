@@ -9,11 +9,9 @@ import shutil
 
 import pytest
 
-from recorders import IN_C_PLUS_PLUS, RECORDERS, SOURCES, compile_c
-from test_planted import MODES, REAL_MODES
+from planted import MODES, REAL_MODES
+from recorders import HERE, IN_C_PLUS_PLUS, RECORDERS, SOURCES, compile_c
 from tree import ran
-
-from test_modes import HERE
 
 pytestmark = pytest.mark.planted
 
@@ -77,7 +75,7 @@ def test_in_c(library, judge, tour, tmp_path, record_property, compiler, source,
         assert re.match(f"{RUNS} runs with up to .*, all of them accepted, and there are more\n$",
                         done.stdout), done.stdout
     elif mode == "FOLLOW":
-        schedules, count = first_schedules(tour, source.stem.removeprefix("ck_"), tmp_path)
+        schedules, count = first_schedules(tour, source.stem, tmp_path)
         logs.mkdir()
         done = ran(*program, schedules, logs)
         assert re.match(f"{count} schedules of .* moves, 0 not followed\n$", done.stdout)

@@ -8,7 +8,7 @@ no order.
 import pytest
 
 from mistakes import IN_C, IN_RUST
-from recorders import RECORDERS, SOURCES, compile_c, schedule_of
+from recorders import RECORDERS, SOURCES, compile_c, once, schedule_of
 from signs import moves_of
 from tree import ran
 
@@ -55,14 +55,25 @@ def test_right_lock_by_priorities(recorder, judge, tmp_path, example):
     assert any(found)
 
 
+@pytest.fixture(scope="session")
+def prioritized(shared, library):
+    """Builds an example in C once, with priorities and the check."""
+    def build(example):
+        program = shared / f"{example}-PCT"
+
+        def compile_it():
+            assert compile_c("gcc", SOURCES / f"{example}.c", program, "-DLR_MODE=SEED",
+                             "-DLR_PCT=3", "-DLR_STEPS=150", "-DLR_CHECK", library=library) == ""
+        return once(program, compile_it)
+    return build
+
+
+@pytest.mark.parametrize("seed", range(1, 21))
 @pytest.mark.parametrize("example", RECORDERS["c"].examples)
-def test_right_lock_in_c_by_priorities(library, tmp_path, example):
+def test_right_lock_in_c_by_priorities(prioritized, tmp_path, example, seed):
     """Whoever has the greatest priority waits for others, and is passed over meanwhile."""
-    assert compile_c("gcc", SOURCES / f"{example}.c", tmp_path / "it", "-DLR_MODE=SEED",
-                     "-DLR_PCT=3", "-DLR_STEPS=150", "-DLR_CHECK", library=library) == ""
-    for seed in range(1, 21):
-        done = ran(tmp_path / "it", 3, 9, seed, tmp_path / "logs")
-        assert (done.stderr, done.returncode) == ("", 0), seed
+    done = ran(prioritized(example), 3, 9, seed, tmp_path)
+    assert (done.stderr, done.returncode) == ("", 0)
 
 
 @pytest.mark.parametrize("recorder, example", EXAMPLES, indirect=["recorder"])

@@ -6,23 +6,10 @@ import re
 
 import pytest
 
-from recorders import CHECKED, SOURCES, WARNINGS, compile_c
-from tree import TOP, ran
-
-from test_modes import HEAD, HERE, IN
+from recorders import HEAD, HERE, IN, SOURCES, compile_c, once
+from tree import ran
 
 pytestmark = pytest.mark.slow
-
-
-@pytest.fixture
-def built(tmp_path, library):
-    """Builds a source in a mode."""
-    def build(source, mode, *flags, compiler="gcc"):
-        linked = library if mode in CHECKED or "-DLR_CHECK" in flags else None
-        assert compile_c(compiler, source, tmp_path / "it", f"-DLR_MODE={mode}", *flags,
-                         library=linked) == ""
-        return tmp_path / "it"
-    return build
 
 
 @pytest.mark.parametrize("compiler", ["gcc", "clang"])
@@ -41,43 +28,33 @@ def test_functions_of_a_run(built, tmp_path, compiler, mode, files):
     assert (sorted(path.name for path in logs.iterdir()) if logs.exists() else None) == files
 
 
-TOLD = f"""#include <stdio.h>
-#include "{TOP}/record/lockreplay_record.h"
-static void reset(void) {{ puts("reset"); }}
-static void one_round(unsigned thread, unsigned round) {{ printf("%u %u\\n", thread, round); }}
-int main(int count, char **words)
-{{
-    const lr_driver driver = {{"ticket", 8, reset, one_round, NULL}};
-    return lr_main(&driver, count, words);
-}}
-"""
+PRINTS = 'printf("%u %u\\n", thread, round)'
 
 
 @pytest.mark.parametrize("mode", ["OFF", "VALUES", "SEED"])
-def test_rounds_of_a_driver(built, tmp_path, mode):
+def test_rounds_of_a_driver(noting, tmp_path, mode):
     """The lock is made new, and then each thread makes each of its rounds."""
-    (tmp_path / "told.c").write_text(TOLD)
-    done = ran(built(tmp_path / "told.c", mode), 3, 2, 1, tmp_path / "logs")
+    program = noting("ticket", PRINTS, '-DRESET=puts("reset")', mode=mode)
+    done = ran(program, 3, 2, 1, tmp_path / "logs")
     first, *rounds = done.stdout.splitlines()
     assert (first, sorted(rounds)) == ("reset", ["0 0", "0 1", "1 0", "1 1", "2 0", "2 1"])
     assert (done.stderr, done.returncode) == ("", 0)
 
 
-def test_rounds_of_a_search(built, tmp_path):
+def test_rounds_of_a_search(noting, tmp_path):
     """Each run begins with a new lock. Without a preemption one thread comes after the other."""
-    (tmp_path / "told.c").write_text(TOLD)
-    done = ran(built(tmp_path / "told.c", "EXPLORE"), 2, 2, 1, tmp_path / "logs")
+    done = ran(noting("ticket", PRINTS, '-DRESET=puts("reset")'), 2, 2, 1, tmp_path / "logs")
     assert done.stdout == ("reset\n0 0\n0 1\n1 0\n1 1\nreset\n1 0\n1 1\n0 0\n0 1\n"
                            "2 runs with up to 0 preemptions, all of them accepted\n")
     assert (done.stderr, done.returncode) == ("", 0)
 
 
 @pytest.mark.parametrize("mode", ["OFF", "VALUES", "SEED", "EXPLORE"])
-def test_records_outside_of_a_run(built, tmp_path, mode):
+def test_records_outside_of_a_run(noting, tmp_path, mode):
     """A lock that is made new may name records. They are no thread's."""
-    names = "static int of[2]; (void)of; lr_own_record(&of[0]); lr_own_record(&of[1]); "
-    (tmp_path / "told.c").write_text(TOLD.replace('puts("reset")', f'{names}puts("reset")'))
-    done = ran(built(tmp_path / "told.c", mode), 1, 1, 1, tmp_path / "logs")
+    names = "static int of[2]; (void)of; lr_own_record(&of[0]); lr_own_record(&of[1])"
+    program = noting("ticket", PRINTS, f'-DRESET={names}; puts("reset")', mode=mode)
+    done = ran(program, 1, 1, 1, tmp_path / "logs")
     assert done.stdout.startswith("reset\n0 0\n")
     assert (done.stderr, done.returncode) == ("", 0)
 
@@ -179,14 +156,12 @@ CALLS = [
 
 
 @pytest.fixture
-def called(tmp_path):
+def called(built):
     """Builds calls.c with a BODY in a mode, and runs it."""
     def call(body, mode):
-        built = ran("gcc", "-std=c11", "-O1", *WARNINGS, "-Wno-unused", "-pthread",
-                    *f"-DLR_MODE={mode}".split(), f"-DBODY={body}", "-o", tmp_path / "call",
-                    HERE / "calls.c")
-        assert built.stderr == ""
-        return ran("timeout", "30", tmp_path / "call")
+        mode, *options = mode.split()
+        return ran("timeout", "30", built(HERE / "calls.c", mode, *options, "-O1", "-Wno-unused",
+                                          f"-DBODY={body}"))
     return call
 
 
@@ -219,13 +194,28 @@ TURNS = [
 ]
 
 
+@pytest.fixture(scope="session")
+def turns(shared):
+    """Counts the turns of all rows, by one program for each option."""
+    def count(option):
+        path = shared / f"turns{option}"
+        body = "".join(f'{ALONE} lr_begin(lr_log_of(run, 0)); {does}; lr_self = &lr_outside; '
+                       'printf("%zu\\n", run->turns - 1);' for does, *_ in TURNS)
+
+        def make():
+            assert compile_c("gcc", HERE / "calls.c", f"{path}.run", "-DLR_MODE=SEED",
+                             *option.split(), "-O1", "-Wno-unused", f"-DBODY={body}") == ""
+            path.write_text(ran(f"{path}.run").stdout)
+        counted = once(path, make).read_text().split()
+        return dict(zip([does for does, *_ in TURNS], map(int, counted), strict=True))
+    return count
+
+
 @pytest.mark.parametrize("option, has_points", [
-    ("", True), (" -DLR_ATOMICS=1", True), (" -DLR_ATOMICS=0", False)])
-def test_turns(called, option, has_points):
-    body = "".join(f'{ALONE} lr_begin(lr_log_of(run, 0)); {does}; lr_self = &lr_outside; '
-                   'printf("%zu\\n", run->turns - 1);' for does, *_ in TURNS)
-    due = [points * has_points + others for _, points, others in TURNS]
-    assert [int(turns) for turns in called(body, f"SEED{option}").stdout.split()] == due
+    ("", True), ("-DLR_ATOMICS=1", True), ("-DLR_ATOMICS=0", False)])
+@pytest.mark.parametrize("does, points, others", TURNS)
+def test_turns(turns, option, has_points, does, points, others):
+    assert turns(option)[does] == points * has_points + others
 
 
 @pytest.mark.parametrize("depth, due", [
@@ -383,10 +373,9 @@ def test_notes_that_cannot_be_removed(built, tmp_path):
 
 
 @pytest.mark.parametrize("refused", ["calloc(count, size)", "realloc(old, size)"])
-def test_no_memory_for_the_check(built, tmp_path, refused):
+def test_no_memory_for_the_check(built, refusing, tmp_path, refused):
     """A run that could not be checked is not accepted."""
-    (tmp_path / "refuses.h").write_text(f"#include <stdlib.h>\n#define {refused} NULL\n")
-    program = built(SOURCES / "ticket.c", "SEED", "-DLR_CHECK", "-Wno-unused", "-include",
-                    str(tmp_path / "refuses.h"))
+    program = built(SOURCES / "ticket.c", "SEED", "-DLR_CHECK", "-Wno-unused",
+                    *refusing(f"{refused} NULL"))
     done = ran(program, 2, 3, 1, tmp_path / "logs")
     assert (done.stderr, done.returncode) == ("lockreplay_record: no memory for the check\n", 3)

@@ -1,6 +1,7 @@
 /* A ticket lock whose holder sets a flag for a moment, without a note: SET(1) and SET(0). A thread
    that finds the flag set notes a release without an acquire. */
 #include "ticket.h"
+#include "main.h"
 
 static _Atomic int flag;
 static int plain;
@@ -25,8 +26,4 @@ static void one_round(unsigned thread, unsigned round)
     release();
 }
 
-int main(int count, char **words)
-{
-    const lr_driver driver = {"ticket", 8, reset, one_round, NULL};
-    return lr_main(&driver, count, words);
-}
+MAIN("ticket", 8, reset)

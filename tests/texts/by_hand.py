@@ -7,6 +7,7 @@ from catalogue import (ANSWERS, CALLS, DIFFERS, FAULTS, HOLDERS, LOCKS, MESSAGES
 
 RUST, PAGE, MAN = "record/rust/src", "page/src", "packaging/man"
 DUE, C = "crates/lk_trace/src/due.rt", "crates/lk_trace_c/src/numbers.rt"
+LIMIT = 1_000_000  # the states that a search goes through if no number is given
 
 
 def either(words):
@@ -18,7 +19,9 @@ def either(words):
 SAID = {
     "record/src/lockreplay_record.h": [f"call) {either(CALLS)}", f"The lock is {either(LOCKS)};"],
     "record/rust/Cargo.lock": [f'name = "lockreplay-record" version = "{VERSION}"'],
-    "crates/locktrace/src/*.rt": [f'VERSION: &str = "{VERSION}";', f'"{either(LOCKS)}"'],
+    "crates/locktrace/src/*.rt": [f'VERSION: &str = "{VERSION}";', f'"{either(LOCKS)}"',
+                                  f"LIMIT: u64 = {LIMIT:_};", f"{LIMIT:,} if it is not given"],
+    f"{MAN}/locktrace.1": [f"Without it {LIMIT:,}."],
     "crates/lk_lines/src/unreadable.rt": [f'"{either(LOCKS)}"', f"({', '.join(STEPS.values())})"],
     DUE: [f'"{either(OUTCOMES)}"', f"a word ({either(PLACES)})"],
     C: [f'"{name}: {text}"' for name, text in MESSAGES.items() if name != "NoHeader"],

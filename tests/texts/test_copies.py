@@ -8,6 +8,9 @@ phase.
 """
 import re
 
+import pytest
+
+import by_hand
 import generate
 from catalogue import CALLS, LOCKS, code_of, found, read
 
@@ -46,18 +49,21 @@ def words_written(lock):
             for number, name in found(r"^\| (\d+) \| `(\w+)` \|$", above)}
 
 
-def test_copies():
-    differ = generate.faults(is_check=True)
-    assert not differ, "\n".join(differ)
+@pytest.mark.parametrize("path", generate.REGIONS)
+def test_regions(path):
+    assert generate.faults_in(path, is_check=True) == []
 
 
-def test_locks():
-    for lock in LOCKS.values():
-        written, text = lines_written(lock), definitions_of(lock)
-        differ = sorted(written ^ lines_defined(lock))
-        assert not differ, f"{lock}: in one of docs/LOCKS.md and the definitions: {differ}"
-        words = dict(found(r"^abbrev pub (\w+) : ℕ\n\1 = (\d+)$", text))
-        assert words_written(lock) == words, f"{lock}: words of docs/LOCKS.md, due {words}"
-        phases = {phase for kind, phase in written if kind != "call"}
-        labels = {*found(r"^(\w+):", read(f"bench/spin/{lock.replace('-', '_')}.pml"))}
-        assert labels == phases | {"end_Idle"}, f"{lock}: labels of its model, due {phases}"
+def test_copies_by_hand():
+    assert list(by_hand.faults()) == []
+
+
+@pytest.mark.parametrize("lock", LOCKS.values())
+def test_lock(lock):
+    written, text = lines_written(lock), definitions_of(lock)
+    assert written == lines_defined(lock), "one of docs/LOCKS.md and the definitions"
+    words = dict(found(r"^abbrev pub (\w+) : ℕ\n\1 = (\d+)$", text))
+    assert words_written(lock) == words, "words of docs/LOCKS.md"
+    phases = {phase for kind, phase in written if kind != "call"}
+    labels = {*found(r"^(\w+):", read(f"bench/spin/{lock.replace('-', '_')}.pml"))}
+    assert labels == phases | {"end_Idle"}, "labels of its model"

@@ -21,6 +21,10 @@ CHANGES = re.compile(rf"\b(?:{REMEMBERED})(?:\.\w+)*\.\w+ (?:[-+|&?*]{{0,2}})= "
                      rf"|\bObject\.assign\((?:{REMEMBERED})\b"
                      rf"|\b(?:{REMEMBERED})(?:\.\w+)*\.(?:go|set|open|derive|load|clear|toggle)\(")
 
+EXPORTED = re.compile(r"(?m)^export (?:async )?(?:const|function|class) (\w+)")
+# What another script imports, or names as a type.
+USED = re.compile(r"import \{([^}]*)\}|import\('[^']*'\)\.(\w+)")
+
 TEXT = re.compile(r"'(?!\.)[^'\n]*'|`[^`]*`")
 # Proper names with a capital inside, which look like names of code.
 PROPER = {"LaTeX", "TikZ", "WebAssembly", "readAcquires", "readReleases"}
@@ -48,6 +52,18 @@ def test_imports_go_down(module):
     assert MODULES[module].count(" from '") == len(imported(module))
     assert [path for path in imported(module)
             if path not in MODULES or FOLDERS.index(folder(path)) > height] == []
+
+
+def test_each_export_is_used():
+    """Another module, the build or a test imports what a module exports."""
+    others = [*(TOP / "page").glob("build*/*.mjs"), *(TOP / "tests" / "page").glob("*.mjs")]
+    scripts = [*MODULES.values(), *(path.read_text() for path in others)]
+    used = set(re.findall(r"\w+", " ".join(
+        " ".join(found) for text in scripts for found in USED.findall(text))))
+    exported = {(module, name) for module, text in MODULES.items()
+                for name in EXPORTED.findall(text)}
+    # The page's own script, which build.mjs writes, begins with this one.
+    assert {one for one in exported if one[1] not in used} == {("control/main.js", "start")}
 
 
 def test_drawing_changes_nothing():

@@ -12,7 +12,7 @@ passed=0 failed=0
 end() {
     printf '\nSeconds  Of one processor  Part, on %s processors\n' "$(nproc)"
     cat "$room/table"
-    echo "parts: $passed passed, $failed failed"
+    echo "$passed passed, $failed failed"
     rm -r "$room"
 }
 : > "$room/table"

@@ -11,7 +11,7 @@ use lk_text::follow::{follow_file, follow_input, unread};
 use lk_text::formats::{COLORED, Format, PLAIN, put_counts, put_json, put_tap, put_text};
 use lk_text::progress::Progress;
 use lk_text::report::{Ending, Report};
-use lk_text::{Failure, STANDARD, Text, put_plan};
+use lk_text::{Failure, STANDARD, Text, escaped, put_plan};
 use std::alloc::{AllocError, Global};
 use std::io::{Read, Write};
 use std::rt::Runtime;
@@ -95,13 +95,14 @@ fn check_file<R: Runtime>(
         (λ report. EndsInput (left_in R.File.remaining R.Reader.remaining) report.ending) }
 {
     let mut progress = Progress::new(rt, told);
+    let shown = escaped(alloc, name)?;
     let report = follow_file(
         rt,
         alloc,
         name,
         &[],
         |number, _, _| -> Result<(), AllocError> {
-            progress.line(name, number);
+            progress.line(shown.as_str(), number);
             Ok(())
         },
     );

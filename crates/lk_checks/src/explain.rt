@@ -6,7 +6,7 @@ ghost use Rattle.lk_text.specs.Sources.{left_in};
 ghost use Rattle.lk_text.specs.Verdicts.{EndsInput};
 
 use crate::transitions::put_sentence;
-use lk_lines::{MOVE_WORDS, move_named, move_text, outcome_text};
+use lk_lines::{MOVE_NAMES, move_named, move_text, outcome_text};
 use lk_locks::{Machine, Move, Outcome, SectionEffect};
 use lk_text::follow::follow_file;
 use lk_text::formats::{BARE, PLAIN, put_text};
@@ -102,7 +102,7 @@ fn put_move(
 // Writes the calls of a thread that would be accepted.
 fn put_calls(text: &mut Text, machine: &Machine<WordArray>, thread: u8) {
     text.put("  accepted would be:");
-    for word in MOVE_WORDS {
+    for word in MOVE_NAMES {
         let named = move_named(word.as_bytes());
         if named.is_some_and(|action| machine.check(thread, action).is_ok()) {
             let number = Value::Number(u64::from(thread));

@@ -3,7 +3,7 @@ use Rattle.std.specs.Prelude.{ℕ, ◌++◌, List, [], codes, nat_lt, if◌then�
 use Rattle.std.specs.Fmt.{decimal}
 use Rattle.std.specs.List.{flat_map}
 use Rattle.lk_locks.specs.declared.kinds.LockKind.{LockKind}
-use Rattle.lk_lines.specs.Vocabulary.{lock_name, move_word}
+use Rattle.lk_lines.specs.Vocabulary.{lock_name, move_name}
 use Rattle.lk_search.specs.Runs.{is_look}
 use Rattle.lk_search.specs.declared.taken.Taken.{Taken}
 
@@ -19,7 +19,7 @@ header_line kind threads bits =
 -- a look is no move of a schedule
 abbrev pub move_line : Taken → List ℕ
 move_line m =
-    if is_look m then [] else decimal m.thread ++ codes " " ++ move_word m.action ++ codes "\n"
+    if is_look m then [] else decimal m.thread ++ codes " " ++ move_name m.action ++ codes "\n"
 
 -- a header, and a line for each move
 abbrev pub schedule_of : LockKind → ℕ → ℕ → List Taken → List ℕ

@@ -6,7 +6,7 @@ ghost use Rattle.std.specs.Char.{is_ascii_digit};
 ghost use Rattle.std.specs.List.{list_all};
 ghost use Rattle.lk_jobs.specs.FileNames.{IsOwnName, IsScheduleName};
 
-use lk_text::Failure;
+use lk_text::{Failure, escaped};
 use std::alloc::{AllocError, Global};
 use std::fmt::Write as _;
 use std::fs::OpenOptions;
@@ -25,6 +25,11 @@ pub const ENDING: &str = ".schedule";
 
 // How the name of a file ends up to its last byte.
 const DRAFT: &str = ".new";
+
+// The verbs that a failure has after `cannot`.
+const READ: &str = "read";
+
+const WRITE: &str = "write";
 
 // Whether the text has digits alone.
 fn are_digits(text: &[u8]) -> bool
@@ -85,15 +90,18 @@ impl Folder<'_> {
         let file = match fs::open(rt, path.as_str()) {
             Ok(file) => file,
             Err(error) if error.kind() == ErrorKind::NotFound => return Ok(()),
-            Err(error) => return Err(Failure::Output(error)),
+            Err(error) => return Err(Failure::of_file(alloc, READ, path.as_str(), &error)),
         };
-        let list = io::read_to_string(alloc, file)?;
+        let list = match io::read_to_string(alloc, file) {
+            Ok(list) => list,
+            Err(error) => return Err(Failure::of_file(alloc, READ, path.as_str(), &error)),
+        };
         for name in list.lines() {
             if is_own_name(name.as_bytes()) {
-                remove(rt, self.path_of(alloc, name)?.as_str())?;
+                remove(rt, alloc, self.path_of(alloc, name)?.as_str())?;
             }
         }
-        remove(rt, path.as_str())
+        remove(rt, alloc, path.as_str())
     }
 
     // Fails if the folder has something in the place of one of these files.
@@ -108,8 +116,9 @@ impl Folder<'_> {
             let path = self.path_of(alloc, name)?;
             match fs::symlink_metadata(rt, path.as_str()) {
                 Err(error) if error.kind() == ErrorKind::NotFound => {}
-                Err(error) => return Err(Failure::Output(error)),
+                Err(error) => return Err(Failure::of_file(alloc, READ, path.as_str(), &error)),
                 Ok(_) => {
+                    let path = escaped(alloc, path.as_str())?;
                     let text = format!(in alloc; "{path} is not of an earlier {command}")?;
                     return Err(Failure::InPlace(text));
                 }
@@ -124,7 +133,9 @@ impl Folder<'_> {
     ///
     /// There is another file in the place of one of these; or a file cannot be read or removed.
     pub fn clear<R: Files>(&self, rt: &R, alloc: Global, names: &[String]) -> Result<(), Failure> {
-        fs::create_dir_all(rt, self.path)?;
+        if let Err(error) = fs::create_dir_all(rt, self.path) {
+            return Err(Failure::of_file(alloc, WRITE, self.path, &error));
+        }
         self.remove_earlier(rt, alloc)?;
         self.leave_others(rt, alloc, names)
     }
@@ -132,10 +143,13 @@ impl Folder<'_> {
     /// A file that gets its name from `finish`.
     pub fn create<R: Files>(&self, rt: &R, alloc: Global, name: &str) -> Result<R::File, Failure> {
         let draft = self.draft_of(alloc, name)?;
-        remove(rt, draft.as_str())?;
+        remove(rt, alloc, draft.as_str())?;
         let mut options = OpenOptions::new();
         options.write(true).create_new(true);
-        Ok(options.open(rt, draft.as_str())?)
+        match options.open(rt, draft.as_str()) {
+            Ok(file) => Ok(file),
+            Err(error) => Err(Failure::of_file(alloc, WRITE, draft.as_str(), &error)),
+        }
     }
 
     /// Gives a file its name if all of it was written, and else removes it.
@@ -146,12 +160,20 @@ impl Folder<'_> {
         name: &str,
         written: Result<(), Failure>,
     ) -> Result<(), Failure> {
-        let draft = self.draft_of(alloc, name)?;
-        if let Err(failure) = written {
-            remove(rt, draft.as_str())?;
-            return Err(failure);
+        let (draft, path) = (self.draft_of(alloc, name)?, self.path_of(alloc, name)?);
+        let done = match written {
+            Ok(()) => fs::rename(rt, draft.as_str(), path.as_str()).map_err(Failure::Output),
+            Err(failure) => {
+                remove(rt, alloc, draft.as_str())?;
+                Err(failure)
+            }
+        };
+        match done {
+            Err(Failure::Output(error)) => {
+                Err(Failure::of_file(alloc, WRITE, path.as_str(), &error))
+            }
+            done => done,
         }
-        Ok(fs::rename(rt, draft.as_str(), self.path_of(alloc, name)?.as_str())?)
     }
 
     /// Writes a file.
@@ -183,9 +205,11 @@ impl Folder<'_> {
 }
 
 // Removes a file, if it is there; of a link, the link.
-fn remove<R: Files>(rt: &R, path: &str) -> Result<(), Failure> {
+fn remove<R: Files>(rt: &R, alloc: Global, path: &str) -> Result<(), Failure> {
     match fs::remove_file(rt, path) {
-        Err(error) if error.kind() != ErrorKind::NotFound => Err(Failure::Output(error)),
+        Err(error) if error.kind() != ErrorKind::NotFound => {
+            Err(Failure::of_file(alloc, WRITE, path, &error))
+        }
         _ => Ok(()),
     }
 }

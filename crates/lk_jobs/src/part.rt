@@ -24,6 +24,9 @@ pub enum LineFault {
     #[error("not facts of this lock: 'hold T', 'queue T,..', 'T at PHASE' or 'WORD V', with ', ' \
          between them (BadFact)")]
     NoFact,
+    /// It is a comment that begins as a remark on the search, and is none.
+    #[error("not a remark of a sketch: '#! rounds R' (BadRemark)")]
+    NoRemark,
     /// It begins with `not`, and is the last.
     #[error("'not' holds up to the next line, and there is none (NoNextLine)")]
     Endless,

@@ -71,17 +71,19 @@ impl Sketch {
     }
 
     // Reads a comment. One that begins as a remark has to be one.
-    fn comment(&mut self, line: &[u8]) -> Option<SketchFault> {
+    fn comment(&mut self, line: &[u8]) -> Option<LineFault> {
         if !line.starts_with(REMARK.as_bytes()) {
             return None;
         }
-        let rest = line.strip_prefix(ROUNDS.as_bytes());
-        match rest.and_then(rounds_of) {
+        let Some(rest) = line.strip_prefix(ROUNDS.as_bytes()) else {
+            return Some(LineFault::NoRemark);
+        };
+        match rounds_of(rest) {
             Some(rounds) => {
                 self.rounds = Some(rounds);
                 None
             }
-            None => Some(SketchFault::BadRounds),
+            None => Some(LineFault::Unread(SketchFault::BadRounds)),
         }
     }
 
@@ -136,7 +138,7 @@ impl Sketch {
     /// A request for memory was refused.
     pub fn line(&mut self, alloc: Global, line: &[u8]) -> Result<Option<LineFault>, AllocError> {
         if is_skipped(line) {
-            return Ok(self.comment(line).map(LineFault::Unread));
+            return Ok(self.comment(line));
         }
         match self.header {
             Some(header) => self.take_line(alloc, header, line),

@@ -1,4 +1,4 @@
--- The first line of a text, if it is a thread's number, a move's word and a line feed.
+-- The first line of a text, if it is a thread's number, a move's token and a line feed.
 use Rattle.std.proofs.Common.{length, length-append, append_assoc, slice_index_or, take-append-drop}
 use Rattle.std.proofs.Common.{◌≡◌, false, arith, eq-eqb, subst, nat_le, Option, IfSome, MatchOption}
 use Rattle.std.proofs.Common.{◌≢◌, List, ◌++◌, Some, true, refl, Bool, ◌==◌, ◌&&◌, ◌||◌, take, drop}
@@ -13,7 +13,7 @@ use Rattle.lk_locks.specs.declared.kinds.Move.TheVariants.{Call, Step}
 use Rattle.lk_locks.specs.declared.kinds.StepKind.TheVariants.{Read}
 use Rattle.lk_lines.specs.FirstMove.{IsFirstMove, IsFirstThread}
 use Rattle.lk_lines.specs.Lines.{IsNextMove, Numbered, is_line_feed, is_skipped, lines_of}
-use Rattle.lk_lines.specs.Vocabulary.{move_named, move_word, number_of}
+use Rattle.lk_lines.specs.Vocabulary.{move_named, move_name, number_of}
 use Rattle.lk_lines.proofs.Cuts.{both_lines, is_line, line_first, one_piece, split_append}
 use Rattle.lk_lines.proofs.Pieces.{move_read}
 
@@ -47,29 +47,29 @@ digits_read (d ∷ ds) rest some digits =
     (ne_eqb (suc (length (ds ++ rest))) 0 (λ same. omega (arith, same)))
     ∙ digit_differs d 35 (and_parts (is_ascii_digit d) (all_ascii_digits ds) digits).0 (omega arith)
 
-word_line : (m : Move) → is_line (move_word m) ≡ true
-word_line (Call Acquire) = refl
-word_line (Step Read) = refl
-word_line m = refl
+token_line : (m : Move) → is_line (move_name m) ≡ true
+token_line (Call Acquire) = refl
+token_line (Step Read) = refl
+token_line m = refl
 
-word_named : (m : Move) → move_named (move_word m) ≡ Some m
+token_named : (m : Move) → move_named (move_name m) ≡ Some m
 unfolding move_named
-word_named (Call Acquire) = refl
-word_named (Step Read) = refl
-word_named m = refl
+token_named (Call Acquire) = refl
+token_named (Step Read) = refl
+token_named m = refl
 
 pub first_line : (text : List ℕ) (thread : ℕ) (rest after : List ℕ) (action : Move)
-    → IsFirstThread text thread rest → rest ≡ move_word action ++ 10 ∷ after
+    → IsFirstThread text thread rest → rest ≡ move_name action ++ 10 ∷ after
     → IsFirstMove text thread action after
-first_line text thread rest after action is word =
+first_line text thread rest after action is token =
     let number = is.number in
-    let tail : List ℕ = 32 ∷ move_word action in
+    let tail : List ℕ = 32 ∷ move_name action in
     let line : List ℕ = number ++ tail in
     let whole : text ≡ line ++ 10 ∷ after =
-    is.parts ∙ ap (λ (ys : List ℕ). number ++ 32 ∷ ys) word
+    is.parts ∙ ap (λ (ys : List ℕ). number ++ 32 ∷ ys) token
     ∙ sym (append_assoc number tail (10 ∷ after)) in
     let clear : is_line line ≡ true =
-    both_lines number tail (digits_line number is.digits) (word_line action) in
+    both_lines number tail (digits_line number is.digits) (token_line action) in
     record {
       line = line;
       first = line_first text line after (ap (slice_split is_line_feed) whole
@@ -77,9 +77,9 @@ first_line text thread rest after action is word =
           ∙ ap (λ (ps : List (List ℕ)). ps ++ slice_split is_line_feed after)
           (one_piece line clear));
       read = digits_read number tail is.some is.digits;
-      move = move_read line number (move_word action) (Some thread) (Some action)
-          (digits_cut 32 number (move_word action) is.digits (omega arith)) is.value
-          (word_named action);
+      move = move_read line number (move_name action) (Some thread) (Some action)
+          (digits_cut 32 number (move_name action) is.digits (omega arith)) is.value
+          (token_named action);
       shorter = omega (arith, ap length whole, length-append line (10 ∷ after));
     }
 

@@ -4,4 +4,4 @@ pub mod Pieces
 pub mod FirstMoves
 pub mod Skipped
 pub mod Expectations
-pub mod HeaderWords
+pub mod HeaderTokens

@@ -1,4 +1,4 @@
--- Definitions: the lines of a text, as POSIX cuts it at each line feed, the words of a line, and
+-- Definitions: the lines of a text, as POSIX cuts it at each line feed, the tokens of a line, and
 -- the move that a line is.
 use Rattle.std.specs.Prelude.{◌≡◌, ℕ, ◌+◌, List, [], ◌∷◌, ◌++◌, Bool, true, false, ◌==◌, ◌||◌}
 use Rattle.std.specs.Prelude.{length, slice_index, Option, Some, None}
@@ -28,18 +28,18 @@ lines_of text = without_empty_end (slice_split is_line_feed text)
 abbrev pub is_skipped : List ℕ → Bool
 is_skipped line = length line == 0 || slice_index line 0 == 35
 
--- the line, cut at each space: two spaces in a row, or one at an end, make an empty word
-abbrev pub words_of : List ℕ → List (List ℕ)
-words_of line = slice_split is_space line
+-- the line, cut at each space: two spaces in a row, or one at an end, make an empty token
+abbrev pub tokens_of : List ℕ → List (List ℕ)
+tokens_of line = slice_split is_space line
 
 -- a thread's number and what it does
-abbrev pub move_of_words : List (List ℕ) → Option (ℕ × Move)
-move_of_words (thread ∷ word ∷ []) = option_zip (number_of 0 255 thread) (move_named word)
-move_of_words _ = None
+abbrev pub move_of_tokens : List (List ℕ) → Option (ℕ × Move)
+move_of_tokens (thread ∷ token ∷ []) = option_zip (number_of 0 255 thread) (move_named token)
+move_of_tokens _ = None
 
 -- the move that a line is
 unfoldable pub move_of : List ℕ → Option (ℕ × Move)
-move_of line = move_of_words (words_of line)
+move_of line = move_of_tokens (tokens_of line)
 
 -- lines, and the number of the first of them
 pub record Numbered : Type 0 where

@@ -31,21 +31,21 @@ unfoldable pub lock_named : List ℕ → Option LockKind
 lock_named name =
     find (λ kind. bytes_eq name (lock_name kind)) (Ticket ∷ Mcs ∷ RwSimple ∷ RwFifo ∷ [])
 
--- the word of a call or a step
-abbrev pub move_word : Move → List ℕ
-move_word (Call Acquire) = codes "acquire"
-move_word (Call Release) = codes "release"
-move_word (Call ReadLock) = codes "rlock"
-move_word (Call ReadUnlock) = codes "runlock"
-move_word (Call WriteLock) = codes "wlock"
-move_word (Call WriteUnlock) = codes "wunlock"
-move_word (Call Downgrade) = codes "downgrade"
-move_word (Step Read) = codes "read"
-move_word (Step Write) = codes "write"
-move_word (Step Swap) = codes "swap"
-move_word (Step Cas) = codes "cas"
-move_word (Step Add) = codes "add"
-move_word (Step Section) = codes "section"
+-- the name of a call or a step
+abbrev pub move_name : Move → List ℕ
+move_name (Call Acquire) = codes "acquire"
+move_name (Call Release) = codes "release"
+move_name (Call ReadLock) = codes "rlock"
+move_name (Call ReadUnlock) = codes "runlock"
+move_name (Call WriteLock) = codes "wlock"
+move_name (Call WriteUnlock) = codes "wunlock"
+move_name (Call Downgrade) = codes "downgrade"
+move_name (Step Read) = codes "read"
+move_name (Step Write) = codes "write"
+move_name (Step Swap) = codes "swap"
+move_name (Step Cas) = codes "cas"
+move_name (Step Add) = codes "add"
+move_name (Step Section) = codes "section"
 
 abbrev pub every_move : List Move
 every_move =
@@ -53,18 +53,18 @@ every_move =
     ∷ Call Acquire ∷ Call Release ∷ Call ReadLock ∷ Call ReadUnlock ∷ Call WriteLock
     ∷ Call WriteUnlock ∷ Call Downgrade ∷ []
 
--- the move of that word
+-- the move of that name
 unfoldable pub move_named : List ℕ → Option Move
-move_named word = find (λ m. bytes_eq word (move_word m)) every_move
+move_named name = find (λ m. bytes_eq name (move_name m)) every_move
 
-abbrev pub outcome_word : Outcome → List ℕ
-outcome_word Called = codes "called"
-outcome_word Moved = codes "moved"
-outcome_word Waits = codes "waits"
-outcome_word Entered = codes "entered"
-outcome_word Left = codes "left"
+abbrev pub outcome_name : Outcome → List ℕ
+outcome_name Called = codes "called"
+outcome_name Moved = codes "moved"
+outcome_name Waits = codes "waits"
+outcome_name Entered = codes "entered"
+outcome_name Left = codes "left"
 
--- the outcome of a step that has this word
+-- the outcome of a step that has this name
 unfoldable pub outcome_named : List ℕ → Option Outcome
-outcome_named word =
-    find (λ o. bytes_eq word (outcome_word o)) (Moved ∷ Waits ∷ Entered ∷ Left ∷ [])
+outcome_named name =
+    find (λ o. bytes_eq name (outcome_name o)) (Moved ∷ Waits ∷ Entered ∷ Left ∷ [])

@@ -1,10 +1,10 @@
-//! Cuts a text into lines at each line feed, and a line into words at each space, and reads a line
-//! as a move. Nothing is copied.
+//! Cuts a text into lines at each line feed, and a line into tokens at each space, and reads a
+//! line as a move. Nothing is copied.
 
 ghost use Rattle.std.specs.Prelude.{◌≡◌, [], ◌==◌, ◌∷◌, ◌+◌, ◌<◌, MatchOption, IfSome, length};
 ghost use Rattle.std.specs.Prelude.{◌^◌, IfNone, false};
 ghost use Rattle.std.specs.List.{slice_split};
-ghost use Rattle.lk_lines.specs.Lines.{lines_of, words_of, is_skipped, move_of};
+ghost use Rattle.lk_lines.specs.Lines.{lines_of, tokens_of, is_skipped, move_of};
 ghost use Rattle.lk_lines.specs.Lines.{IsNextMove, Numbered, SkipsTo};
 
 mod first_move;
@@ -14,7 +14,7 @@ use first_move::first_move;
 use lk_locks::Move;
 use std::marker::Model;
 
-/// The text before the first such byte, and the text after it. Lines and words are short, so one
+/// The text before the first such byte, and the text after it. Lines and tokens are short, so one
 /// byte after another is looked at.
 pub(crate) fn cut_at(text: &[u8], byte: u8) -> Option<(&[u8], &[u8])>
     ensures pieces { MatchOption result (slice_split (λ b. b == byte) text.now ≡ text.now ∷ [])
@@ -43,10 +43,10 @@ pub fn cut_line(text: &[u8]) -> (&[u8], &[u8])
     }
 }
 
-/// The first word of a line, and the line after its space.
-pub fn cut_word(line: &[u8]) -> Option<(&[u8], &[u8])>
-    ensures { MatchOption result (words_of line.now ≡ line.now ∷ [])
-        (λ cut. words_of line.now ≡ cut.0.now ∷ words_of cut.1.now) }
+/// The first token of a line, and the line after its space.
+pub fn cut_token(line: &[u8]) -> Option<(&[u8], &[u8])>
+    ensures { MatchOption result (tokens_of line.now ≡ line.now ∷ [])
+        (λ cut. tokens_of line.now ≡ cut.0.now ∷ tokens_of cut.1.now) }
 {
     cut_at(line, b' ')
 }
@@ -58,14 +58,14 @@ pub fn is_skipped(line: &[u8]) -> bool
     line.is_empty() || line[0] == b'#'
 }
 
-/// The move that a line is: a thread's number, one space, and a word.
+/// The move that a line is: a thread's number, one space, and its name.
 #[tactic(auto, unfolding(crate::specs::Lines::move_of))]
 pub fn move_of(line: &[u8]) -> Option<(u8, Move)>
     ensures { result ≡ move_of line.now }
 {
-    let (number, word) = cut_word(line)?;
+    let (number, token) = cut_token(line)?;
     let thread = number_of(number, 0, 255)?;
-    let action = move_named(word)?;
+    let action = move_named(token)?;
     Some((thread, action))
 }
 

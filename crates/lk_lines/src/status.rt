@@ -7,7 +7,7 @@ pub enum Status {
     Accepted,
     /// A move was refused, or what was asked for is missing.
     Refused,
-    /// The words after the program's name ask for nothing that it does.
+    /// The arguments ask for nothing that it does.
     Misused,
     /// A device failed, or a request for memory was refused.
     Failed,

@@ -1,11 +1,11 @@
 //! The place at which a line of a schedule text stops being one, and what could be there, for a
-//! message to its writer. `header_of` and `move_of` say whether a line is a header or a move; this
-//! goes along with them word by word.
+//! message to its writer. `header_of` and `move_of` say whether a line is a header or a move, and
+//! the contracts here say that a line has such a place exactly if it is not.
 
 ghost use Rattle.std.specs.Prelude.{◌≡◌, IsSome, IsNone, ◌↔◌, ℕ};
 ghost use Rattle.lk_lines.specs.Header.{header_of};
-ghost use Rattle.lk_lines.specs.Lines.{words_of, move_of};
-ghost use Rattle.lk_lines.specs.Unreadable.{IsHeader, after_word, may_end, unreadable_from};
+ghost use Rattle.lk_lines.specs.Lines.{tokens_of, move_of};
+ghost use Rattle.lk_lines.specs.Unreadable.{IsHeader, after_token, may_end, unreadable_from};
 ghost use Rattle.lk_lines.specs.declared.unreadable.Expected.TheVariants.{Lock, Thread};
 
 use crate::lines::cut_at;
@@ -36,20 +36,20 @@ pub enum Expected {
 }
 
 impl Expected {
-    /// The part that may come after this word, or none if it may not be here.
-    #[tactic(auto, unfolding(crate::specs::Unreadable::after_word))]
-    pub fn after(self, word: &[u8]) -> Option<Expected>
-        ensures { result ≡ after_word self word.now }
+    /// The part that may come after this token, or none if it may not be here.
+    #[tactic(auto, unfolding(crate::specs::Unreadable::after_token))]
+    pub fn after(self, token: &[u8]) -> Option<Expected>
+        ensures { result ≡ after_token self token.now }
     {
         let (is_here, next) = match self {
-            Expected::Lock => (word == b"lock".as_slice(), Expected::Name),
-            Expected::Name => (lock_named(word).is_some(), Expected::Threads),
-            Expected::Threads => (word == b"threads".as_slice(), Expected::Count),
-            Expected::Count => (number_of(word, 1, 64).is_some(), Expected::Bits),
-            Expected::Bits => (word == b"bits".as_slice(), Expected::Width),
-            Expected::Width => (number_of(word, 2, 64).is_some(), Expected::End),
-            Expected::Thread => (number_of(word, 0, 255).is_some(), Expected::Action),
-            Expected::Action => (move_named(word).is_some(), Expected::End),
+            Expected::Lock => (token == b"lock".as_slice(), Expected::Name),
+            Expected::Name => (lock_named(token).is_some(), Expected::Threads),
+            Expected::Threads => (token == b"threads".as_slice(), Expected::Count),
+            Expected::Count => (number_of(token, 1, 64).is_some(), Expected::Bits),
+            Expected::Bits => (token == b"bits".as_slice(), Expected::Width),
+            Expected::Width => (number_of(token, 2, 64).is_some(), Expected::End),
+            Expected::Thread => (number_of(token, 0, 255).is_some(), Expected::Action),
+            Expected::Action => (move_named(token).is_some(), Expected::End),
             Expected::End => (false, Expected::End),
         };
         if is_here { Some(next) } else { None }
@@ -63,19 +63,19 @@ impl Expected {
     }
 }
 
-// Goes along a line, from what its first word may be: the column, in bytes from 1, at which a word
-// begins that may not be there or one is missing, and what could be there.
+// The column of a line, in bytes from 1, at which a token begins that may not be there or one is
+// missing, and what could be there. The first token may be `first`.
 fn unreadable_from(line: &[u8], first: Expected) -> Option<(usize, Expected)>
-    ensures { result ≡ unreadable_from 1 first (words_of line.now) }
+    ensures { result ≡ unreadable_from 1 first (tokens_of line.now) }
 {
     let mut rest = line;
     let mut column: usize = 1;
     let mut expected = first;
-    while let Some((word, after)) = cut_at(rest, b' ') {
-        let Some(next) = expected.after(word) else {
+    while let Some((token, after)) = cut_at(rest, b' ') {
+        let Some(next) = expected.after(token) else {
             return Some((column, expected));
         };
-        column += word.len() + 1;
+        column += token.len() + 1;
         rest = after;
         expected = next;
     }
@@ -91,7 +91,7 @@ fn unreadable_from(line: &[u8], first: Expected) -> Option<(usize, Expected)>
 /// The place at which a line stops being a header. A header whose words are too narrow for its
 /// threads has no such place.
 pub fn unreadable_header(line: &[u8]) -> Option<(usize, Expected)>
-    ensures place { result ≡ unreadable_from 1 Lock (words_of line.now) }
+    ensures place { result ≡ unreadable_from 1 Lock (tokens_of line.now) }
     ensures none { (number : ℕ) → IsNone result ↔ IsHeader (header_of number line.now) }
 {
     unreadable_from(line, Expected::Lock)
@@ -99,7 +99,7 @@ pub fn unreadable_header(line: &[u8]) -> Option<(usize, Expected)>
 
 /// The place at which a line stops being a move.
 pub fn unreadable_move(line: &[u8]) -> Option<(usize, Expected)>
-    ensures place { result ≡ unreadable_from 1 Thread (words_of line.now) }
+    ensures place { result ≡ unreadable_from 1 Thread (tokens_of line.now) }
     ensures none { IsNone result ↔ IsSome (move_of line.now) }
 {
     unreadable_from(line, Expected::Thread)

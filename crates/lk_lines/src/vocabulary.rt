@@ -1,15 +1,15 @@
-//! The meaning of a word of a text: a number, a lock, a call, a step or an outcome. Each word is
-//! written once, in a table that is read both ways and listed.
+//! The names of locks, calls, steps and outcomes in a text, and numbers. Each name is written once,
+//! in a table that is read both ways and listed.
 
 ghost use Rattle.std.specs.Prelude.{◌≡◌, ◌≤◌, ◌++◌, ◌∷◌, IfSome, codes, length, take};
 ghost use Rattle.lk_lines.specs.Digits.{whole_number};
-ghost use Rattle.lk_lines.specs.Vocabulary.{lock_name, lock_named, move_named, move_word};
-ghost use Rattle.lk_lines.specs.Vocabulary.{number_of, outcome_named, outcome_word};
+ghost use Rattle.lk_lines.specs.Vocabulary.{lock_name, lock_named, move_named, move_name};
+ghost use Rattle.lk_lines.specs.Vocabulary.{number_of, outcome_named, outcome_name};
 
 use lk_locks::{LockKind, Move, Op, Outcome, StepKind};
 
-// The words of the locks.
-macro_rules! lock_words {
+// The names of the locks.
+macro_rules! lock_names {
     ($rule:ident, $given:expr) => {
         $rule!($given;
             [LockKind::Ticket] "ticket",
@@ -20,8 +20,8 @@ macro_rules! lock_words {
     };
 }
 
-// The words of the moves. The steps are tried first, and of these the most common.
-macro_rules! move_words {
+// The names of the moves. The steps are tried first, and of these the most common.
+macro_rules! move_names {
     ($rule:ident, $given:expr) => {
         $rule!($given;
             [Move::Step(StepKind::Read)] "read",
@@ -41,8 +41,8 @@ macro_rules! move_words {
     };
 }
 
-// The words of the outcomes of steps, after that of a call if it is given.
-macro_rules! outcome_words {
+// The names of the outcomes of steps, after that of a call if it is given.
+macro_rules! outcome_names {
     ($rule:ident, $given:expr $(, $($call:tt)+)?) => {
         $rule!($given;
             $($($call)+)?
@@ -54,21 +54,21 @@ macro_rules! outcome_words {
     };
 }
 
-// The meaning of a word, by such a table.
+// The meaning of a name, by such a table.
 macro_rules! named {
-    ($word:expr; $([$($value:tt)+] $text:literal,)+) => {
-        $(if $word == $text.as_bytes() { Some($($value)+) } else)+ { None }
+    ($name:expr; $([$($value:tt)+] $text:literal,)+) => {
+        $(if $name == $text.as_bytes() { Some($($value)+) } else)+ { None }
     };
 }
 
-// The word of a value, by such a table.
+// The name of a value, by such a table.
 macro_rules! text {
     ($value:expr; $([$($pattern:tt)+] $text:literal,)+) => {
         match $value { $($($pattern)+ => $text,)+ }
     };
 }
 
-// The word of a value and a space, at the front of at least 16 bytes, and how long that is.
+// The name of a value and a space, at the front of at least 16 bytes, and how long that is.
 macro_rules! block {
     ($value:expr; $([$($pattern:tt)+] $text:literal,)+) => {
         match $value {
@@ -77,7 +77,7 @@ macro_rules! block {
     };
 }
 
-// The meaning of such a word before a line feed, at the front of a text, and the text after them.
+// The meaning of such a name before a line feed, at the front of a text, and the text after them.
 macro_rules! first {
     ($whole:expr; $([$($value:tt)+] $text:literal,)+) => {
         $(if let Some(rest) = rest_after($whole, concat!($text, "\n").as_bytes()) {
@@ -86,19 +86,19 @@ macro_rules! first {
     };
 }
 
-// All words of such a table.
-macro_rules! words {
+// All names of such a table.
+macro_rules! names {
     ($given:expr; $([$($value:tt)+] $text:literal,)+) => { [$($text,)+] };
 }
 
 /// The names of all locks.
-pub const LOCK_NAMES: [&str; 4] = lock_words!(words, ());
+pub const LOCK_NAMES: [&str; 4] = lock_names!(names, ());
 
-/// The words of all moves.
-pub const MOVE_WORDS: [&str; 13] = move_words!(words, ());
+/// The names of all moves.
+pub const MOVE_NAMES: [&str; 13] = move_names!(names, ());
 
-/// The words of all outcomes of a step.
-pub const OUTCOME_WORDS: [&str; 4] = outcome_words!(words, ());
+/// The names of all outcomes of a step.
+pub const OUTCOME_NAMES: [&str; 4] = outcome_names!(names, ());
 
 /// The number of at most 64 bits that the text is, without leading zeros.
 #[tactic(auto, unfolding(crate::specs::Digits::whole_number))]
@@ -137,42 +137,42 @@ pub fn number_of(text: &[u8], least: u8, most: u8) -> Option<u8>
 pub fn lock_named(name: &[u8]) -> Option<LockKind>
     ensures { result ≡ lock_named name.now }
 {
-    lock_words!(named, name)
+    lock_names!(named, name)
 }
 
 /// The name of a lock.
 pub fn lock_text(kind: LockKind) -> &'static str
     ensures { result.now ≡ lock_name kind }
 {
-    lock_words!(text, kind)
+    lock_names!(text, kind)
 }
 
-/// The move of that word.
+/// The move of that name.
 #[tactic(auto, unfolding(crate::specs::Vocabulary::move_named))]
-pub fn move_named(word: &[u8]) -> Option<Move>
-    ensures { result ≡ move_named word.now }
+pub fn move_named(name: &[u8]) -> Option<Move>
+    ensures { result ≡ move_named name.now }
 {
-    move_words!(named, word)
+    move_names!(named, name)
 }
 
-/// The word of a move.
+/// The name of a move.
 pub fn move_text(action: Move) -> &'static str
-    ensures word { result.now ≡ move_word action }
+    ensures name { result.now ≡ move_name action }
     ensures short { length result.now ≤ 14 }
 {
-    move_words!(text, action)
+    move_names!(text, action)
 }
 
-/// The word of a move and a space, at the front of a block, and how long that is.
+/// The name of a move and a space, at the front of a block, and how long that is.
 pub fn move_block(action: Move) -> (&'static [u8], usize)
-    ensures text { take result.1 result.0.now ≡ move_word action ++ codes " " }
+    ensures text { take result.1 result.0.now ≡ move_name action ++ codes " " }
     ensures wide { 16 ≤ length result.0.now }
     ensures fits { result.1 ≤ 16 }
 {
-    move_words!(block, action)
+    move_names!(block, action)
 }
 
-// The text after the bytes with which it begins. Most words differ from it in their first four
+// The text after the bytes with which it begins. Most names differ from it in their first four
 // bytes, which are compared at once.
 #[inline(always)]
 fn rest_after<'a>(text: &'a [u8], bytes: &[u8]) -> Option<&'a [u8]>
@@ -185,33 +185,33 @@ fn rest_after<'a>(text: &'a [u8], bytes: &[u8]) -> Option<&'a [u8]>
     rest.strip_prefix(&bytes[4..])
 }
 
-/// The move whose word comes first in a text, before a line feed, and the text after that.
-pub fn first_word(text: &[u8]) -> Option<(Move, &[u8])>
-    ensures { IfSome result (λ first. text.now ≡ move_word first.0 ++ 10 ∷ first.1.now) }
+/// The move whose name comes first in a text, before a line feed, and the text after that.
+pub fn first_action(text: &[u8]) -> Option<(Move, &[u8])>
+    ensures { IfSome result (λ first. text.now ≡ move_name first.0 ++ 10 ∷ first.1.now) }
 {
-    move_words!(first, text)
+    move_names!(first, text)
 }
 
-/// The outcome of a step that has this word.
+/// The outcome of a step that has this name.
 #[tactic(auto, unfolding(crate::specs::Vocabulary::outcome_named))]
-pub fn outcome_named(word: &[u8]) -> Option<Outcome>
-    ensures { result ≡ outcome_named word.now }
+pub fn outcome_named(name: &[u8]) -> Option<Outcome>
+    ensures { result ≡ outcome_named name.now }
 {
-    outcome_words!(named, word)
+    outcome_names!(named, name)
 }
 
-/// The word of an outcome.
+/// The name of an outcome.
 pub fn outcome_text(outcome: Outcome) -> &'static str
-    ensures { result.now ≡ outcome_word outcome }
+    ensures { result.now ≡ outcome_name outcome }
 {
-    outcome_words!(text, outcome, [Outcome::Called] "called",)
+    outcome_names!(text, outcome, [Outcome::Called] "called",)
 }
 
-/// The word of an outcome and a space, at the front of a block, and how long that is.
+/// The name of an outcome and a space, at the front of a block, and how long that is.
 pub fn outcome_block(outcome: Outcome) -> (&'static [u8], usize)
-    ensures text { take result.1 result.0.now ≡ outcome_word outcome ++ codes " " }
+    ensures text { take result.1 result.0.now ≡ outcome_name outcome ++ codes " " }
     ensures wide { 16 ≤ length result.0.now }
     ensures fits { result.1 ≤ 16 }
 {
-    outcome_words!(block, outcome, [Outcome::Called] "called",)
+    outcome_names!(block, outcome, [Outcome::Called] "called",)
 }

@@ -79,9 +79,7 @@ impl<W: Words> Keeper<W> {
         ensures played { OnOk result (self.new ≡ after_play self.old t m) }
         ensures kept { OnErr result (self.new ≡ self.old) }
     {
-        if let Err(refusal) = self.lock.machine().check(t, m) {
-            return Err(PlayFault::Refused(refusal));
-        }
+        self.lock.machine().check(t, m).map_err(PlayFault::Refused)?;
         self.history.make_room().or(Err(PlayFault::OutOfMemory))?;
         match self.lock.play(t, m) {
             Ok((outcome, added)) => {

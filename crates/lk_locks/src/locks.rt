@@ -2,7 +2,7 @@
 //! the locks share calls these, and knows no lock.
 
 ghost use Rattle.std.specs.Prelude.{◌≡◌, ◌≤◌, ℕ, IfSome};
-ghost use Rattle.lk_locks.specs.Change.{Makes, entries_by, kind_of};
+ghost use Rattle.lk_locks.specs.Change.{Makes, entries_by};
 ghost use Rattle.lk_locks.specs.Locks.{family_of, word_count, after_call, step_due};
 ghost use Rattle.lk_locks.specs.Locks.{operation_of, effect_of, step_of, step_entries};
 ghost use Rattle.lk_locks.specs.Effects.{IsEffectOf};
@@ -75,20 +75,6 @@ pub(crate) fn after_call(kind: LockKind, phase: Phase, op: Op) -> Option<Phase>
     }
 }
 
-/// The kind of step that an operation is.
-#[inline(always)]
-fn kind_of(operation: Operation) -> StepKind
-    ensures { result ≡ kind_of operation }
-{
-    match operation {
-        Operation::Read { .. } => StepKind::Read,
-        Operation::Write { .. } => StepKind::Write,
-        Operation::Swap { .. } => StepKind::Swap,
-        Operation::CompareAndSwap { .. } => StepKind::Cas,
-        Operation::FetchAndAdd { .. } => StepKind::Add,
-    }
-}
-
 /// The operation that a thread in this phase makes next, on one word of so many bits. There is none
 /// if its next step is a section.
 #[inline(always)]
@@ -124,10 +110,16 @@ pub(crate) fn step_by(
     requires { (bits t : ℕ) × (operation ≡ operation_of kind bits t phase) }
     ensures { result ≡ step_due kind phase }
 {
-    match kind {
-        LockKind::Ticket | LockKind::Mcs => Some(kind_of(operation?)),
-        LockKind::RwSimple | LockKind::RwFifo => read_write::step_due(phase),
+    if let LockKind::RwSimple | LockKind::RwFifo = kind {
+        return read_write::step_due(phase);
     }
+    Some(match operation? {
+        Operation::Read { .. } => StepKind::Read,
+        Operation::Write { .. } => StepKind::Write,
+        Operation::Swap { .. } => StepKind::Swap,
+        Operation::CompareAndSwap { .. } => StepKind::Cas,
+        Operation::FetchAndAdd { .. } => StepKind::Add,
+    })
 }
 
 /// A step of a thread in this phase, which makes this operation, with its new phase.

@@ -90,20 +90,6 @@ fn section_on(bits: u8, first: u64, second: u64, third: Option<u64>, phase: Phas
     }
 }
 
-// Reads the third word of the FIFO lock.
-#[inline(always)]
-fn read_third<W: Words>(words: &mut W, family: Family) -> Option<u64>
-    requires { word_count family ≤ length (W.list words.old) }
-    ensures value { result ≡ third_word family (W.list words.old) }
-    ensures kept { W.list words.new ≡ W.list words.old }
-    ensures width { W.width words.new ≡ W.width words.old }
-{
-    match family {
-        Family::FifoReadWrite => Some(words.read(2)),
-        _ => None,
-    }
-}
-
 // The third word of the FIFO lock, without an operation of a thread.
 fn third_of(words: &WordArray, family: Family) -> Option<u64>
     requires { word_count family ≤ length words.now.0 }
@@ -126,7 +112,10 @@ pub fn step<W: Words>(words: &mut W, family: Family, phase: Phase) -> (Phase, Ou
 {
     let bits = words.bits();
     let (first, second) = (words.read(0), words.read(1));
-    let third = read_third(words, family);
+    let third = match family {
+        Family::FifoReadWrite => Some(words.read(2)),
+        _ => None,
+    };
     let section = section_on(bits, first, second, third, phase);
     if let Some((word, value)) = section.first {
         words.write(word, value);

@@ -4,22 +4,15 @@
 ghost use Rattle.std.specs.Prelude.{◌≡◌};
 ghost use Rattle.lk_locks.specs.Change.{Makes};
 ghost use Rattle.lk_locks.specs.Locks.{operation_of};
-ghost use Rattle.lk_locks.specs.Steps.{refusal_at, refusal_in, move_change};
+ghost use Rattle.lk_locks.specs.Steps.{refusal_at, move_change};
 ghost use Rattle.lk_locks.specs.invariants.WellFormed.{IsReady};
 
-use crate::locks::{after_call, step_due, take_step};
+use crate::locks::{after_call, take_step};
 use crate::{LockKind, Move, Outcome, Phase, Refusal, StepKind};
 use lk_words::{Operation, Words};
 
-/// The refusal of a move that belongs to the lock, by a thread in this phase, if there is one.
-#[inline(always)]
-pub fn refusal_in(kind: LockKind, phase: Phase, action: Move) -> Option<Refusal>
-    ensures { result ≡ refusal_in kind phase action }
-{
-    refusal_at(kind, phase, step_due(kind, phase), action)
-}
-
-/// The same, by the step that the thread takes next.
+/// The refusal of a move that belongs to the lock, by a thread in this phase that takes this step
+/// next, if there is one.
 #[inline(always)]
 pub(crate) fn refusal_at(
     kind: LockKind,

@@ -3,9 +3,10 @@ use Rattle.std.proofs.Common.{◌≡◌, List, [], ◌∷◌, ◌++◌, Option, 
 use Rattle.std.proofs.Common.{append-nil, ℕ, length, take, drop, Result, Ok, refl, ap}
 use Rattle.std.specs.List.{flat_map}
 use Rattle.std.specs.Option.{option_map_or}
+use Rattle.lk_locks.specs.State.{start_of}
 use Rattle.lk_locks.specs.Steps.{refusal_of, next_state, entries_of}
 use Rattle.lk_locks.specs.declared.kinds.Refusal.{Refusal}
-use Rattle.lk_replay.specs.Replay.{replay_from, made_by, with_move, refused_or, start_of}
+use Rattle.lk_replay.specs.Replay.{replay_from, made_by, with_move, refused_or}
 use Rattle.lk_replay.specs.declared.schedule.Line.{Line}
 use Rattle.lk_page.specs.Told.{Moment, after_line, after_lines, beginning}
 use Rattle.lk_locks.specs.Play.{Tracked, tracker_of, holding_in, waiting_in}
@@ -40,17 +41,19 @@ entries_replayed m (l ∷ ls) =
 
 same_state : (p : Plan) (most moves : ℕ) (k : Tracked) (count : ℕ) (refused : Option (ℕ × Refusal))
     (old new : List ℕ)
-    → HavePlayed (start_of p) (take most p.moves) old k count refused new → moves ≡ length p.moves
+    → HavePlayed (start_of p.shape) (take most p.moves) old k count refused new
+    → moves ≡ length p.moves
     → let end : Moment = after_lines (beginning p) (take most p.moves) in
     bytes_of_state moves count refused k.state (holding_in k) (waiting_in k)
-    ≡ state_bytes (length p.moves) (length (replay_from (start_of p) (take most p.moves)).made)
-    (replay_from (start_of p) (take most p.moves)).refused end
+    ≡ state_bytes (length p.moves)
+    (length (replay_from (start_of p.shape) (take most p.moves)).made)
+    (replay_from (start_of p.shape) (take most p.moves)).refused end
 same_state p most moves k count refused old new h m = rw (h.after, h.made, h.stopped, m) refl
 
 pub plays : (p : Plan) (read : Result Plan Fault) (most answer moves : ℕ) (first k : Tracked)
     (count : ℕ) (refused : Option (ℕ × Refusal))
     (records_old records_new state_old state_new bytes : List ℕ)
-    → read ≡ Ok p → first ≡ tracker_of (start_of p) []
+    → read ≡ Ok p → first ≡ tracker_of (start_of p.shape) []
     → HavePlayed first.state (take most p.moves) records_old k count refused records_new
     → answer ≡ answer_of refused → moves ≡ length p.moves
     → bytes ≡ bytes_of_state moves count refused k.state (holding_in k) (waiting_in k)
@@ -58,7 +61,8 @@ pub plays : (p : Plan) (read : Result Plan Fault) (most answer moves : ℕ) (fir
     → IsTold read most answer records_old records_new state_old state_new
 plays p read most answer moves first k count refused records_old records_new state_old state_new
     bytes r e h a m b w =
-    let g : HavePlayed (start_of p) (take most p.moves) records_old k count refused records_new =
+    let g : HavePlayed (start_of p.shape) (take most p.moves) records_old k count refused
+    records_new =
     rw e at h in
     rw r (record {
       answer_is = a ∙ ap answer_of g.stopped;

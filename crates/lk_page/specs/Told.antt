@@ -4,7 +4,7 @@ use Rattle.std.specs.Prelude.{◌≡◌, ◌≢◌, ℕ, ◌<◌, List, [], ◌�
 use Rattle.std.specs.Prelude.{None, Some, option_map, IfSome, IsSomeAnd, Bool, false, ◌==◌}
 use Rattle.std.specs.Option.{option_map_or}
 use Rattle.lk_words.specs.Operations.{word_of}
-use Rattle.lk_locks.specs.State.{State, phase_at}
+use Rattle.lk_locks.specs.State.{State, phase_at, start_of}
 use Rattle.lk_locks.specs.Locks.{operation_of, step_due}
 use Rattle.lk_locks.specs.Steps.{refusal_of, change_of, next_state, entries_of}
 use Rattle.lk_locks.specs.Sequential.{has}
@@ -14,7 +14,7 @@ use Rattle.lk_locks.specs.declared.kinds.Move.{Move}
 use Rattle.lk_locks.specs.declared.kinds.Move.TheVariants.{Call, Step}
 use Rattle.lk_locks.specs.declared.kinds.Entry.{Entry}
 use Rattle.lk_replay.specs.Schedule.{Plan}
-use Rattle.lk_replay.specs.Replay.{start_of, made_by}
+use Rattle.lk_replay.specs.Replay.{made_by}
 use Rattle.lk_replay.specs.declared.schedule.Line.{Line}
 use Rattle.lk_search.specs.Sketches.{transition_of}
 use Rattle.lk_page.specs.Next.{allowed_calls, waits_after}
@@ -31,7 +31,7 @@ pub record Moment : Type 0 where
 
 -- before the first move of a plan
 abbrev pub beginning : Plan → Moment
-beginning p = record { state = start_of p; entries = [] }
+beginning p = record { state = start_of p.shape; entries = [] }
 
 -- after an accepted move
 abbrev pub after_line : Moment → Line → Moment

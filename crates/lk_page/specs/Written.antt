@@ -2,11 +2,12 @@
 use Rattle.std.specs.Prelude.{◌≡◌, ℕ, ◌+◌, ◌*◌, List, [], ◌∷◌, ◌++◌, length, take, drop, Option}
 use Rattle.std.specs.Prelude.{MatchOption, None, Some, Result, Ok, Err, if◌then◌else◌, nat_le}
 use Rattle.std.specs.List.{flat_map}
+use Rattle.lk_locks.specs.State.{start_of}
 use Rattle.lk_locks.specs.Steps.{refusal_of}
 use Rattle.lk_locks.specs.declared.kinds.Refusal.{Refusal}
 use Rattle.lk_lines.specs.Faults.{Fault}
 use Rattle.lk_replay.specs.Schedule.{Plan}
-use Rattle.lk_replay.specs.Replay.{Replay, replay_from, start_of}
+use Rattle.lk_replay.specs.Replay.{Replay, replay_from}
 use Rattle.lk_replay.specs.declared.schedule.Line.{Line}
 use Rattle.lk_page.specs.Layout.{record_bytes, state_bytes, fault_bytes}
 use Rattle.lk_page.specs.Told.{Moment, beginning, after_line, after_lines, IsRecord}
@@ -34,7 +35,7 @@ answer_of (Some r) = 1
 
 -- the replay of the first `most` moves of a plan
 abbrev pub replay_of_first : Plan → ℕ → Replay
-replay_of_first p most = replay_from (start_of p) (take most p.moves)
+replay_of_first p most = replay_from (start_of p.shape) (take most p.moves)
 
 -- The answer and the written bytes of a text that has this schedule. The entries that the replay
 -- leaves say who holds and who waits.

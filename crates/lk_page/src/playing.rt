@@ -5,7 +5,7 @@
 ghost use Rattle.std.specs.Prelude.{◌≡◌, ◌+◌, ◌*◌, ◌<◌, ◌≤◌, IfErr, IfOk, [], length, take};
 ghost use Rattle.lk_lines.specs.Reads.{Gives, IsOfText};
 ghost use Rattle.lk_locks.specs.Play.{tracker_of};
-ghost use Rattle.lk_replay.specs.Schedule.{moves_from, plan_of, plan_with};
+ghost use Rattle.lk_replay.specs.Schedule.{moves_from, plan_of};
 ghost use Rattle.lk_page.specs.Layout.{record_bytes};
 ghost use Rattle.lk_page.specs.Playing.{AreMoves, HavePlayed, move_count, moves_left};
 ghost use Rattle.lk_page.specs.Written.{with_bytes_at};
@@ -37,7 +37,7 @@ fn count_moves(lines: Lines<'_>) -> Result<u32, ReadFault>
 ///
 /// The text's fault.
 pub fn open_schedule(text: &[u8]) -> Result<(Shape, Lines<'_>, u32), ReadFault>
-    ensures read { Gives (λ read. plan_with read.0 (moves_left read.1 0)) result
+    ensures read { Gives (λ read. record { shape = read.0; moves = moves_left read.1 0 }) result
         (plan_of text.now) }
     ensures whole { IfOk result (λ read. AreMoves read.1 0) }
     ensures count { IfOk result (λ read. read.2 ≡ length (moves_left read.1 0)) }

@@ -245,7 +245,7 @@ fault_ending (TooManyMoves n) = marked_ending (codes "fault") (codes "TooManyMov
 fault_ending (WordsTooNarrow n) = marked_ending (codes "fault") (codes "WordsTooNarrow") n refl refl
 
 of_plan : (read : Result Plan Fault) → ending_of (plan_text read) ≡ plan_ending read
-of_plan (Ok plan) = lines_ending plan.kind 0 [] (replay_of plan).made (replay_of plan).refused
+of_plan (Ok plan) = lines_ending plan.shape.kind 0 [] (replay_of plan).made (replay_of plan).refused
 of_plan (Err fault) = fault_ending fault
 
 report_ending : (text : List ℕ) → ending_of (report_text text) ≡ plan_ending (plan_of text)
@@ -268,6 +268,6 @@ ends_by_plan text plan is = sym (report_ending text ∙ ap plan_ending is)
 
 -- the report of a schedule
 pub report_is : (text : List ℕ) (plan : Plan) → plan_of text ≡ Ok plan
-    → replay_text plan.kind (replay_of plan) ≡ report_text text
+    → replay_text plan.shape.kind (replay_of plan) ≡ report_text text
 unfolding report_text
 report_is text plan is = sym (ap plan_text is)

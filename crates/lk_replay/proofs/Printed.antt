@@ -1,18 +1,14 @@
 -- The lines that are printed as the moves are played are those of the report.
-use Rattle.std.proofs.Common.{◌≡◌, ℕ, ◌+◌, ◌<◌, ◌≤◌, ◌^◌, replicate, List, [], ◌∷◌, ◌++◌, length}
+use Rattle.std.proofs.Common.{◌≡◌, ℕ, ◌+◌, ◌<◌, List, [], ◌∷◌, ◌++◌}
 use Rattle.std.proofs.Common.{Option, None, Some, is_some, false, refl, ap, ◌∙◌, arith}
-use Rattle.lk_locks.specs.State.{State}
-use Rattle.lk_locks.specs.Locks.{word_count}
+use Rattle.lk_locks.specs.State.{State, start_of}
 use Rattle.lk_locks.specs.Sequential.{nobody}
-use Rattle.lk_locks.specs.invariants.Kept.{IsTracked}
-use Rattle.lk_locks.proofs.Machines.{kept_start}
-use Rattle.std.proofs.lemmas.List.{get_or-replicate, length-replicate}
 use Rattle.lk_locks.specs.declared.kinds.Entry.{Entry}
 use Rattle.lk_locks.specs.declared.kinds.LockKind.{LockKind}
 use Rattle.lk_locks.specs.declared.kinds.Refusal.{Refusal}
 use Rattle.lk_locks.proofs.Histories.{after_append, holder_append}
 use Rattle.lk_replay.specs.Occupancy.{Occupancy, occupancy_after, occupancy_of, occupancy_text}
-use Rattle.lk_replay.specs.Replay.{Made, Replay, replay_from, replay_of, start_of}
+use Rattle.lk_replay.specs.Replay.{Made, Replay, replay_from, replay_of}
 use Rattle.lk_replay.specs.Report.{line_start, lines_text, replay_text, state_text}
 use Rattle.lk_replay.specs.ReportRest.{rest_of, text_from}
 use Rattle.lk_replay.specs.Schedule.{Plan}
@@ -38,11 +34,12 @@ text_is kind count es (m ∷ ms) refused =
 
 -- a new replay prints the report of the schedule
 pub replay_printed : (p : Plan) (o : Occupancy) (count : ℕ) (s : State) (moves : List Line)
-    → o ≡ occupancy_of p.kind [] → count ≡ 0 → s ≡ start_of p → moves ≡ p.moves
+    → o ≡ occupancy_of p.shape.kind [] → count ≡ 0 → s ≡ start_of p.shape → moves ≡ p.moves
     → let rest : Replay = replay_from s moves in
-    text_from o count rest.made rest.refused ≡ replay_text p.kind (replay_of p)
+    text_from o count rest.made rest.refused ≡ replay_text p.shape.kind (replay_of p)
 replay_printed p o count s moves follows none starts are =
-    rw (follows, none, starts, are) (text_is p.kind 0 [] (replay_of p).made (replay_of p).refused)
+    rw (follows, none, starts, are)
+    (text_is p.shape.kind 0 [] (replay_of p).made (replay_of p).refused)
 
 -- a report that did not end has lines left
 pub lines_left : (ending : Option Ending) (o : Occupancy) (count : ℕ) (rest : Replay)

@@ -12,7 +12,7 @@ use Rattle.std.proofs.lemmas.List.{get_or-replicate, length-replicate}
 use Rattle.std.proofs.lemmas.Result.{IfOk-at_ok}
 use Rattle.lk_locks.proofs.Runs.{every_run_is_as_promised}
 use Rattle.lk_locks.specs.MainTheorem.{IsAsPromised}
-use Rattle.lk_locks.specs.State.{State, Shape}
+use Rattle.lk_locks.specs.State.{State, Shape, start_of}
 use Rattle.lk_locks.specs.Steps.{entries_after, refusal_of, next_state}
 use Rattle.lk_locks.specs.Locks.{word_count}
 use Rattle.lk_locks.specs.declared.kinds.Entry.{Entry}
@@ -20,10 +20,10 @@ use Rattle.lk_locks.specs.declared.kinds.Move.{Move}
 use Rattle.lk_locks.specs.declared.kinds.Refusal.{Refusal}
 use Rattle.lk_lines.specs.Faults.{Fault}
 use Rattle.lk_locks.specs.declared.kinds.LockKind.{LockKind}
-use Rattle.lk_lines.specs.Header.{header_of, header_of_shape, shape_of_words, with_threads}
-use Rattle.lk_lines.specs.Lines.{is_skipped, lines_of, words_of}
+use Rattle.lk_lines.specs.Header.{header_of, header_of_shape, header_of_tokens, with_threads}
+use Rattle.lk_lines.specs.Lines.{is_skipped, lines_of, tokens_of}
 use Rattle.lk_replay.specs.Replay.{Made, Replay, Replayed, made_by, refused_or, replay_from}
-use Rattle.lk_replay.specs.Replay.{replay_of, replayed_of, start_of, with_move}
+use Rattle.lk_replay.specs.Replay.{replay_of, replayed_of, with_move}
 use Rattle.lk_replay.specs.Report.{plan_text, report_text}
 use Rattle.lk_lines.specs.Digits.{is_plain_number, value_from}
 use Rattle.lk_lines.specs.Vocabulary.{number_of}
@@ -56,7 +56,7 @@ run_of (l ∷ ls) s =
     (run_of ls (next_state s l.thread l.action))
 
 pub history_of : (p : Plan) → IsHistoryOf p (replayed_of p).accepted (replayed_of p).entries
-history_of p = sym (run_of p.moves (start_of p))
+history_of p = sym (run_of p.moves (start_of p.shape))
 
 -- so it is of what was played
 pub history_as_played : (p : Plan) (r : Replayed) → r ≡ replayed_of p
@@ -73,7 +73,7 @@ abbrev HeaderFits : Result Shape Fault → Type 0
 HeaderFits read = IfOk read (λ h. Fits h.threads h.bits)
 
 abbrev PlanFits : Result Plan Fault → Type 0
-PlanFits read = IfOk read (λ p. Fits p.threads p.bits)
+PlanFits read = IfOk read (λ p. Fits p.shape.threads p.shape.bits)
 
 number_most : (least most : ℕ) (text : List ℕ) → IfSome (number_of least most text) (λ n. n ≤ most)
 unfolding number_of
@@ -103,7 +103,7 @@ shape_fits number (Some (kind, (count, bits))) =
 
 header_fits : (number : ℕ) (line : List ℕ) → HeaderFits (header_of number line)
 unfolding header_of
-header_fits number line = shape_fits number (shape_of_words (words_of line))
+header_fits number line = shape_fits number (header_of_tokens (tokens_of line))
 
 both_fit : (header : Result Shape Fault) (moves : Result (List Line) Fault) → HeaderFits header
     → PlanFits (with_header header moves)
@@ -129,14 +129,14 @@ plan_fits bytes = elim (cases_Bool (nat_lt 1048576 (length bytes))) [
 pub every_report_is_as_promised : (bytes : List ℕ) → IsReportOfText bytes (report_text bytes)
 unfolding report_text
 every_report_is_as_promised bytes p is =
-    let fits = IfOk-at_ok (λ (x : Plan). Fits x.threads x.bits) is (plan_fits bytes) in
-    let n = word_count p.kind p.threads in
+    let fits = IfOk-at_ok (λ (x : Plan). Fits x.shape.threads x.shape.bits) is (plan_fits bytes) in
+    let n = word_count p.shape.kind p.shape.threads in
     let size = length-replicate {A = ℕ} n 0 in
     record {
       text = ap plan_text is;
       history = history_of p;
-      promised = subst (IsAsPromised p.kind p.threads) (sym (history_of p))
-          (every_run_is_as_promised p.kind p.bits (replicate n 0) p.threads
+      promised = subst (IsAsPromised p.shape.kind p.shape.threads) (sym (history_of p))
+          (every_run_is_as_promised p.shape.kind p.shape.bits (replicate n 0) p.shape.threads
           (moves_made (replay_of p).made) fits.few fits.narrow (omega (arith, size))
           (λ i low. get_or-replicate n i 0 0 (omega (arith, size, low))));
     }

@@ -1,9 +1,8 @@
 -- Definitions: the replay of a schedule, its moves in order up to the first refused one. The
 -- definitions of the locks alone say what a move does.
-use Rattle.std.specs.Prelude.{ℕ, List, [], ◌∷◌, map, Option, None, Some, replicate}
+use Rattle.std.specs.Prelude.{ℕ, List, [], ◌∷◌, map, Option, None, Some}
 use Rattle.std.specs.List.{flat_map}
-use Rattle.lk_locks.specs.State.{State, start}
-use Rattle.lk_locks.specs.Locks.{word_count}
+use Rattle.lk_locks.specs.State.{State, start_of}
 use Rattle.lk_locks.specs.Steps.{refusal_of, change_of, next_state, entries_of}
 use Rattle.lk_locks.specs.declared.kinds.LockKind.{LockKind}
 use Rattle.lk_locks.specs.declared.kinds.Entry.{Entry}
@@ -47,12 +46,8 @@ replay_from s (l ∷ ls) =
     refused_or (refusal_of s l.thread l.action) l.number
     (with_move (made_by s l) (replay_from (next_state s l.thread l.action) ls))
 
--- the state before the first move
-abbrev pub start_of : Plan → State
-start_of p = start p.kind p.bits (replicate (word_count p.kind p.threads) 0) p.threads
-
 abbrev pub replay_of : Plan → Replay
-replay_of p = replay_from (start_of p) p.moves
+replay_of p = replay_from (start_of p.shape) p.moves
 
 -- the view of a replay: the lock and the number of its threads, the accepted moves, their entries,
 -- and the refused move
@@ -66,8 +61,8 @@ pub record Replayed : Type 0 where
 -- the view of the replay of a plan
 abbrev pub replayed_of : Plan → Replayed
 replayed_of p = record {
-  kind = p.kind;
-  threads = p.threads;
+  kind = p.shape.kind;
+  threads = p.shape.threads;
   accepted = map (λ m. m.accepted) (replay_of p).made;
   entries = flat_map (λ m. m.entries) (replay_of p).made;
   refused = (replay_of p).refused;

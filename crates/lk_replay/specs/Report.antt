@@ -12,7 +12,7 @@ use Rattle.lk_locks.specs.declared.kinds.Refusal.TheVariants.{WrongStep}
 use Rattle.lk_locks.specs.Refusals.{name_of}
 use Rattle.lk_lines.specs.Faults.{Fault, TooLong, NoHeader, BadHeader, BadThreads, BadLine}
 use Rattle.lk_lines.specs.Faults.{TooManyMoves, WordsTooNarrow}
-use Rattle.lk_lines.specs.Vocabulary.{move_word, outcome_word}
+use Rattle.lk_lines.specs.Vocabulary.{move_name, outcome_name}
 use Rattle.lk_replay.specs.Schedule.{Plan, plan_of}
 use Rattle.lk_replay.specs.Replay.{Made, Replay, replay_of}
 use Rattle.lk_replay.specs.declared.played.Accepted.{Accepted}
@@ -50,12 +50,12 @@ state_text kind es = shown_text (holding_of kind es) (waiting_of kind es)
 -- `K T WORD OUTCOME hold `
 unfoldable pub line_start : ℕ → Accepted → List ℕ
 line_start count a =
-    decimal count ++ codes " " ++ decimal a.thread ++ codes " " ++ move_word a.action ++ codes " "
-    ++ outcome_word a.outcome ++ codes " hold "
+    decimal count ++ codes " " ++ decimal a.thread ++ codes " " ++ move_name a.action ++ codes " "
+    ++ outcome_name a.outcome ++ codes " hold "
 
 -- its name, and ` next ` with the thread's next step if another was to be made
 unfoldable pub refusal_text : Refusal → List ℕ
-refusal_text (WrongStep next) = name_of (WrongStep next) ++ codes " next " ++ move_word (Step next)
+refusal_text (WrongStep next) = name_of (WrongStep next) ++ codes " next " ++ move_name (Step next)
 refusal_text refusal = name_of refusal
 
 -- `WHAT line L `
@@ -93,7 +93,7 @@ fault_text (WordsTooNarrow number) = fault_line number (codes "WordsTooNarrow")
 
 -- the report of a text that has this schedule or this fault: a fault anywhere is one line alone
 abbrev pub plan_text : Result Plan Fault → List ℕ
-plan_text (Ok plan) = replay_text plan.kind (replay_of plan)
+plan_text (Ok plan) = replay_text plan.shape.kind (replay_of plan)
 plan_text (Err fault) = fault_text fault
 
 -- the report of a schedule text

@@ -1,7 +1,6 @@
 -- Definitions: the schedule that a text has, or else its one fault.
 use Rattle.std.specs.Prelude.{ℕ, ◌+◌, List, [], ◌∷◌, Option, Some, None, Bool, if◌then◌else◌, ◌==◌}
 use Rattle.std.specs.Prelude.{length, nat_lt, Result, Ok, Err}
-use Rattle.lk_locks.specs.declared.kinds.LockKind.{LockKind}
 use Rattle.lk_locks.specs.declared.kinds.Move.{Move}
 use Rattle.lk_replay.specs.declared.schedule.Line.{Line}
 use Rattle.lk_lines.specs.Lines.{lines_of, is_skipped, move_of}
@@ -32,18 +31,12 @@ moves_from number taken (line ∷ lines) =
 
 -- the lock and the moves of a schedule text
 pub record Plan : Type 0 where
-  pub kind : LockKind
-  pub threads : ℕ
-  pub bits : ℕ
+  pub shape : Shape
   pub moves : List Line
 
-abbrev pub plan_with : Shape → List Line → Plan
-plan_with header moves =
-    record { kind = header.kind; threads = header.threads; bits = header.bits; moves = moves }
-
 abbrev pub with_header : Result Shape Fault → Result (List Line) Fault → Result Plan Fault
-with_header (Ok header) (Ok moves) = Ok (plan_with header moves)
-with_header (Ok header) (Err fault) = Err fault
+with_header (Ok shape) (Ok moves) = Ok (record { shape = shape; moves = moves })
+with_header (Ok shape) (Err fault) = Err fault
 with_header (Err fault) moves = Err fault
 
 -- the lines from line `number` on, if no header came before them

@@ -49,16 +49,12 @@ pub fn read_text<R: Read>(alloc: Global, input: &mut R) -> Result<Vec<u8>, RunFa
     let mut chunk = [0u8; CHUNK];
     while text.len() < READ_LIMIT {
         let want = CHUNK.min(READ_LIMIT - text.len());
-        match input.read(&mut chunk[..want]) {
-            Ok(0) => {
-                text.shrink_to_fit();
-                return Ok(text);
-            }
-            Ok(n) => text
-                .extend_from_slice(&chunk[..n])
-                .or(Err(RunFault::OutOfMemory))?,
-            Err(_) => return Err(RunFault::Read),
+        let count = input.read(&mut chunk[..want]).or(Err(RunFault::Read))?;
+        if count == 0 {
+            break;
         }
+        let read = text.extend_from_slice(&chunk[..count]);
+        read.or(Err(RunFault::OutOfMemory))?;
     }
     text.shrink_to_fit();
     Ok(text)
@@ -79,9 +75,8 @@ pub(crate) fn write_whole<W: Write>(output: &mut W, bytes: &[u8]) -> Result<(), 
     let mut sent: usize = 0;
     while sent < bytes.len() {
         match output.write(&bytes[sent..]) {
-            Ok(0) => return Err(RunFault::Write),
+            Ok(0) | Err(_) => return Err(RunFault::Write),
             Ok(n) => sent += n,
-            Err(_) => return Err(RunFault::Write),
         }
     }
     Ok(())

@@ -3,7 +3,7 @@
 ghost use Rattle.std.specs.Prelude.{◌≡◌, ◌≢◌, ◌+◌, ◌<◌, ◌≤◌, ◌^◌, [], length, IfErr, IfNone, IfOk};
 ghost use Rattle.std.specs.Prelude.{IfSome, MatchOption, Ok};
 ghost use Rattle.lk_lines.specs.Reads.{Fails, Gives, IsOfText};
-ghost use Rattle.lk_replay.specs.Schedule.{moves_from, plan_of, plan_with, with_header};
+ghost use Rattle.lk_replay.specs.Schedule.{moves_from, plan_of, with_header};
 ghost use Rattle.lk_replay.specs.Schedule.{Plan, with_line};
 
 use lk_lines::{Lines, ReadFault, header_of, move_of};
@@ -38,7 +38,7 @@ pub struct Schedule {
 impl Model for Schedule {
     ghost Value = { Plan };
 
-    ghost view = { λ a. plan_with a.shape a.moves.items };
+    ghost view = { λ a. record { shape = a.shape; moves = a.moves.items } };
 
     ghost invariant = { λ a. length a.moves.items ≤ 65536 };
 }
@@ -46,39 +46,26 @@ impl Model for Schedule {
 impl Schedule {
     /// The lock, its threads and its words.
     pub fn shape(&self) -> Shape
-        ensures { result ≡ record {
-          kind = self.now.kind;
-          threads = self.now.threads;
-          bits = self.now.bits;
-        } }
+        ensures { result ≡ self.now.shape }
     {
         self.shape
     }
 
     /// The lock.
     pub fn kind(&self) -> LockKind
-        ensures { result ≡ self.now.kind }
+        ensures { result ≡ self.now.shape.kind }
     {
         self.shape.kind()
     }
 
     /// The number of its threads.
     pub fn threads(&self) -> u8
-        ensures threads { result ≡ self.now.threads }
+        ensures threads { result ≡ self.now.shape.threads }
         ensures some { 0 < result }
         ensures few { result ≤ 64 }
-        ensures narrow { result < 2 ^ self.now.bits }
+        ensures narrow { result < 2 ^ self.now.shape.bits }
     {
         self.shape.threads()
-    }
-
-    /// The number of bits of its words.
-    pub fn bits(&self) -> u8
-        ensures bits { result ≡ self.now.bits }
-        ensures least { 2 ≤ result }
-        ensures most { result ≤ 64 }
-    {
-        self.shape.bits()
     }
 
     /// The moves, in order.

@@ -73,9 +73,8 @@ fn write_report<W: Write>(alloc: Global, output: &mut W, text: &[u8]) -> Result<
 /// Reads a schedule text, and writes its report and nothing else. The report of a schedule shows
 /// the legal history that its moves leave.
 ///
-/// The whole text is read before the first byte goes out. Then each move is played and its line
-/// printed, and each 65,536 bytes are written, so that the memory that this takes does not grow
-/// with the report.
+/// The whole text is read before the first byte goes out. Then each move is played, and its line
+/// goes out with the others that a pipe holds: the memory for it does not grow with the report.
 ///
 /// # Errors
 ///

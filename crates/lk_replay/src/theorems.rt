@@ -1,8 +1,5 @@
-//! The law of every report, from bytes to bytes. Its function's contract is the law, and its body
-//! is empty.
-//!
-//! `report_of`, `run` and whatever calls them give the text `report_text` of their input, by
-//! their own contracts. Here is what that text says.
+//! The law of every report: what the text says that `report_of`, `run` and their callers give by
+//! their contracts. The contract of the function is the law, and its body is empty.
 
 ghost use Rattle.std.specs.Prelude.{ℕ, List};
 ghost use Rattle.lk_replay.specs.Report.{report_text};

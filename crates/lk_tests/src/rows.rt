@@ -16,7 +16,13 @@ pub struct Row {
     pub words: &'static [u64],
 }
 
-pub const ROWS: [Row; 17] = [
+pub const ROWS: [Row; 18] = [
+    Row {
+        header: "lock ticket threads 1",
+        lines: "",
+        operations: 0,
+        words: &[],
+    },
     Row {
         header: "lock ticket threads 2",
         lines: HANDED_ON,

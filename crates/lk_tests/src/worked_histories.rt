@@ -136,12 +136,12 @@ pub fn acts_of_calls()
 
 /// Each part of the theorem is in it.
 ///
-/// Histories fail of one part alone: `two_inside` has two holders, `overtaken` no order,
-/// `two_writers` two writers, and `uncalled` no call. None of them is legal, and every legal
-/// history has the other four parts (`lk_locks::theorems`). So no history tells the theorem from
-/// one with a part less, and each is taken out of it here. The last part of `IsNeverBesideReader`
-/// holds of every list of entries, since the sequential object makes allowed acts alone;
-/// `writers_of_read_write_locks` has a history for each of the other three.
+/// Histories fail of one part alone: `two_inside` has two holders, `overtaking` no order,
+/// `two_writers` two writers, and `act_without_call` no call. None of them is legal, and every
+/// legal history has the other four parts (`lk_locks::theorems`). So no history tells the theorem
+/// from one with a part less, and each is taken out of it here. The last part of
+/// `IsNeverBesideReader` holds of every list of entries, since the sequential object makes allowed
+/// acts alone; `writers_of_read_write_locks` has a history for each of the other three.
 pub fn parts_of_the_theorem()
     ensures legal { OfEachPromised Legal }
     ensures one_holder { OfEachPromised (λ kind n. HasOneHolder) }

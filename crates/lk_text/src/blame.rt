@@ -1,6 +1,7 @@
 //! Notes that help to see why a run ended. Of a refused move they tell the moves of its thread
 //! before it, the last write to its word, and a poll after which the thread should have waited, or
-//! should not. Of a run that hangs they tell what each thread waits for, by the words of its lock.
+//! should not. Of a run that hangs they tell what each thread waits for, by the words of its lock,
+//! and the last move of a thread that has ended inside a call.
 
 ghost use Rattle.std.specs.Prelude.{◌<◌, length};
 
@@ -253,13 +254,35 @@ fn put_wait(notes: &mut Notes, lock: &Lock, thread: u8, file: &str, since: u64)
     notes.say_in(file, since, wait_sentence(awaited), &places);
 }
 
-/// Says of each thread that hangs what it waits for, and since which line of its file. If a thread
-/// has no file of its own, it is the one that the message is about.
+// Says of a thread that has ended inside a call which move was its last one.
+fn put_end(notes: &mut Notes, lock: &Lock, course: &Course, thread: u8, file: &str)
+    requires { thread < length lock.now.state.phases }
+{
+    let [Some(step), ..] = course.steps(thread) else {
+        return;
+    };
+    if lock.machine().next_step(thread).is_some() {
+        let mut said = notes.text();
+        let who = Value::Numbered("thread", u64::from(thread));
+        said.fill("{who} has ended inside a call, after '", &[("who", who)]);
+        put_line(&mut said, &step.line);
+        said.put("'");
+        notes.put_in(file, step.number, said);
+    }
+}
+
+/// Says of each thread that hangs what it waits for, and since which line of its file, and of each
+/// that has ended inside a call after which line. If a thread has no file of its own, it is the one
+/// that the message is about.
 pub fn put_waits(notes: &mut Notes, lock: &Lock, course: &Course, files: &[&str]) {
     for thread in 0..lock.machine().threads() {
-        if course.fate(thread) == Fate::Hangs {
-            let file = files.get(thread as usize).copied().unwrap_or("");
-            put_wait(notes, lock, thread, file, course.since(thread).unwrap_or(0));
+        let file = files.get(thread as usize).copied().unwrap_or("");
+        match course.fate(thread) {
+            Fate::Hangs => {
+                put_wait(notes, lock, thread, file, course.since(thread).unwrap_or(0));
+            }
+            Fate::Ended => put_end(notes, lock, course, thread, file),
+            Fate::Moved | Fate::Waits => {}
         }
     }
 }

@@ -4,7 +4,7 @@
 ghost use Rattle.lk_text.specs.Texts.{Lengthens};
 ghost use Rattle.std.specs.Prelude.{OnOk};
 
-use std::alloc::AllocError;
+use std::alloc::{AllocError, Global};
 use std::fmt::Write;
 
 // Writes a character, with a backslash before one of these.
@@ -35,4 +35,15 @@ pub(crate) fn put_escaped(text: &mut String, said: &str, marked: &str) -> Result
         put_char(text, c, marked)?;
     }
     Ok(())
+}
+
+/// Text of an input or of a command line as it is shown.
+///
+/// # Errors
+///
+/// A request for memory was refused.
+pub fn escaped(alloc: Global, said: &str) -> Result<String, AllocError> {
+    let mut text = String::new(alloc);
+    put_escaped(&mut text, said, "")?;
+    Ok(text)
 }

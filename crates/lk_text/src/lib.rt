@@ -2,9 +2,10 @@
 //! the report of a trace.
 //!
 //! `open` opens a file or standard input, and `take_lines` gives each line of an input to a
-//! function. A `Text` takes sentences and text of an input, `json` objects of JSON, and `put_plan`
-//! and `put_point` reports in the form of TAP. `put_wrong` names the words that could be where a
-//! line cannot be read, and `Failure` says why a job was not done.
+//! function. A `Text` takes sentences and text of an input, which `escaped` gives as it is shown,
+//! `json` objects of JSON, and `put_plan` and `put_point` reports in the form of TAP. `put_wrong`
+//! names the words that could be where a line cannot be read, and `Failure` says why a job was not
+//! done.
 //!
 //! `follow` follows the trace in an input to its end, or up to the first line that is wrong, and
 //! makes its `report`: the verdict, the counts of a `Summary`, in what the line differs
@@ -32,6 +33,7 @@ mod tap;
 mod texts;
 mod wrong;
 
+pub use escapes::escaped;
 pub use failures::Failure;
 pub use fills::{Place, Value};
 pub use inputs::{STANDARD, Source, open};

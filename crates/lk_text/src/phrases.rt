@@ -2,7 +2,7 @@
 //! is in its queue.
 
 ghost use Rattle.std.specs.Prelude.{◌++◌, codes, decimal};
-ghost use Rattle.lk_lines.specs.Vocabulary.{move_word};
+ghost use Rattle.lk_lines.specs.Vocabulary.{move_name};
 ghost use Rattle.lk_text.specs.Texts.{Adds, Grows};
 
 use crate::{Text, Value};
@@ -25,7 +25,7 @@ pub fn called(thread: u8, names: &[String]) -> Value<'_> {
 
 /// Writes a move as a schedule has it.
 pub fn put_move(text: &mut Text, thread: u8, action: Move)
-    ensures { Adds (decimal thread ++ codes " " ++ move_word action) text.old text.new }
+    ensures { Adds (decimal thread ++ codes " " ++ move_name action) text.old text.new }
 {
     text.put_number(u64::from(thread));
     text.put(" ");

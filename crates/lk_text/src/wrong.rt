@@ -7,7 +7,7 @@ ghost use Rattle.lk_text.specs.Texts.{Grows};
 
 use crate::fills::Value;
 use crate::texts::Text;
-use lk_lines::{cut_word, unreadable_header};
+use lk_lines::{cut_token, unreadable_header};
 use lk_trace::{Due, MOST_OF_A_LINE};
 use std::alloc::{AllocError, Global};
 use std::fmt::InlineText;
@@ -112,7 +112,7 @@ pub fn put_wrong(text: &mut Text, alloc: Global, line: &[u8], wrong: Option<(usi
     let Some(rest) = line.get(column.saturating_sub(1)..) else {
         return put_at(text, AT_END, column, due);
     };
-    let word = cut_word(rest).map_or(rest, |(word, _)| word);
+    let word = cut_token(rest).map_or(rest, |(word, _)| word);
     match str::from_utf8(word) {
         Ok("") => put_at(text, AT_BLANK, column, due),
         Ok(word) => put_word(text, alloc, column, word, due),

@@ -9,7 +9,7 @@ use Rattle.lk_locks.specs.declared.kinds.Move.{Move}
 use Rattle.lk_locks.specs.declared.kinds.Move.TheVariants.{Call, Step}
 use Rattle.lk_locks.specs.declared.kinds.StepKind.{StepKind}
 use Rattle.lk_locks.specs.declared.kinds.StepKind.TheVariants.{Section}
-use Rattle.lk_lines.specs.Lines.{words_of}
+use Rattle.lk_lines.specs.Lines.{tokens_of}
 use Rattle.lk_lines.specs.Vocabulary.{move_named}
 use Rattle.lk_trace.specs.Lines.{◌>>=◌, Read, Remaining, Words, in_record, owner_of}
 use Rattle.lk_trace.specs.Lines.{outcome_alone, seen_of, step_of, values_in, values_of, with_place}
@@ -102,10 +102,10 @@ line_stops : (doer long : Bool) (stop : Remaining) (named unnamed a b : Result T
 line_stops doer long stop named unnamed a b short p q = grind (arith)
 
 pub open_lines_stop : (line : List ℕ) → length line ≤ 96 → (thread : ℕ) (word : WordName)
-    → is_some (sketch_stop (words_of line)) ≡ not (is_open_line thread word line)
+    → is_some (sketch_stop (tokens_of line)) ≡ not (is_open_line thread word line)
 unfolding doer_of filled_line filled_line_on
 open_lines_stop line within thread word =
-    let words : Words = words_of line in
+    let words : Words = tokens_of line in
     line_stops (is_some (doer_named words)) (nat_lt 96 (length line)) (words, AnyThread)
     (move_after 0 None words) (move_after 0 (Some Tail) words) (move_after thread None words)
     (move_after thread (Some word) words) (grind (arith))

@@ -11,7 +11,7 @@ use Rattle.lk_locks.specs.declared.kinds.Move.TheVariants.{Call, Step}
 use Rattle.lk_locks.specs.declared.kinds.Outcome.{Outcome}
 use Rattle.lk_locks.specs.declared.kinds.StepKind.{StepKind}
 use Rattle.lk_locks.specs.declared.kinds.StepKind.TheVariants.{Cas, Section}
-use Rattle.lk_lines.specs.Lines.{words_of}
+use Rattle.lk_lines.specs.Lines.{tokens_of}
 use Rattle.lk_lines.specs.Digits.{whole_number}
 use Rattle.lk_lines.specs.Vocabulary.{move_named, number_of, outcome_named}
 use Rattle.lk_lines.specs.declared.unreadable.Expected.TheVariants.{Thread, Action, End}
@@ -164,11 +164,11 @@ line_of_words words = do
 
 -- the move that a line of a trace is
 unfoldable pub trace_line_of : List ℕ → Option TraceLine
-trace_line_of line = result_ok (line_of_words (words_of line))
+trace_line_of line = result_ok (line_of_words (tokens_of line))
 
 -- the move that a line of this thread's log is
 unfoldable pub log_line_of : ℕ → List ℕ → Option TraceLine
-log_line_of thread line = result_ok (move_with thread None (words_of line, OfSchedule Action))
+log_line_of thread line = result_ok (move_with thread None (tokens_of line, OfSchedule Action))
 
 -- the same of a line of at most 96 bytes
 abbrev pub short_line_of : List ℕ → Option TraceLine
@@ -183,7 +183,7 @@ Held = Option (Bor (List ℕ)) × Due
 
 abbrev pub words_left : Option (Bor (List ℕ)) → Words
 words_left None = []
-words_left (Some line) = words_of line.now
+words_left (Some line) = tokens_of line.now
 
 abbrev pub remaining : Held → Remaining
 remaining rest = (words_left rest.0, rest.1)

@@ -4,7 +4,7 @@ use Rattle.std.specs.Prelude.{ℕ, List, [], ◌∷◌, Option, Some, None, Resu
 use Rattle.std.specs.Prelude.{if◌then◌else◌, codes, length, nat_lt, option_map}
 use Rattle.std.specs.Result.{result_ok}
 use Rattle.std.specs.Str.{bytes_eq}
-use Rattle.lk_lines.specs.Lines.{words_of}
+use Rattle.lk_lines.specs.Lines.{tokens_of}
 use Rattle.lk_lines.specs.Vocabulary.{number_of}
 use Rattle.lk_trace.specs.Lines.{Remaining, Words, move_with}
 use Rattle.lk_trace.specs.declared.due.Due.TheVariants.{AnyThread, OpenMove}
@@ -26,11 +26,11 @@ move_after thread on [] = Err ([], AnyThread)
 
 abbrev pub as_move_of : ℕ → Option WordName → List ℕ → Option TraceLine
 as_move_of thread on line =
-    if nat_lt 96 (length line) then None else result_ok (move_after thread on (words_of line))
+    if nat_lt 96 (length line) then None else result_ok (move_after thread on (tokens_of line))
 
 -- whose move the line is
 unfoldable pub doer_of : List ℕ → Option Doer
-doer_of line = doer_named (words_of line)
+doer_of line = doer_named (tokens_of line)
 
 -- the line of a trace that a line of a sketch is, as a move of this thread
 unfoldable pub filled_line : ℕ → List ℕ → Option TraceLine

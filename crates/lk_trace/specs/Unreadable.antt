@@ -2,7 +2,7 @@
 use Rattle.std.specs.Prelude.{ℕ, ◌+◌, ◌-◌, List, [], ◌∷◌, Option, Some, None, Result, Err, Bool}
 use Rattle.std.specs.Prelude.{◌||◌, ◌&&◌, if◌then◌else◌, is_some, length, nat_lt, option_map}
 use Rattle.std.specs.Result.{result_err}
-use Rattle.lk_lines.specs.Lines.{words_of}
+use Rattle.lk_lines.specs.Lines.{tokens_of}
 use Rattle.lk_trace.specs.Lines.{Remaining, Words, line_of_words}
 use Rattle.lk_trace.specs.Open.{doer_named, doer_of, filled_line, filled_line_on, move_after}
 use Rattle.lk_trace.specs.declared.due.Due.{Due}
@@ -22,7 +22,7 @@ place_of line stop = ((length line + 2) - width stop.0, stop.1)
 
 -- the place at which a line stops being one of a trace
 abbrev pub trace_place_of : List ℕ → Option (ℕ × Due)
-trace_place_of line = option_map (place_of line) (result_err (line_of_words (words_of line)))
+trace_place_of line = option_map (place_of line) (result_err (line_of_words (tokens_of line)))
 
 -- a sketch may leave out the name of the word
 abbrev pub open_due : Due → Due
@@ -47,7 +47,7 @@ sketch_stop words =
 
 -- the place at which a line stops being one of a sketch
 abbrev pub sketch_place_of : List ℕ → Option (ℕ × Due)
-sketch_place_of line = option_map (place_of line) (sketch_stop (words_of line))
+sketch_place_of line = option_map (place_of line) (sketch_stop (tokens_of line))
 
 -- whether it is a line of a sketch, filled in with this thread, and with this word if it names none
 abbrev pub is_open_line : ℕ → WordName → List ℕ → Bool

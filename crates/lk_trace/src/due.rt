@@ -1,7 +1,7 @@
 //! The parts that may come next in a line of a trace or of a sketch, for a message: their texts,
 //! and the words that could be there. Thread and move are a schedule's.
 
-use lk_lines::{Expected, LOCK_NAMES, MOVE_WORDS, OUTCOME_WORDS};
+use lk_lines::{Expected, LOCK_NAMES, MOVE_NAMES, OUTCOME_NAMES};
 use lk_locks::StepKind;
 use std::fmt;
 
@@ -77,8 +77,8 @@ impl Due {
             Due::OfSchedule(Expected::Name) => &LOCK_NAMES,
             Due::OfSchedule(Expected::Threads) => &["threads"],
             Due::OfSchedule(Expected::Bits) => &["bits"],
-            Due::OfSchedule(Expected::Action) | Due::OpenMove => &MOVE_WORDS,
-            Due::Count | Due::Outcome => &OUTCOME_WORDS,
+            Due::OfSchedule(Expected::Action) | Due::OpenMove => &MOVE_NAMES,
+            Due::Count | Due::Outcome => &OUTCOME_NAMES,
             Due::Place(_) => OPEN.get(..9).unwrap_or(&[]),
             Due::Open(StepKind::Cas) => &OPEN,
             Due::Open(_) => OPEN.get(..10).unwrap_or(&[]),

@@ -3,7 +3,7 @@
 
 ghost use Rattle.std.specs.Prelude.{◌≡◌, [], ◌∷◌, IfOk, IfSome, MatchOption};
 ghost use Rattle.lk_lines.specs.Digits.{whole_number};
-ghost use Rattle.lk_lines.specs.Lines.{words_of};
+ghost use Rattle.lk_lines.specs.Lines.{tokens_of};
 ghost use Rattle.lk_lines.specs.Vocabulary.{number_of};
 ghost use Rattle.lk_trace.specs.Lines.{line_of_words, move_with, outcome_alone, outcome_of};
 ghost use Rattle.lk_trace.specs.Lines.{owner_of, part_of, place_in, remaining, result_alone};
@@ -13,7 +13,7 @@ ghost use Rattle.lk_trace.specs.Lines.{whole_of, word_in, words_left};
 
 use crate::WordName;
 use crate::due::{Due, END};
-use lk_lines::{Expected, cut_word, move_named, number_of, outcome_named, whole_number};
+use lk_lines::{Expected, cut_token, move_named, number_of, outcome_named, whole_number};
 use lk_locks::{Move, Outcome, StepKind};
 
 /// The most bytes of a header and of a move.
@@ -62,7 +62,7 @@ pub(crate) fn first_word(text: Option<&[u8]>) -> Option<(&[u8], Option<&[u8]>)>
         (λ cut. words_left text.entry ≡ cut.0.now ∷ words_left cut.1) }
 {
     let line = text?;
-    match cut_word(line) {
+    match cut_token(line) {
         Some((word, after)) => Some((word, Some(after))),
         None => Some((line, None)),
     }
@@ -288,7 +288,7 @@ pub(crate) fn move_with(rest: Rest<'_>, thread: u8, on: Option<WordName>) -> Who
 
 // The move that a line of a trace of any length is.
 pub(crate) fn line_in(line: &[u8]) -> Whole<'_, TraceLine>
-    ensures { whole_of result ≡ line_of_words (words_of line.now) }
+    ensures { whole_of result ≡ line_of_words (tokens_of line.now) }
 {
     let first = (Some(line), Due::OfSchedule(Expected::Thread));
     let (thread, rest) = thread_in(first, Due::OfSchedule(Expected::Action))?;

@@ -2,7 +2,7 @@
 //! to its writer needs.
 
 ghost use Rattle.std.specs.Prelude.{◌≡◌, ℕ, ◌≤◌, ◌↔◌, IsNone, IsSome, IsTrue, length, option_map};
-ghost use Rattle.lk_lines.specs.Lines.{words_of};
+ghost use Rattle.lk_lines.specs.Lines.{tokens_of};
 ghost use Rattle.lk_trace.specs.Lines.{remaining, trace_line_of, words_left};
 ghost use Rattle.lk_trace.specs.Unreadable.{is_open_line, later, open_due, place_of};
 ghost use Rattle.lk_trace.specs.Unreadable.{sketch_place_of};
@@ -65,7 +65,7 @@ fn later<'a>(named: Rest<'a>, unnamed: Rest<'a>) -> Rest<'a>
 // Where a line of a sketch stops, if it does. Whose move it is and on which word is all the same.
 #[tactic(auto, unfolding(crate::specs::Open::doer_of))]
 fn sketch_stop(line: &[u8]) -> Option<Rest<'_>>
-    ensures { option_map remaining result ≡ sketch_stop (words_of line.now) }
+    ensures { option_map remaining result ≡ sketch_stop (tokens_of line.now) }
 {
     let Some(_) = doer_of(line) else {
         return Some((Some(line), Due::AnyThread));

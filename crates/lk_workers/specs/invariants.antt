@@ -1,5 +1,5 @@
--- Invariants. The properties that the proofs carry from call to call. No public `ensures` rests on
--- believing these files.
+-- Invariants. The properties that the proofs carry from call to call. The theorem rests on none of
+-- these files; docs/PROOF.md has the few public contracts that name one.
 pub mod DrawRule
 pub mod Running
 pub mod Collected

@@ -8,24 +8,24 @@ use Rattle.lockreplay.specs.declared.command_line.ParseFault.{ParseFault}
 use Rattle.lockreplay.specs.declared.command_line.ParseFault.TheVariants.{TooManyFiles, OutOfMemory}
 
 -- an argument, as its bytes
-abbrev pub Word : Type 0
-Word = List ℕ
+abbrev pub Argument : Type 0
+Argument = List ℕ
 
 -- `replay`
-abbrev pub replay_line : List Word
+abbrev pub replay_line : List Argument
 replay_line = codes "replay" ∷ []
 
 -- `batch --workers N FILE...`, with N a digit
-abbrev pub batch_line : ℕ → List Word → List Word
+abbrev pub batch_line : ℕ → List Argument → List Argument
 batch_line workers files = codes "batch" ∷ codes "--workers" ∷ ((48 + workers) ∷ []) ∷ files
 
 -- the argument does not begin with a hyphen, so it is no option
-abbrev pub is_plain : Word → Bool
+abbrev pub is_plain : Argument → Bool
 is_plain [] = true
 is_plain (b ∷ rest) = not (b == 45)
 
 -- the job is a batch of these files by this many workers
-abbrev pub IsBatchOfFiles : ℕ → List Word → Job → Type 0
+abbrev pub IsBatchOfFiles : ℕ → List Argument → Job → Type 0
 IsBatchOfFiles workers files Replay = ⊥
 IsBatchOfFiles workers files (Batch w fs) = (w ≡ workers) × (map string_bytes fs.items ≡ files)
 
@@ -42,7 +42,7 @@ IsTooMany (Err OutOfMemory) = Unit {0}
 IsTooMany _ = ⊥
 
 -- the answer to a batch of files, by the number of the files
-abbrev pub AnswersBatch : ℕ → List Word → Result Job ParseFault → Type 0
+abbrev pub AnswersBatch : ℕ → List Argument → Result Job ParseFault → Type 0
 AnswersBatch workers files r =
     (length files ≤ 65536 → AsksFor (IsBatchOfFiles workers files) r)
     × (65536 < length files → IsTooMany r)

@@ -18,16 +18,16 @@ fault_from run.Write = Output
 fault_from run.OutOfMemory = Memory
 
 -- the line for standard error, before a file's number
-abbrev pub fault_words : ProgramFault → List ℕ
-fault_words Input = codes "lockreplay: cannot read standard input"
-fault_words Output = codes "lockreplay: cannot write"
-fault_words Memory = codes "lockreplay: out of memory"
-fault_words TooManyFiles = codes "lockreplay: too many files"
-fault_words (File k) = codes "lockreplay: cannot read file "
+abbrev pub fault_message : ProgramFault → List ℕ
+fault_message Input = codes "lockreplay: cannot read standard input"
+fault_message Output = codes "lockreplay: cannot write"
+fault_message Memory = codes "lockreplay: out of memory"
+fault_message TooManyFiles = codes "lockreplay: too many files"
+fault_message (File k) = codes "lockreplay: cannot read file "
 
 abbrev pub fault_number : ProgramFault → List ℕ
 fault_number (File k) = decimal k
 fault_number _ = []
 
 abbrev pub fault_line : ProgramFault → List ℕ
-fault_line fault = fault_words fault ++ fault_number fault ++ codes "\n"
+fault_line fault = fault_message fault ++ fault_number fault ++ codes "\n"

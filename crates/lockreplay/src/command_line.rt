@@ -9,7 +9,7 @@ ghost use Rattle.std.specs.Prelude.{IfOk};
 ghost use Rattle.std.specs.List.{list_all};
 ghost use Rattle.clap.specs.Words.{app_of, found_of, kind_of, rows_of};
 ghost use Rattle.clap.specs.declared.builder.command.Command.TheViews.{out-Command};
-ghost use Rattle.lockreplay.specs.CommandLines.{AnswersBatch, AsksFor, Word};
+ghost use Rattle.lockreplay.specs.CommandLines.{AnswersBatch, AsksFor, Argument};
 ghost use Rattle.lockreplay.specs.CommandLines.{batch_line, is_plain, replay_line};
 ghost use Rattle.lockreplay.specs.Commands.{batch_app, batch_rows, program_app};
 ghost use Rattle.lockreplay.specs.Jobs.{FitsJob};
@@ -140,7 +140,7 @@ fn batch_of(alloc: Global, workers: u8, files: &[&str]) -> Result<Job, ParseFaul
 /// The batch that the parser found.
 fn batch_given(alloc: Global, batch: &ArgMatches<'_>) -> Result<Job, ParseFault>
     ensures fits { FitsJob result }
-    ensures plain { (workers : ℕ) → (files : List Word)
+    ensures plain { (workers : ℕ) → (files : List Argument)
         → rows_of (found_of batch.now) ≡ batch_rows workers files
         → 1 ≤ workers → workers ≤ 8 → 0 < length files → AnswersBatch workers files result }
 {
@@ -169,7 +169,7 @@ pub fn parse_words(alloc: Global, words: &[String]) -> Result<Job, ParseFault>
     ensures fits { FitsJob result }
     ensures replay { map string_bytes words.now ≡ replay_line
         → AsksFor (λ job. job ≡ Job.Replay) result }
-    ensures batch { (workers : ℕ) → (files : List Word)
+    ensures batch { (workers : ℕ) → (files : List Argument)
         → map string_bytes words.now ≡ batch_line workers files
         → 1 ≤ workers → workers ≤ 8 → 0 < length files → list_all is_plain files ≡ true
         → AnswersBatch workers files result }

@@ -1,7 +1,7 @@
 //! The faults that end the program early, each with its line and its status.
 
 ghost use Rattle.std.specs.Prelude.{◌≡◌};
-ghost use Rattle.lockreplay.specs.Faults.{fault_from, fault_status, fault_words};
+ghost use Rattle.lockreplay.specs.Faults.{fault_from, fault_status, fault_message};
 
 use itoa::Buffer;
 use lk_lines::Status;
@@ -30,7 +30,7 @@ impl ProgramFault {
     /// The text of its line, before a file's number. It has a contract; the code that `thiserror`
     /// derives has none.
     pub fn text(&self) -> &'static str
-        ensures { result.now ≡ fault_words self.now }
+        ensures { result.now ≡ fault_message self.now }
     {
         match self {
             ProgramFault::Input => "lockreplay: cannot read standard input",

@@ -61,9 +61,7 @@ fn file_texts<R: Files>(
     let mut texts = Vec::new(alloc);
     for (place, file) in files.iter().enumerate() {
         let text = file_text(rt, alloc, place as u32 + 1, file.as_str())?;
-        if texts.push(text).is_err() {
-            return Err(ProgramFault::Memory);
-        }
+        texts.push(text).or(Err(ProgramFault::Memory))?;
     }
     Ok(texts)
 }

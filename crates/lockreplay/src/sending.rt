@@ -57,9 +57,7 @@ pub fn send_reports<W: Write>(
         (Keeps (W.contents output.old) (W.contents output.new)) }
     ensures fault { IfErr result (λ e. e ≢ RunFault.Read) }
 {
-    let Ok(mut waiting) = OutputBuffer::new(alloc) else {
-        return Err(RunFault::OutOfMemory);
-    };
+    let mut waiting = OutputBuffer::new(alloc).or(Err(RunFault::OutOfMemory))?;
     for (place, report) in reports.iter().enumerate() {
         let mut digits = Buffer::new();
         let number = digits.format(place + 1).as_bytes();

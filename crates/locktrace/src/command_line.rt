@@ -72,15 +72,16 @@ fn file_given(alloc: Global, matches: &ArgMatches<'_>) -> Result<String, AllocEr
 }
 
 // Says that the word of an option is none of its choices.
-fn no_choice<'a, T>(
+fn no_choice<T>(
     alloc: Global,
-    option: &'a str,
-    word: &'a str,
+    option: &str,
+    word: &str,
     choices: &[(&'static str, T)],
 ) -> Result<ParseFault, AllocError> {
     let mut text = Text::new(alloc);
-    let places = [("option", Value::Text(option)), ("word", Value::Text(word))];
-    text.fill("error: --{option} '{word}' is none of ", &places);
+    text.fill("error: --{option} '", &[("option", Value::Text(option))]);
+    text.put_escaped(word, "");
+    text.put("' is none of ");
     for (place, (name, _)) in choices.iter().enumerate() {
         text.put(if place > 0 { ", " } else { "" });
         text.put(name);

@@ -35,7 +35,7 @@ use std::process::ExitCode;
 use std::rt::Runtime;
 use std::thread::Threads;
 
-/// Of words that are not UTF-8 the parser can read none.
+/// The message for arguments that are not UTF-8: the parser reads UTF-8 alone.
 const FOREIGN_WORDS: &str = "locktrace: the words are not UTF-8 text\n";
 
 // The job that the words after the program's name ask for.

@@ -2,7 +2,7 @@
 //! that is opened there.
 
 use base64::engine::general_purpose::STANDARD as BASE64;
-use lk_text::{Failure, STANDARD, Text, Value};
+use lk_text::{Failure, STANDARD, Text, Value, escaped};
 use std::alloc::{AllocError, Global};
 use std::fs::OpenOptions;
 use std::io::{ErrorKind, Read, Write};
@@ -96,6 +96,7 @@ fn empty_page<R: Runtime>(
         Err(error) if error.kind() != ErrorKind::InvalidData => NO_PAGE,
         _ => NO_PLACE,
     };
+    let path = escaped(alloc, path.as_str())?;
     errors.fill(fault, &[("path", Value::Text(path.as_str()))]);
     Ok(None)
 }
@@ -112,9 +113,10 @@ fn has_trace<R: Files>(rt: &R, alloc: Global, file: &str) -> bool {
 fn leave_other<R: Files>(rt: &R, alloc: Global, file: &str) -> Result<(), Failure> {
     match fs::symlink_metadata(rt, file) {
         Err(error) if error.kind() == ErrorKind::NotFound => Ok(()),
-        Err(error) => Err(Failure::Output(error)),
+        Err(error) => Err(Failure::of_file(alloc, "read", file, &error)),
         Ok(found) if found.is_file() && has_trace(rt, alloc, file) => Ok(()),
         Ok(_) => {
+            let file = escaped(alloc, file)?;
             let text = format!(in alloc; "{file} is not of an earlier check")?;
             Err(Failure::InPlace(text))
         }
@@ -155,12 +157,21 @@ impl<'a> Page<'a> {
         Ok(Some(Page { text, trace, file }))
     }
 
-    // The page with the bytes of its trace.
-    fn filled<R: Files>(&self, rt: &R, alloc: Global) -> Result<String, Failure> {
+    // The bytes of the trace.
+    fn bytes<R: Files>(&self, rt: &R, alloc: Global) -> io::Result<Vec<u8>> {
         let mut bytes = Vec::new(alloc);
         fs::open(rt, self.trace)?
             .take(MOST_BYTES)
             .read_to_end(&mut bytes)?;
+        Ok(bytes)
+    }
+
+    // The page with the bytes of its trace.
+    fn filled<R: Files>(&self, rt: &R, alloc: Global) -> Result<String, Failure> {
+        let bytes = match self.bytes(rt, alloc) {
+            Ok(bytes) => bytes,
+            Err(error) => return Err(Failure::of_file(alloc, "read", self.trace, &error)),
+        };
         let coded = BASE64.encode(alloc, &bytes)?;
         let (before, after) = self
             .text
@@ -178,11 +189,17 @@ impl<'a> Page<'a> {
         let text = self.filled(rt, alloc)?;
         let file = self.file;
         let draft = format!(in alloc; "{file}.new")?;
-        if let Err(error) = write_anew(rt, draft.as_str(), text.as_str()) {
-            let _ = fs::remove_file(rt, draft.as_str());
-            return Err(Failure::Output(error));
+        let written = match write_anew(rt, draft.as_str(), text.as_str()) {
+            Ok(()) => fs::rename(rt, draft.as_str(), file),
+            Err(error) => {
+                let _ = fs::remove_file(rt, draft.as_str());
+                Err(error)
+            }
+        };
+        match written {
+            Ok(()) => Ok(()),
+            Err(error) => Err(Failure::of_file(alloc, "write", file, &error)),
         }
-        Ok(fs::rename(rt, draft.as_str(), file)?)
     }
 }
 

@@ -6,7 +6,7 @@ use lk_checks::cover::{CoverFormat, CoverJob, is_kind};
 use lk_jobs::sketch::{Place, rounds_of};
 use lk_jobs::space::{Asked, Rounds, SpaceFormat};
 use lk_jobs::why::WhyAsked;
-use lk_text::STANDARD;
+use lk_text::{STANDARD, escaped};
 use std::alloc::{AllocError, Global};
 
 /// How many states are searched if nothing else is asked for.
@@ -44,6 +44,7 @@ fn rounds_given(alloc: Global, matches: &ArgMatches<'_>) -> Result<Option<Rounds
     match rounds_of(text.as_bytes()) {
         Some(rounds) => Ok(Some(rounds)),
         None => {
+            let text = escaped(alloc, text)?;
             let fault = format!(in alloc;
                 "error: --rounds '{text}' is no number from 1 to 255, and not any\n"
             )?;
@@ -155,6 +156,7 @@ pub fn why_given(alloc: Global, matches: &ArgMatches<'_>) -> Result<SearchJob, P
 fn kinds_given(alloc: Global, names: &str) -> Result<Vec<String>, ParseFault> {
     for name in names.split(',') {
         if !is_kind(name) {
+            let name = escaped(alloc, name)?;
             let text = format!(in alloc; "error: --require '{name}' is no kind of transition\n")?;
             return Err(ParseFault::Usage(text));
         }

@@ -161,10 +161,11 @@ impl<'a> Taken<'a> {
             return Ok(None);
         };
         if let BadLog::SecondLog(thread) = bad {
-            let other = self.names.get(thread as usize).copied().unwrap_or("");
+            let mut other = messages.text();
+            other.put_escaped(self.names.get(thread as usize).copied().unwrap_or(""), "");
             let places = [
                 ("thread", Value::Number(u64::from(thread))),
-                ("other", Value::Text(other)),
+                ("other", Value::Part(&other)),
             ];
             messages.say_in(name, 0, SECOND, &places);
         } else {

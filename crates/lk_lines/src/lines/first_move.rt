@@ -1,12 +1,12 @@
 //! The first line of a text, if it is a move as most are: a thread's number of one or two digits, a
-//! word and a line feed. Nothing is cut from the text: to cut its line, and then words from that,
+//! name and a line feed. Nothing is cut from the text: to cut its line, and then tokens from that,
 //! took longer than to play the move.
 
 ghost use Rattle.std.specs.Prelude.{◌≡◌, ◌++◌, ◌∷◌, IfSome};
 ghost use Rattle.lk_lines.specs.FirstMove.{IsFirstMove, IsFirstThread};
-ghost use Rattle.lk_lines.specs.Vocabulary.{move_word};
+ghost use Rattle.lk_lines.specs.Vocabulary.{move_name};
 
-use crate::vocabulary::first_word;
+use crate::vocabulary::first_action;
 use lk_locks::Move;
 
 // The thread whose number comes first, before a space, and the text after that.
@@ -31,6 +31,6 @@ pub fn first_move(text: &[u8]) -> Option<(u8, Move, &[u8])>
     ensures { IfSome result (λ first. IsFirstMove text.now first.0 first.1 first.2.now) }
 {
     let (thread, rest) = first_thread(text)?;
-    let (action, rest) = first_word(rest)?;
+    let (action, rest) = first_action(rest)?;
     Some((thread, action, rest))
 }

@@ -3,7 +3,7 @@ use Rattle.std.proofs.Common.{◌≡◌, List, ℕ, length, drop, ◌++◌, Opti
 use Rattle.std.proofs.Common.{sym, ap, ◌∙◌, length-take-le}
 use Rattle.std.specs.Int.{from_bool}
 use Rattle.lk_locks.specs.declared.kinds.Refusal.{Refusal}
-use Rattle.lk_replay.specs.Schedule.{plan_of, plan_with}
+use Rattle.lk_replay.specs.Schedule.{plan_of}
 use Rattle.lk_page.specs.Playing.{moves_left}
 use Rattle.lk_page.specs.Written.{answer_of}
 use Rattle.lk_page.proofs.Ends.{plays}
@@ -25,8 +25,8 @@ copy_from_slice-requires-2 c =
 
 pub returns-clause-told : goal.returns-clause-told
 returns-clause-told c = λ enough.
-    plays (plan_with c.in-Ok.read.0 (moves_left c.in-Ok.read.1 0)) (plan_of c.args.text.now)
-    c.args.most _ c.in-Ok.read.2
+    plays (record { shape = c.in-Ok.read.0; moves = moves_left c.in-Ok.read.1 0 })
+    (plan_of c.args.text.now) c.args.most _ c.in-Ok.read.2
     c.at_start-lock.result c.play_moves-stopped.new.lock c.play_moves-stopped.result.count
     c.play_moves-stopped.result.refused
     c.args.records.now c.play_moves-stopped.new.records c.args.state.now _

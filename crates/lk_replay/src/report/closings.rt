@@ -40,32 +40,26 @@ fn push_reason(text: &mut Text, refusal: Refusal)
     }
 }
 
-// The last line of a replay with `count` accepted moves.
-fn last_line(count: u32, refused: Option<(u32, Refusal)>) -> Text
-    ensures text { result ≡ last_line count refused }
-    ensures short { length result ≤ 320 }
-{
-    if let Some((number, refusal)) = refused {
-        let mut line = at_line(b"refused", number);
-        push_reason(&mut line, refusal);
-        line.push(b"\n");
-        return line;
-    }
-    let mut number = Buffer::new();
-    let mut line = Text::new();
-    line.push(b"end ");
-    line.push(number.format(count).as_bytes());
-    line.push(b"\n");
-    line
-}
-
-/// Puts the last line at the front of a place, and returns how long it is.
+/// Puts the last line of a replay with `count` accepted moves at the front of a place, and returns
+/// how long it is.
 pub fn put_last(place: &mut [u8], count: u32, refused: Option<(u32, Refusal)>) -> usize
     requires { 320 ≤ length place.old }
     ensures text { take result place.new ≡ last_line count refused }
     ensures fits { result ≤ length place.new }
 {
-    let line = last_line(count, refused);
+    let mut number = Buffer::new();
+    let mut line = Text::new();
+    match refused {
+        Some((number, refusal)) => {
+            line = at_line(b"refused", number);
+            push_reason(&mut line, refusal);
+        }
+        None => {
+            line.push(b"end ");
+            line.push(number.format(count).as_bytes());
+        }
+    }
+    line.push(b"\n");
     let text = line.as_slice();
     place[..text.len()].copy_from_slice(text);
     text.len()

@@ -1,5 +1,5 @@
 //! The holders of a lock and the threads that wait for it, as text that changes with each entry of
-//! the history.
+//! the history. A `Tracker` has them as lists, which would have to be printed anew for each move.
 
 ghost use Rattle.std.specs.Prelude.{◌≡◌, ◌+◌, ◌++◌, ◌∷◌, ◌≤◌, [], length, take};
 ghost use Rattle.lk_locks.specs.Change.{entries_by};

@@ -5,7 +5,7 @@ ghost use Rattle.std.specs.Prelude.{◌≡◌, ◌≤◌, length, take, ◌+◌,
 ghost use Rattle.lk_locks.specs.Sequential.{nobody};
 ghost use Rattle.lk_locks.specs.invariants.Kept.{IsTracked};
 ghost use Rattle.lk_replay.specs.Ending.{ending_by};
-ghost use Rattle.lk_replay.specs.Replay.{start_of, replay_from, replay_of};
+ghost use Rattle.lk_replay.specs.Replay.{replay_from, replay_of};
 ghost use Rattle.lk_replay.specs.Report.{line_start, replay_text};
 ghost use Rattle.lk_replay.specs.ReportRest.{ReportRest, rest_of};
 
@@ -66,7 +66,7 @@ fn put_start(line: &mut [u8], count: u32, accepted: &Accepted) -> usize
 impl<'a> Replay<'a> {
     /// The replay of a schedule, at its start.
     pub fn new(schedule: &'a Schedule) -> Replay<'a>
-        ensures text { result.text ≡ replay_text schedule.now.kind (replay_of schedule.now) }
+        ensures text { result.text ≡ replay_text schedule.now.shape.kind (replay_of schedule.now) }
         ensures some { 0 < result.left }
         ensures ending { result.ending ≡ ending_by (replay_of schedule.now).refused }
     {

@@ -1,5 +1,5 @@
 -- The place is that of `unreadable_from`, of which the law is proved.
-use Rattle.lk_lines.proofs.HeaderWords.{headers_are_readable}
+use Rattle.lk_lines.proofs.HeaderTokens.{headers_are_readable}
 use Rattle.lk_lines.proofs.unreadable.unreadable_header.Goals as goal
 
 pub returns-clause-none : goal.returns-clause-none

@@ -1,4 +1,4 @@
--- A thread's number, and then a move's word.
+-- A thread's number, and then a move's token.
 use Rattle.lk_lines.proofs.FirstMoves.{first_line}
 use Rattle.lk_lines.proofs.lines.first_move.first_move.Goals as goal
 

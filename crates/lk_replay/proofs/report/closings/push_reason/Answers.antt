@@ -15,7 +15,7 @@ returns-in-WrongStep-clause-reason c =
       c.push-in-WrongStep.ensures,
       named,
       c.as_bytes-in-WrongStep.ensures.value,
-      c.move_text.ensures.word,
+      c.move_text.ensures.name,
       c.in-WrongStep.is,
     )
     (simp append_assoc)

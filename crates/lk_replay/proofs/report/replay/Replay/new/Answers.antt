@@ -1,13 +1,12 @@
 -- All moves are left, on a new lock.
 use Rattle.std.proofs.Common.{◌∙◌, ◌≡◌, [], ap, arith, refl}
-use Rattle.lk_locks.specs.State as lock
+use Rattle.lk_locks.specs.State.{start_of}
 use Rattle.lk_replay.proofs.Printed.{replay_printed}
 use Rattle.lk_replay.specs.Occupancy.{occupancy_of}
-use Rattle.lk_replay.specs.Replay.{start_of}
 use Rattle.lk_replay.proofs.report.replay.Replay.new.Goals as goal
 
-machine_is : (c : goal.After-new) → c.at_start.result ≡ start_of c.args.schedule.now
-machine_is c = c.at_start.ensures.start ∙ ap lock.start_of c.shape.ensures
+machine_is : (c : goal.After-new) → c.at_start.result ≡ start_of c.args.schedule.now.shape
+machine_is c = c.at_start.ensures.start ∙ ap start_of c.shape.ensures
 
 pub returns-clause-text : goal.returns-clause-text
 returns-clause-text c =

@@ -1,12 +1,12 @@
--- The parts expected in a line, word by word. It is a header exactly if nothing else is expected.
+-- The parts expected in a line, token by token. It is a header exactly if nothing else is expected.
 use Rattle.std.proofs.Common.{◌↔◌, ℕ, List, [], ◌∷◌, Option, Some, None, cond, ◌&&◌, is_some}
 use Rattle.std.proofs.Common.{IsNone, Bool, true, false, Ok, Err, nat_lt, ◌^◌, codes, arith, refl}
 use Rattle.std.specs.{Str.bytes_eq, Option.option_map, Option.option_zip}
 use Rattle.lk_locks.specs.{declared.kinds.LockKind.LockKind, State.Shape}
-use Rattle.lk_lines.specs.{Faults.WordsTooNarrow, Lines.words_of, Vocabulary.lock_named}
+use Rattle.lk_lines.specs.{Faults.WordsTooNarrow, Lines.tokens_of, Vocabulary.lock_named}
 use Rattle.lk_lines.specs.{Vocabulary.number_of, declared.unreadable.Expected.Expected}
-use Rattle.lk_lines.specs.Header.{header_of, header_of_shape, shape_of_words}
-use Rattle.lk_lines.specs.Header.{size_of_words, with_threads}
+use Rattle.lk_lines.specs.Header.{header_of, header_of_shape, header_of_tokens}
+use Rattle.lk_lines.specs.Header.{size_of_tokens, with_threads}
 use Rattle.lk_lines.specs.Unreadable.{IsHeader, unreadable_from}
 use Rattle.lk_lines.specs.declared.unreadable.Expected.TheVariants.{Lock, Count}
 
@@ -39,14 +39,14 @@ by_bits number kind count bits width a b d = (λ h. absurd (grind (arith)), λ h
 
 size_is : (number column : ℕ) (kind : LockKind) (size : List (List ℕ))
     → IsNone (unreadable_from column Count size)
-    ↔ IsHeader (header_of_shape number (option_zip (Some kind) (size_of_words size)))
+    ↔ IsHeader (header_of_shape number (option_zip (Some kind) (size_of_tokens size)))
 size_is number column kind (count ∷ []) =
     by_threads number kind 64 (number_of 1 64 count) _
 size_is number column kind (count ∷ bits ∷ width ∷ []) =
     by_bits number kind count (bytes_eq bits (codes "bits")) (number_of 2 64 width) _ _ _
 size_is number column kind size = (λ h. absurd (grind (arith)), λ h. absurd h)
 
--- what comes after the first three words decides, if these are as they have to be
+-- what comes after the first three tokens decides, if these are as they have to be
 by_rest : (number : ℕ) (lock threads : Bool) (kind : Option LockKind) (size : Option (List ℕ × ℕ))
     (rest : Option (ℕ × Expected)) (a b d : ℕ × Expected)
     → ((k : LockKind) → IsNone rest ↔ IsHeader (header_of_shape number (option_zip (Some k) size)))
@@ -55,14 +55,14 @@ by_rest : (number : ℕ) (lock threads : Bool) (kind : Option LockKind) (size : 
 by_rest number true true (Some kind) size rest a b d same = same kind
 by_rest number lock threads kind size rest a b d same = (λ h. absurd (grind (arith)), λ h. absurd h)
 
-words_are : (number : ℕ) (words : List (List ℕ)) → IsNone (unreadable_from 1 Lock words)
-    ↔ IsHeader (header_of_shape number (shape_of_words words))
-words_are number (lock ∷ name ∷ threads ∷ size) =
+tokens_are : (number : ℕ) (tokens : List (List ℕ)) → IsNone (unreadable_from 1 Lock tokens)
+    ↔ IsHeader (header_of_shape number (header_of_tokens tokens))
+tokens_are number (lock ∷ name ∷ threads ∷ size) =
     by_rest number (bytes_eq lock (codes "lock")) (bytes_eq threads (codes "threads"))
-    (lock_named name) (size_of_words size) _ _ _ _ (λ kind. size_is number _ kind size)
-words_are number words = (λ h. absurd (grind (arith)), λ h. absurd h)
+    (lock_named name) (size_of_tokens size) _ _ _ _ (λ kind. size_is number _ kind size)
+tokens_are number tokens = (λ h. absurd (grind (arith)), λ h. absurd h)
 
 pub headers_are_readable : (line : List ℕ) (number : ℕ)
-    → IsNone (unreadable_from 1 Lock (words_of line)) ↔ IsHeader (header_of number line)
+    → IsNone (unreadable_from 1 Lock (tokens_of line)) ↔ IsHeader (header_of number line)
 unfolding header_of
-headers_are_readable line number = words_are number (words_of line)
+headers_are_readable line number = tokens_are number (tokens_of line)
