@@ -67,14 +67,45 @@ function choicesFit() {
 const LETTERS = ['#now .say', '#now .plain', '.facts dt', '.report-line', '.code-line.plain',
   '#subtitle', 'kbd', '#memory-caption', '.legend', '#position', '.card h2', '.hint'];
 
+// The letters and the ground of heads, discs and pills of a thread that holds the lock, and of one
+// in the queue.
+function standings() {
+  const drawn = ['.record.holds', '.record.queue'].flatMap((one) => ['.name', '.standing']
+    .map((part) => [styleOf(`${one} ${part}`).fill, styleOf(one === '.record.holds'
+      ? `${one} .head` : `${one} .plate`).fill]));
+  const written = ['.disc.holds', '.disc.queue', '.pill.holds', '.pill.queue', '.outcome']
+    .map((one) => [styleOf(one).color, styleOf(one).backgroundColor]);
+  return [...drawn, ...written.map(([letters, ground]) => [letters,
+    ground.endsWith(' 0)') ? styleOf('#now').backgroundColor : ground])];
+}
+
+// What the style has for the dark theme, and for a dark system.
+const darkColours = () => [...document.styleSheets].flatMap(({ cssRules }) => [...cssRules])
+  .flatMap((rule) => [...rule.conditionText?.includes('scheme: dark') ? rule.cssRules : [rule]])
+  .filter(({ selectorText }) => /^:root(\[data-theme="dark"\]|:not\()/.test(selectorText))
+  .map(({ style }) => style.cssText);
+
 function colours() {
   return {
+    standings: standings(),
     texts: LETTERS.map((one) => styleOf(one).color), page: styleOf('body').backgroundColor,
     gutter: styleOf('#gutter').color, back: styleOf('#gutter').backgroundColor,
     word: styleOf('#memory-picture .word:not(.read)').stroke,
     card: styleOf('#now').backgroundColor,
   };
 }
+
+// What a screen reader says without being asked: the role of each part, or how it interrupts.
+const liveRegions = () => Object.fromEntries(all('[role=status], [role=alert], [aria-live]')
+  .map((one) => [one.id, one.getAttribute('role') ?? one.getAttribute('aria-live')]));
+
+// The signs of the button that plays.
+const signOfRun = () => all('#run path').filter((one) => getComputedStyle(one).display !== 'none')
+  .map((one) => one.classList[0]);
+
+// The grounds of the lines of the move, and of the others.
+const groundsOfLines = () => [':is(.here)', ':not(.here)'].map((which) => (
+  all(`#code-lines .code-line${which}`).map((one) => getComputedStyle(one).backgroundColor)));
 
 // Whether the browser reports this media feature.
 const isAsked = (name, wanted) => matchMedia(`(${name}: ${wanted})`).matches;

@@ -12,6 +12,9 @@ function compared() {
   return {
     shown: !byId('other').hidden, there: mark('other'), here: mark('time'),
     lines: texts('#other .compared code'), differs: count('#other .differs'),
-    title: text('#other h2'),
+    title: text('#other h2'), titles: ['#there-title', '#memory-title'].map(text),
+    labels: ['#there-picture svg', '#memory-picture svg'].map((one) => (
+      attribute(one, 'aria-label'))),
+    found: texts('#other .found.here title'), links: count('#there-picture .link'),
   };
 }

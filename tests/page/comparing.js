@@ -12,7 +12,7 @@ function compared() {
     here: columnsIn('lanes'), there: columnsIn('other'), first: text('#other h2'),
     words: [count('#there-picture .word'), count('#memory-picture .word')],
     whole: pictures.every((one) => one && rect(one).width > 200 && inside(rect(one), screen)),
-    scrolled: scrollHeight > innerHeight + 1 || scrollY > 0,
+    now: byId('now').checkVisibility(), scrolled: scrollHeight > innerHeight + 1 || scrollY > 0,
     different: [...new Set(all('.different').map((one) => Math.round(rect(one).left)))],
   };
 }

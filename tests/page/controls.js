@@ -4,18 +4,6 @@ const opened = () => all('dialog[open]').map(({ id }) => id);
 const hasFocus = (selector) => document.activeElement.matches(selector);
 const pressed = () => all('.tools [aria-pressed=true]').map(({ id }) => id);
 
-// Copies the text to a clipboard that may refuse it.
-function copied(isAllowed) {
-  let taken;
-  const writeText = async (text) => {
-    taken = text;
-    if (!isAllowed) throw new Error('not allowed');
-  };
-  Object.defineProperty(navigator, 'clipboard', { value: { writeText } });
-  click('#copy');
-  return taken;
-}
-
 // The parts that are ticked in the list, and those that are shown.
 function viewed() {
   const parts = ['time', 'memory', 'code', 'now'];

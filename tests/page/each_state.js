@@ -3,9 +3,8 @@
 
 const PICTURE = '#memory-picture';
 const kindOf = (node) => node.classList[1] ?? '';
+const kindsOf = (node) => [...node.classList].slice(1).join(' ');
 const titleIn = (node) => node.querySelector('title').textContent;
-const middleX = (node) => (rect(node).left + rect(node).right) / 2;
-const middleY = (node) => (rect(node).top + rect(node).bottom) / 2;
 
 // By the name of a word, which in a record has its thread: the value, and how the move used it.
 function wordsDrawn() {
@@ -57,11 +56,12 @@ function barsDrawn(lanes, box = byId('lanes')) {
   });
 }
 
-// The lines of the move, and the phase of the line at which each thread is.
+// The lines of the move, and for each thread the phase of the line at which it is, and how its disc
+// looks.
 const linesDrawn = () => ({
   here: all('#code-lines .here').map((one) => one.dataset.phase ?? one.textContent.trim()),
-  discs: Object.fromEntries(all('#code-lines .disc')
-    .map((one) => [one.title, one.closest('.code-line').dataset.phase])),
+  discs: Object.fromEntries(all('#code-lines .disc').map((one) => [
+    one.title, [one.closest('.code-line').dataset.phase, kindsOf(one), one.textContent]])),
 });
 
 // The number of the wheel nearest to a point.
@@ -76,7 +76,15 @@ function endOf(path) {
   return end.matrixTransform(path.getScreenCTM());
 }
 
-// The hands of a wheel, and for each token on it the place and the thread.
+// Whether the middle of a token is outside the rim of a wheel and its numbers.
+function isOutside(token) {
+  const [rim, dot] = [`${PICTURE} .rim`, `${PICTURE} .place circle`]
+    .map((one) => document.querySelector(one));
+  const far = Math.hypot(middleX(token) - middleX(rim), middleY(token) - middleY(rim));
+  return 2 * far > rect(rim).width + rect(dot).width;
+}
+
+// The hands of a wheel, and for each token outside its rim the thread and the place.
 function wheelDrawn() {
   if (!count(`${PICTURE} .place`)) return null;
   const hand = (name) => {
@@ -84,28 +92,64 @@ function wheelDrawn() {
     return placeNear(x, y);
   };
   const tokens = all(`${PICTURE} .rim ~ .token`).slice(0, count(`${PICTURE} .rim ~ .own`));
+  const discs = tokens.map((one) => one.querySelector('circle'));
   return {
     inner: hand('inner'), outer: hand('outer'),
-    tokens: tokens.map((one) => [titleIn(one), placeNear(middleX(one.querySelector('circle')),
-      middleY(one.querySelector('circle')))]),
+    tokens: discs.filter(isOutside).map((one) => [titleIn(one.parentNode),
+      placeNear(middleX(one), middleY(one))]),
   };
 }
 
-// Threads in memory: tokens with their standing, cells of tickets, own variables, and the records
-// of an MCS lock with their standing.
+// The threads whose tokens have their middle in the room of a read-write lock.
+const threadsInRoom = () => all(`${PICTURE} .room`).flatMap((room) => {
+  const { left, right, top, bottom } = rect(room);
+  return all(`${PICTURE} .token`).filter((one) => middleX(one) > left && middleX(one) < right
+    && middleY(one) > top && middleY(one) < bottom).map(titleIn);
+});
+
+// For each thread at the monitor what it wants, and whether its poll failed.
+const wantsDrawn = () => all(`${PICTURE} .wants`).map((one) => {
+  const [token, note] = [one.previousElementSibling, one.nextElementSibling];
+  return [isIn(token, one, 999, 12) && titleIn(token), titleIn(one),
+    note?.matches('.note') ? note.textContent : null];
+});
+
+// Threads in memory: tokens with their looks and marks, cells of tickets, own variables, and the
+// records of an MCS lock with their standing and looks.
 const threadsDrawn = () => ({
-  tokens: all(`${PICTURE} .token`).map((one) => [titleIn(one), kindOf(one)]),
+  tokens: all(`${PICTURE} .token`).map((one) => [
+    titleIn(one), kindsOf(one), one.querySelector('text').textContent]),
+  moving: [...new Set(all(`${PICTURE} [data-moving]`).map(titleIn))],
+  room: threadsInRoom(), rooms: texts(`${PICTURE} .room + .room-name`), wants: wantsDrawn(),
   cells: all(`${PICTURE} .cell + .value`).map((one) => Number(one.textContent)),
   own: all(`${PICTURE} .own + .value`).map((one) => one.textContent),
   records: all(`${PICTURE} .record`).map((one) => [Number(one.dataset.record),
-    one.querySelector('.standing').textContent]),
+    one.querySelector('.standing').textContent, kindsOf(one),
+    one.querySelector('.name').textContent]),
 });
 
-// Each arrow: the lanes from which and to which it leads.
-const arrowsDrawn = (lanes) => all('#lanes .arrow:not(.halo)').map((path) => {
-  const begin = path.getPointAtLength(0).matrixTransform(path.getScreenCTM());
-  return [laneAt(lanes, begin.y), laneAt(lanes, endOf(path).y)];
-});
+const beginOf = (path) => path.getPointAtLength(0).matrixTransform(path.getScreenCTM());
+
+// The move in whose column a point is, or null.
+function moveAt(x) {
+  const marks = all('#lanes .move .target').filter((one) => rect(one).left < x
+    && x < rect(one).right);
+  return marks.length ? Number(marks[0].parentNode.dataset.move) : null;
+}
+
+// Each arrow: the lanes and the columns from which and to which it leads.
+const arrowsDrawn = (lanes) => all('#lanes .arrow:not(.halo)').map((path) => (
+  [beginOf(path), endOf(path)].map(({ x, y }) => [laneAt(lanes, y), moveAt(x)])));
+
+// The numbers above the lanes, and those that are below a sign of a question.
+function numbersDrawn() {
+  const numbers = all('#numbers .number');
+  const below = (mark) => numbers.find((one) => isIn(one, mark, 2, 999));
+  return {
+    numbers: numbers.map((one) => [one.textContent, kindOf(one)]),
+    asks: all('#numbers .ask-mark').map((mark) => Number(below(mark)?.dataset.move)),
+  };
+}
 
 // How far from the mark of the shown move the bands of the lanes and of the numbers are, and its
 // number.
@@ -115,38 +159,34 @@ function farFromMark(move) {
     .map((one) => Math.round(middleX(document.querySelector(one)) - middleX(mark)));
 }
 
+const pillsIn = (list) => all(`${list} .pill`).map((one) => [one.textContent, kindOf(one)]);
+
 // What is said of the move beside its sentence.
 const factsDrawn = () => ({
   head: text('#now .head'), outcome: document.querySelector('#now .outcome')?.classList[1] ?? null,
-  holds: texts('#now [data-holders] .pill'), queue: texts('#now [data-queue] .pill'),
-  gaps: texts('#now [data-queue] .gap'), spoken: text('#spoken'),
+  holds: pillsIn('#now [data-holders]'), queue: pillsIn('#now [data-queue]'),
+  gaps: texts('#now [data-queue] .gap'), spoken: text('#spoken'), position: text('#position'),
 });
 
-// The moves at which the slider has ticks of a kind.
-function ticksDrawn(kind) {
+// The moves at which the slider has these signs.
+function placesOnSlider(selector, xOf = middleX) {
   const svg = document.querySelector('#slider-picture svg');
   const [{ left, width }, edge] = [rect(svg), 12 * rect(svg).width / svg.viewBox.baseVal.width];
-  return all(`#slider-picture .tick.${kind}`).map((one) => (
-    Math.round((middleX(one) - left - edge) / (width - 2 * edge) * port.state().last)));
+  return all(`#slider-picture ${selector}`).map((one) => (
+    Math.round((xOf(one) - left - edge) / (width - 2 * edge) * port.state().last)));
 }
 
-// The empty room below the picture of memory, in its own units; and which of its texts and discs
-// lie on another text.
+// The empty room below the picture of memory, in its own units; and which texts, discs and marks
+// lie on another one.
 function roomDrawn() {
   const svg = document.querySelector(`${PICTURE} svg`);
   const box = svg.getBBox();
-  const seen = all('text, .token circle', svg).map((node) => ({ node, ...rect(node).toJSON() }));
-  const overlap = (one, other) => one.left + 3 < other.right - 3 && other.left + 3 < one.right - 3
-    && one.top + 6 < other.bottom - 6 && other.top + 6 < one.bottom - 6;
-  const pairs = seen.flatMap((one, at) => seen.slice(at + 1).map((other) => [one, other]));
-  return { below: svg.viewBox.baseVal.height - box.y - box.height, overlaps: pairs
-    .filter(([one, other]) => one.node.parentNode !== other.node.parentNode && overlap(one, other))
-    .map((those) => those.map(({ node }) => node.textContent || node.parentNode.textContent)) };
+  const beside = (one, other) => one.parentNode === other.parentNode;
+  return { below: svg.viewBox.baseVal.height - box.y - box.height, overlaps: [
+    ...overlapsOf(all('text, .token circle', svg), beside),
+    ...overlapsOf(all('#lanes :is(text, .step, .call-mark)')),
+  ] };
 }
-
-// Whether a node is in the middle of another one, up to a distance across and one down.
-const isIn = (one, other, across = 2, down = 6) => Math.abs(middleX(one) - middleX(other)) < across
-  && Math.abs(middleY(one) - middleY(other)) < down;
 
 // Texts of memory that are not in the middle of their box or disc, and fields and heads of records
 // that are not in their frame.
@@ -159,13 +199,23 @@ function askewInMemory() {
     return !isIn(one, box, 999) || rect(one).right > rect(box).left
       || !inside(rect(box), rect(frame));
   });
+  const beside = all(`${PICTURE} .token + .own`).filter((one) => (
+    !isIn(one, one.previousElementSibling, 999, 3)
+      || rect(one).left < rect(one.previousElementSibling).right));
+  const below = all(`${PICTURE} .cell + .value + .token`).filter((one) => {
+    const cell = one.previousElementSibling.previousElementSibling;
+    return !isIn(one, cell, 2, 999) || rect(one).top < rect(cell).bottom;
+  });
+  const missing = all(`${PICTURE} .missing-text`)
+    .filter((one) => !isIn(one, one.previousElementSibling, 8, 30));
   const heads = all(`${PICTURE} .record`).filter((one) => {
     const [name, standing, frame, own] = ['.name', '.standing', '.frame', '.own'].map((part) => (
       one.querySelector(part)));
     return !isIn(name, standing, 999, 3) || !inside(rect(standing), rect(frame))
       || (own && (rect(own).top < rect(frame).bottom || !isIn(own, frame, 2, 999)));
   });
-  return [...boxes, ...labels, ...heads].map(({ textContent }) => textContent);
+  return [...boxes, ...labels, ...beside, ...below, ...missing, ...heads]
+    .map(({ textContent }) => textContent);
 }
 
 // Marks and words of the lanes, and numbers above them, that are not in their column.
@@ -183,18 +233,30 @@ function askewInLanes() {
   });
   const names = all('#lanes g[role=option]').filter((one) => (
     !isIn(one.querySelector('.lane-name'), one.querySelector('.lane-line'), 9999, 12)));
-  return [...marks, ...names.map(({ textContent }) => textContent)];
+  const arrows = all('#lanes .arrow:not(.halo)').filter((path) => {
+    const { x } = endOf(path);
+    const mark = document.querySelector(`#lanes [data-move="${moveAt(x)}"] :is(.step, .call-mark)`);
+    return x > rect(mark).left + 2;
+  }).map(() => 'arrow');
+  const words = all('#lanes .span-text').filter((one) => kindOf(one) !== one.textContent
+    || !all(`#lanes .span.${kindOf(one)}`).some((bar) => inside(rect(one), rect(bar))));
+  return [...marks, ...arrows, ...[...names, ...words].map(({ textContent }) => textContent)];
 }
 
-// Each link: the record, or the tail, from whose box it leads, and the record at which it ends.
+// Each link: the tail, or the record, from whose next it leads, the record at which it ends, and
+// how it looks.
 const linksDrawn = () => all(`${PICTURE} .link`).map((path) => {
   const isNear = ({ x, y }, { left, right, top, bottom }) => x > left - 9 && x < right + 9
     && y > top - 9 && y < bottom + 9;
-  const begin = path.getPointAtLength(0).matrixTransform(path.getScreenCTM());
-  const from = all(`${PICTURE} .record`).find((one) => isNear(begin, rect(one)));
-  const to = all(`${PICTURE} .record`).find((one) => one !== from && isNear(endOf(path), rect(
+  const [records, begin] = [all(`${PICTURE} .record`), beginOf(path)];
+  const from = records.find((one) => Math.abs(middleY(one.querySelector('.word')) - begin.y) < 4
+    && begin.x > rect(one.querySelector('.word')).right - 9
+    && begin.x < rect(one.querySelector('.frame')).right + 9);
+  const tail = document.querySelector(`${PICTURE} .word-name + g .word`);
+  const to = records.find((one) => one !== from && isNear(endOf(path), rect(
     one.querySelector('.frame'))));
-  return [from, to].map((one) => (one ? Number(one.dataset.record) : null));
+  return [from ? Number(from.dataset.record) : isNear(begin, rect(tail)) && 'tail',
+    Number(to?.dataset.record), kindsOf(path)];
 });
 
 function stateDrawn() {
@@ -203,8 +265,11 @@ function stateDrawn() {
     words: wordsDrawn(), marks: marksDrawn(lanes), bars: barsDrawn(lanes), ...linesDrawn(),
     ...threadsDrawn(), wheel: wheelDrawn(), caption: text('#memory-says'),
     wrote: document.querySelector('dd.wrote')?.textContent ?? null,
-    names: texts('#lanes .lane-name title'),
-    enters: ticksDrawn('enters'), fails: ticksDrawn('fails'), arrows: arrowsDrawn(lanes),
+    names: texts('#lanes .lane-name title'), notes: texts('#lanes .lane-name + .note'),
+    label: attribute(`${PICTURE} svg`, 'aria-label'),
+    enters: placesOnSlider('.tick.enters'), fails: placesOnSlider('.tick.fails'),
+    slider: [...placesOnSlider('.knob'), ...placesOnSlider('.done', (one) => endOf(one).x)],
+    arrows: arrowsDrawn(lanes), ...numbersDrawn(),
     far: farFromMark(port.state().place), ...factsDrawn(), ...roomDrawn(),
     askew: [...askewInMemory(), ...askewInLanes()], links: linksDrawn(),
   };

@@ -21,6 +21,18 @@ async function taken(what, parts, moves) {
   return new TextDecoder().decode(await caught(() => click(`[data-take=${what}]`)));
 }
 
+// Chooses only the part with this label.
+function chooseOnly(label) {
+  click('#show-take');
+  tick([]);
+  all('#take label').find((one) => plain(one.textContent) === label).click();
+  byId('take').close();
+}
+
+// The picture with the parts that were chosen.
+const takenAsChosen = async () => new TextDecoder().decode(
+  await caught(() => click('[data-take=svg]')));
+
 // Where the corners of a picture are drawn. The style of the page may make its frame larger.
 function areaOf(svg) {
   const { a, d, e, f } = svg.getScreenCTM();
@@ -37,14 +49,22 @@ async function alone(parts, what = 'svg', moves = null) {
   const inFrame = (selector) => all(selector, frame.contentDocument);
   const families = inFrame('text')
     .map((one) => frame.contentWindow.getComputedStyle(one).fontFamily.split(',')[0]);
+  const bandColour = frame.contentWindow.getComputedStyle(inFrame('.here-column')[0]
+    ?? frame.contentDocument.body).fill;
   const endsOf = (selector) => inFrame(selector).map((one) => [rect(one).top, rect(one).bottom]);
   const [bands, lanes] = ['.here-column', '.lane-line'].map(endsOf);
   const whole = areaOf(inFrame('svg')[0]);
   const words = inFrame('text').filter((one) => one.textContent.trim());
   const [within, outside] = [true, false].map((is) => words
     .filter((one) => inside(rect(one), whole) === is).map((one) => one.textContent));
+  // A text and a sign of the legend may lie beside each other, as one.
+  const overlaps = overlapsOf([...new Set([...words, ...inFrame('body > svg > g > g > *')])],
+    (one, other) => one.parentNode === other.parentNode);
   frame.remove();
-  return { families: [...new Set(families)].sort(), bands, lanes, inside: within, outside };
+  return {
+    families: [...new Set(families)].sort(), bands, lanes, inside: within, outside,
+    band: bandColour, overlaps,
+  };
 }
 
 const around = (areas) => ({
@@ -99,8 +119,30 @@ async function animation(from, to) {
   await image.decode();
   return {
     ...chunksOf(bytes), width: image.naturalWidth, sizes: await sizesOf(bytes),
+    corner: cornerOf(image),
     data: await Promise.all(framesOf(bytes).map(markOf)),
   };
+}
+
+// The colour of a picture's lower right corner, in red, green, blue and how dense it is.
+function cornerOf(image) {
+  const pen = document.createElement('canvas').getContext('2d');
+  pen.drawImage(image, 1 - image.naturalWidth, 1 - image.naturalHeight);
+  return [...pen.getImageData(0, 0, 1, 1).data];
+}
+
+// How much ink the page's letters of a family have, normal and bold.
+function inks(family) {
+  const canvas = document.createElement('canvas');
+  [canvas.width, canvas.height] = [600, 100];
+  return ['400', '700'].map((weight) => {
+    const pen = canvas.getContext('2d');
+    pen.clearRect(0, 0, 600, 100);
+    pen.font = `${weight} 60px ${family}`;
+    pen.fillText('Ann, Bob: tail', 5, 70);
+    return pen.getImageData(0, 0, 600, 100).data.filter((one, at) => at % 4 === 3 && one > 128)
+      .length;
+  });
 }
 
 // The packed data of each frame of a picture.
@@ -158,6 +200,11 @@ function askMoves(from, to) {
     byId(id).value = move;
     byId(id).dispatchEvent(new Event('input', { bubbles: true }));
   }
+  return askedCut();
+}
+
+// What the dialog says of moves that are not drawn.
+function askedCut() {
   const box = byId('take-cut');
   return box.checkVisibility() ? plain(box.textContent) : '';
 }

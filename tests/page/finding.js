@@ -17,5 +17,11 @@ const next = () => all('#next-kinds-list li').map((row) => [
   row.textContent.replace(row.firstChild.textContent, '').trim(), row.firstChild.textContent]);
 const nextOf = (least) => next().length >= least && next();
 
+// What is said while the page searches.
+function saidAtOnce() {
+  click('#find-search');
+  return text('#find-answer');
+}
+
 const answerEnds = (end) => text('#find-answer').endsWith(end);
 const answerBegins = (begun) => text('#find-answer').startsWith(begun);

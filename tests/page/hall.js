@@ -39,8 +39,9 @@ function line() {
     : bar !== null && inside(rect(bar), page);
 }
 
+const isSeen = (selector) => document.querySelector(selector).checkVisibility();
 const lanesHeight = () => rect(byId('lanes')).height;
-const header = () => document.querySelector('header').checkVisibility();
+const header = () => isSeen('header');
 
 function inView() {
   const memory = rect(byId('memory-picture'));
@@ -51,6 +52,11 @@ function inView() {
     cut: all('#memory-picture text').filter(isCut).map((one) => one.textContent),
     moving: all('#memory-picture [data-moving]').every((one) => inside(rect(one), memory)),
   };
+}
+
+// Before the page's script: fonts that the browser does not load.
+function blockLetters() {
+  FontFace.prototype.load = () => Promise.reject(new Error('blocked'));
 }
 
 function choosePart(name) {

@@ -23,3 +23,7 @@ function track() {
 }
 
 const passed = () => endsOf('.track.done');
+
+// What the button that plays shows.
+const signsOfRun = () => all('#run path').filter((one) => one.checkVisibility())
+  .map((one) => one.classList[0]);

@@ -29,5 +29,17 @@ const signs = () => Object.fromEntries(all('#legend > span').filter((one) => (
   one.querySelector('.span'))).map((one) => [one.querySelector('.span').classList[1],
   plain(one.textContent)]));
 
+// The plain words on each of these moves.
+const plainAt = (moves) => moves.map((move) => {
+  go(move);
+  return text('#now .plain');
+});
+
+// Each marked term, with what is said of it while it has the focus.
+const meanings = (terms) => all(terms).map((one) => {
+  one.focus();
+  return [one.dataset.term, text('#tip-box:not([hidden])')];
+});
+
 // Before the page's script: the browser wants these languages.
 const want = (languages) => Object.defineProperty(navigator, 'languages', { value: languages });

@@ -11,6 +11,7 @@ function step() {
     place: port.state().place, hall: document.body.classList.contains('hall'),
     parts: PARTS.filter((id) => byId(id).checkVisibility()), compares: !byId('other').hidden,
     question: text('#bar .question p'), answers: count('#bar .question details[open]'),
+    answer: text('#bar .question details[open] p'),
     step: text('#lecture span'), clock: text('#lecture-clock'), sheet: byId('sheets').open,
     isSeen: asked.every((one) => inside(rect(one), screen))
       && now.scrollHeight <= now.clientHeight + 1
@@ -43,14 +44,18 @@ function wait(minutes) {
 
 const clockBegins = (sign) => text('#lecture-clock').startsWith(sign);
 
-// Keeps the window that the page opens as window.opened.
+// Keeps the window that the page opens as window.opened, and all of them as window.everOpened.
 function keepWindows() {
   const { open } = window;
+  window.everOpened = new Set();
   window.open = (...asked) => {
     window.opened = open.apply(window, asked);
+    window.everOpened.add(window.opened);
     return window.opened;
   };
 }
+
+const countOfWindows = () => window.everOpened.size;
 
 const presented = () => window.opened && plain(window.opened.document.body.textContent);
 const clockThereBegins = (sign) => (

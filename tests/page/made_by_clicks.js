@@ -20,3 +20,11 @@ function chooseMany(times) {
   const { place, moves, last } = port.state();
   return [place, moves, last];
 }
+
+// Of each thread its disc, its name, and its choices.
+const rows = () => all('#choices li').map((row) => [
+  ...all('.disc', row).map((one) => `${one.className} ${one.textContent}`),
+  ...all('.who', row).map((one) => one.textContent),
+  ...all('[data-word]', row).map((one) => (
+    `${one.getAttribute('aria-label')} ${one.classList[1]}`)),
+]);

@@ -75,3 +75,14 @@ const folds = () => all('#memory-picture .fold > text').map((one) => {
   const [text, frame] = [one, one.parentNode.querySelector('rect')].map(rect);
   return [text.left - frame.left, frame.right - text.right];
 });
+
+const scrollLanes = () => { byId('lanes').scrollTop = byId('lanes').scrollHeight; };
+
+// Opens a schedule at its end, with a comment after so many moves that makes it so many bytes long.
+function openLarge(header, move, after, size) {
+  const comment = `${'#'.repeat(size - header.length - move.length - 1)}\n`;
+  show(header + (after ? move + comment : comment + move), 1);
+}
+
+// Chooses the first transition that can be reached in this time.
+const chooseIn = (time) => all('[data-next-kind]').find((one) => one.textContent === time).click();

@@ -150,6 +150,11 @@ for (const { name, text } of examples()) {
   }
 }
 assert.ok(asked > 60, String(asked));
+// Questions come from the first 400 moves.
+const eighty = new Run(machine, bytesOf(
+  ['lock ticket threads 1', ...Array(80).fill(ROUND).flat(), ''].join('\n')));
+const lastAsked = Math.max(...questionsOf(eighty).keys());
+assert.ok(lastAsked > 300 && lastAsked <= 400, String(lastAsked));
 
 // By the number of threads: how many columns a strip has, and how many strips a sheet has. Of more
 // threads than five, strips are wider and drawn smaller.

@@ -18,7 +18,7 @@ import {
   ANSWER, AS_WRITER, CALLS, HOLDS, IN_QUEUE, isStep, MOVES, OUTCOME, UNLINKED, WAITS,
 } from '../../page/src/machine/codes.js';
 import { Records, RECORD_BYTES, STATE_BYTES } from '../../page/src/machine/machine.js';
-import { reportOf } from '../../page/src/model/report.js';
+import { lastLine, reportOf } from '../../page/src/model/report.js';
 import { Run } from '../../page/src/model/run.js';
 import { bytesOf, examples, machineOf, module } from './node.mjs';
 
@@ -196,6 +196,15 @@ function checkStops(machine) {
 function checkRoom(machine) {
   const long = new Run(machine, new Uint8Array(1048577).fill(10));
   assert.equal(reportOf(long), 'fault TooLong\n');
+  // The moves before the one that is too many can be stepped through.
+  const many = new Run(machine, bytesOf(`lock ticket threads 2
+0 acquire
+0 add
+1 acquire
+1 add
+${'1 read\n'.repeat(65533)}`));
+  assert.equal(many.count, 65536);
+  assert.equal(lastLine(many), 'fault line 65538 TooManyMoves');
   const text = bytesOf('lock mcs threads 2\n0 acquire\n0 write\n');
   const short = playRaw(machine, text, 0, STATE_BYTES - 1);
   assert.equal(short.answer, ANSWER.short);

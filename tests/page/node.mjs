@@ -13,12 +13,12 @@ const EXAMPLES = join(TOP, 'examples');
 export const module = readFileSync(process.argv[2]);
 export const bytesOf = (text) => new TextEncoder().encode(text);
 
-export function machineOf() {
-  if (Number(process.versions.node.split('.')[0]) < 24) {
-    setFlagsFromString('--experimental-wasm-memory64');
-  }
-  return new Machine(module);
+// Node has 64-bit memory without a flag since version 24.
+if (Number(process.versions.node.split('.')[0]) < 24) {
+  setFlagsFromString('--experimental-wasm-memory64');
 }
+
+export const machineOf = () => new Machine(module);
 
 // Each example: its name, its bytes and its report.
 export const examples = () => readdirSync(EXAMPLES).filter((file) => file.endsWith('.schedule'))

@@ -6,16 +6,6 @@ const seen = (selector) => all(selector).filter((one) => (
   one.checkVisibility() && rect(one).width > 0));
 const isApart = (one, other) => one.bottom <= other.top + 1 || one.top >= other.bottom - 1;
 
-// The box of a node on the screen. For a text in a picture it leaves out the halo, which Firefox
-// counts.
-function boxOf(node) {
-  if (!(node instanceof SVGTextElement)) return rect(node);
-  const { x, y, width, height } = node.getBBox();
-  const [{ x: left, y: top }, { x: right, y: bottom }] = [[x, y], [x + width, y + height]]
-    .map(([across, down]) => new DOMPoint(across, down).matrixTransform(node.getScreenCTM()));
-  return { left, top, right, bottom };
-}
-
 // The rectangle of a text includes its halo, and takes less time than its box, so it comes first.
 function outOfView(selector, id) {
   const [part, whole] = [rect(byId(id)), screen()];

@@ -22,7 +22,11 @@ function marked() {
   };
 }
 
-const scrollText = (top) => { byId('text').scrollTop = top; };
+// Writes where the text is scrolled to, without being led to the caret first.
+function writeAt(top) {
+  byId('text').focus({ preventScroll: true });
+  byId('text').scrollTop = top;
+}
 
 function fileOf(letters) {
   const data = new DataTransfer();
@@ -43,4 +47,32 @@ const dragFileOver = (selector) => bring(
 // From now on no file can be read, as after another program has removed it.
 function readNothing() {
   Blob.prototype.arrayBuffer = () => Promise.reject(new DOMException('', 'NotFoundError'));
+}
+
+// Drops a file of so many bytes, which begins with these letters and goes on with a comment.
+function dropLarge(letters, size) {
+  const data = new DataTransfer();
+  data.items.add(new File([letters, '#'.repeat(size - letters.length)], 'large.txt'));
+  bring('drop', 'dataTransfer', data);
+}
+
+// Types a text, and opens a lesson before the page has played the text.
+function typeAndOpen(letters, name) {
+  byId('text').value = letters;
+  byId('text').dispatchEvent(new Event('input', { bubbles: true }));
+  lesson(name);
+}
+
+// The field that the button of files opens.
+function fieldOfOpen() {
+  let asked = null;
+  HTMLInputElement.prototype.click = function open() { asked = this.id; };
+  click('#open');
+  return asked;
+}
+
+// How many lines have a number before the page has played what is typed.
+function numbersOf(letters) {
+  typed(letters);
+  return count('#gutter div div');
 }

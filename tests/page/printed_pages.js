@@ -55,3 +55,28 @@ const pointAt = (selector) => document.querySelector(selector)
 const drawn = () => [count('#paper .strip .span, #paper .strip .found, #paper .strip .arrow'),
   count('#paper .asked .blank')];
 const offered = () => document.activeElement.dataset.sheet;
+
+// The marks of an exercise sheet as it is printed: those that are not on the line of a lane, their
+// words by the numbers of the moves, which words lie on another one, and the notes below names.
+function marksToFillIn() {
+  stylePaper();
+  const strips = all('#paper .strip');
+  const isOnLine = (one) => all('.lane-line', one.closest('.strip')).some((line) => (
+    isIn(one, line, 9999, 1.5)));
+  const blanks = all('#paper .strip .step.blank');
+  const words = all('#paper .strip .move .word-label');
+  return {
+    askew: blanks.filter((one) => !isOnLine(one)).map((one) => one.parentNode.dataset.move),
+    words: words.map((one) => [Number(one.parentNode.dataset.move), one.textContent])
+      .sort(([one], [other]) => one - other),
+    overlaps: strips.flatMap((one) => (
+      overlapsOf(all('.lane-name, .note, .word-label, .step', one)))),
+    notes: texts('#paper .strip:first-of-type .lane-name + .note'),
+  };
+}
+
+// The height and the edge of the body as it is printed.
+function bodyOnPaper() {
+  stylePaper();
+  return [rect(document.body).height, styleOf('body').borderBottomWidth];
+}

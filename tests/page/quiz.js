@@ -8,6 +8,8 @@ function question() {
     kind: form?.dataset.kind, move: Number(form?.dataset.move ?? 0), filled: fields.some(isFilled),
     choices: fields.filter(({ type }) => type === 'radio').map((one) => one.value),
     future: count('#lanes .future'), place: port.state().place, position: text('#position'),
+    said: text('#quiz-form .say'), marks: texts('#lanes .asked'),
+    asks: text('#quiz-form legend, #quiz-form .field span'),
   };
 }
 

@@ -9,12 +9,6 @@ const recordedAt = (moves) => Array.from({ length: moves }, (_, i) => {
   return recorded();
 });
 
-// Where the refused move is: in the lanes, on the slider, and in the text.
-const crosses = () => [attribute('#lanes [data-refused]', 'data-move'),
-  count('#slider-picture .tick.fails'), plain(text('#gutter .fault'))];
-
-const marked = () => [text('#now .refused-text'), text('#now mark.bad')];
-
 // How many nodes of each of these parts are wholly in view.
 const wholeOf = (...parts) => parts.map((part) => all(`#now ${part}`)
   .filter((one) => one.checkVisibility() && inside(rect(one), rect(byId('now')))).length);

@@ -6,6 +6,13 @@ function onPaper() {
   return [text('#paper'), count('#paper .strip [data-refused]') > 0];
 }
 
+// How far the column of the shown place is from the cross of the refused move.
+function farFromColumn() {
+  const [cross, column] = ['#lanes [data-refused] .target', '#numbers .here-column']
+    .map((one) => rect(document.querySelector(one)));
+  return Math.round((cross.left + cross.right - column.left - column.right) / 2);
+}
+
 const focusedChoice = () => ({ ...document.activeElement.dataset });
 
 // The marked words of memory, each with its mark.

@@ -23,10 +23,8 @@ import { holdersText, lastLine, queueText } from '../../page/src/model/report.js
 import { Run, runOf } from '../../page/src/model/run.js';
 import { headerLine, Session } from '../../page/src/model/session.js';
 import { unlinkedAfter } from '../../page/src/model/spans.js';
-import { LANGUAGES, sources } from '../../page/src/texts/language.js';
-import { texts } from '../../page/src/texts/texts.js';
 import { kindsOf as moduleKinds } from '../../page/build/kinds.mjs';
-import { bytesOf, examples, machineOf, module } from './node.mjs';
+import { bytesOf, machineOf, module } from './node.mjs';
 
 const document = readFileSync(new URL('../../docs/LOCKS.md', import.meta.url), 'utf8');
 const lines = linesOf(codeOf(document));
@@ -104,6 +102,9 @@ assert.deepEqual(session.textWith('0 acquire'),
 session.go(0);
 assert.equal(session.textWith('0 acquire').letters,
   `${TWO.slice(0, 6).join('\n')}\n0 acquire\n`);
+const bytewise = new Session(machine, lines);
+bytewise.open(Uint8Array.from([35, 255, 10, ...bytesOf('lock ticket threads 1\n')]));
+assert.equal(bytewise.textWith('0 acquire').plain, true);
 
 // The page marks the words of a move, or at a refused move those of its thread's last move. At a
 // question that hides what the move did it marks none before the answer.
@@ -116,6 +117,9 @@ assert.deepEqual(['sentence', 'facts', 'memory', 'standing'].map((part) => (
 assert.deepEqual([2, 3, 4, 7].map((place) => isAsked(session.view({}, place))),
   [false, true, false, false]);
 assert.equal(isCovered(session.view({ answered: true }, 3), 'facts'), false);
+// The refused move hides nothing of the question on the move before it.
+const askedLast = opened('#! ask 6 Why?', '#! answer 6 So.', ...TWO.slice(5));
+assert.deepEqual([6, 7].map((place) => isAsked(askedLast.view({}, place))), [true, false]);
 
 // Holders and queue after each move, as the report has them, and the phase of the thread before the
 // move.
@@ -167,6 +171,8 @@ assert.deepEqual(stale(...TWO.slice(0, 9), '0 acquire', ...TWO.slice(10)).stale,
 assert.deepEqual(stale(...TWO.slice(0, 7), '0 acquire', ...TWO.slice(7)).stale, [1, 3, 4, 5]);
 assert.deepEqual(stale(...TWO.slice(0, 5), 'lock ticket threads 3', ...TWO.slice(6)).stale,
   [1, 3, 4, 5]);
+const otherThread = (line) => line.replace(/^[01]/, (thread) => String(1 - Number(thread)));
+assert.deepEqual(stale(...TWO.slice(0, 6), ...TWO.slice(6).map(otherThread)).stale, [1, 3, 4, 5]);
 for (const head of ['lock ticket threads 2 bits 8', 'lock mcs threads 2']) {
   assert.deepEqual(stale(...TWO.slice(0, 5), head, ...TWO.slice(6)).stale, [1, 3, 4, 5], head);
 }
@@ -182,7 +188,36 @@ edited.restore(before);
 assert.deepEqual(edited.stale, [1, 4, 5]);
 edited.keepRemarks();
 assert.deepEqual([edited.stale, edited.remarks.ask.get(3)], [[], 'Who holds?']);
+edited.restore(before);
+assert.deepEqual(edited.stale, [1, 4, 5], 'they are bound again as they were before');
 assert.equal(edited.twin().machine, machine);
+
+// Of a trace a comment that names a line goes with its line, if lines before it are left out.
+const NOTED = (line) => ['lock ticket threads 1', '0 acquire', '0 add next_ticket found 0',
+  `# line ${line} is a.c:7`, '# line is one word'];
+const noted = opened('# A run', ...NOTED(4), '0 read');
+noted.derive(text('# A run', ...NOTED(4)), null, 2);
+assert.deepEqual([letters(noted.held), noted.run.sourceOf(2)],
+  [letters(text(...NOTED(3))), 'a.c:7']);
+noted.leaveOutStale();
+assert.deepEqual([letters(noted.run.text), noted.run.sourceOf(2), noted.run.said(2).found],
+  [letters(text(...NOTED(3))), 'a.c:7', 0n]);
+
+// A trace may be longer than a schedule, as long as its moves are not. If the first bytes of a text
+// that is too long have a further fault, the moves before that can be stepped through.
+const long = runOf(machine, text('lock ticket threads 2', '0 acquire', '0 add', '1 acquire',
+  '1 add', ...Array(45000).fill('1 read now_serving found 0')), []);
+assert.deepEqual([long.text.length > 1048576, long.count, long.fault], [true, 45004, null]);
+const tooLong = runOf(machine, text('lock ticket threads 2', '0 acquire', '0 look',
+  '#'.repeat(1048576)), []);
+assert.deepEqual([tooLong.fault.name, tooLong.hasLock, tooLong.count], ['TooLong', true, 1]);
+const headless = runOf(machine, text('look ticket threads 2', '#'.repeat(1048576)), []);
+assert.deepEqual([headless.fault.name, headless.hasLock, headless.count], ['TooLong', false, 0]);
+// A line that ends beyond those bytes is none of its lines, though they end like a move.
+const front = 'lock ticket threads 1\n0 acquire\n0 add\n';
+const ended = new Run(machine,
+  bytesOf(`${front}${'#'.repeat(1048576 - front.length - 7)}\n0 read and more\n`));
+assert.equal(ended.count, 2);
 
 // A known run saves the replay of the same text, and of its front, unless the front has no move or
 // the refused move.
@@ -199,6 +234,10 @@ for (const [count, moves, played] of PREFIXES) {
   assert.equal(plays, played, `${count}`);
 }
 
+// A refused line is not read off a run that goes on after it.
+const further = new Run(machine, text(...TWO, '0 read'));
+assert.equal(runOf(machine, text(...TWO), [further]).refusal?.name, 'NoCall');
+
 // Two runs have common first moves only if they have the same lock, threads and bits.
 const HEADER = 'lock ticket threads 2 bits 8';
 const of = (...all) => new Run(machine, text(...all));
@@ -211,6 +250,8 @@ const OTHERS = ['lock ticket threads 3 bits 8', 'lock ticket threads 2', 'lock m
 for (const other of OTHERS) {
   assert.equal(commonMoves(of(HEADER, '0 acquire'), of(other, '0 acquire')), 0, other);
 }
+const ONE = 'lock rw-simple threads 1';
+assert.equal(commonMoves(of(ONE, '0 rlock'), of(ONE, '0 wlock')), 0);
 
 // The same calls on the other read-write lock: a writer announces itself there, and a turn without
 // a possible move is left out.
@@ -225,8 +266,11 @@ const LATE = ['0 wlock', '0 section', '1 rlock', '1 section', '0 wunlock', '0 se
 const back = onOtherLock(machine, of('lock rw-fifo threads 2 bits 8', ...LATE, '1 runlock'));
 assert.equal(letters(back.run.text),
   ['lock rw-simple threads 2 bits 8', ...LATE, '1 runlock', ''].join('\n'));
-assert.deepEqual([otherLock(of('lock rw-simple threads 1')), otherLock(of(HEADER))],
-  ['rw-fifo', undefined]);
+assert.deepEqual([otherLock(of(ONE)), otherLock(of(HEADER))], ['rw-fifo', undefined]);
+// Longer schedules than 2,000 moves are not played on the other lock.
+const MANY = Array(500).fill(['0 rlock', '0 section', '0 runlock', '0 section']).flat();
+assert.equal(otherLock(of(ONE, ...MANY)), 'rw-fifo');
+assert.equal(otherLock(of(ONE, ...MANY, '0 rlock')), false);
 
 // The first move of a kind, and 0 if there is none; a record that is in the queue and not linked.
 const kindNamed = (name) => kindsOf('ticket').find((one) => one.name === name);
@@ -268,7 +312,9 @@ assert.deepEqual([partsOf('code,memory'), partsOf('x'), partsOf(undefined)],
   [['memory', 'code'], null, null]);
 assert.equal(withoutLooks('#text=abc&hall&show=code,now&theme=dark&lang=de&future'),
   '#text=abc&lang=de');
-assert.deepEqual([['hall', 'lang'], ['hall', 'text'], []].map(isLooksAlone), [true, false, true]);
+assert.equal(withoutLooks('#lesson=a&embed&sheet=worked'), '#lesson=a');
+assert.deepEqual([['hall', 'lang'], ['hall', 'text'], ['embed', 'sheet'], []].map(isLooksAlone),
+  [true, false, true, true]);
 
 // A comment says that moves repeat, and they do if the state is at the end what it was before them.
 // A failed poll changes nothing. The round of an MCS lock alone leaves each word as it was. A call
@@ -292,8 +338,14 @@ const REPEATED = [
   [['lock rw-fifo threads 1', AGAIN, ...READS], null],
   [[PAIR, '0 rlock', `${AGAIN}.`, ...WRITES], null],
   [[PAIR, '0 rlock', AGAIN, ...WRITES, '0 runlock'], null],
+  [[PAIR, '0 rlock', AGAIN, ...WRITES, '0 sektion'], null],
 ];
 for (const [all, loop] of REPEATED) assert.deepEqual(opened(...all).loop, loop, all.join('; '));
+
+// A comment that belongs to other moves says nothing.
+const others = opened(ONE, AGAIN, ...READS);
+others.derive(text(ONE, AGAIN, ...READS.map((line) => line.replace('r', 'w'))), null, 0);
+assert.deepEqual([others.run.count, others.stale, others.loop], [4, [2], null]);
 
 // From the end it goes on with the first of these moves, and that is the next time through them.
 const endless = opened(...REPEATED[0][0]);
@@ -306,66 +358,4 @@ endless.go(2);
 assert.deepEqual(at(), [2, 2]);
 endless.go(1);
 assert.deepEqual(at(), [1, 1]);
-
-// Texts with a number, for one and for several, in both languages.
-const { de } = LANGUAGES;
-const COUNTED = [
-  [texts.threads, '1 thread', '2 threads'], [texts.find.rounds, 'once', '2 times'],
-  [texts.play.inMoves, 'in 1 move', 'in 2 moves'],
-  [texts.own.ends, 'The one move is accepted.', 'All 2 moves are accepted.'],
-  [texts.own.stepThrough, 'The move before it can be stepped through.',
-    'The 2 moves before it can be stepped through.'],
-  [texts.own.stale,
-    'One line of comment belongs to other moves. It is not shown, saved or linked.',
-    '2 lines of comment belong to other moves. They are not shown, saved or linked.'],
-  [de.page.threads, '1 Thread', '2 Threads'], [de.page.find.rounds, 'einmal', '2-mal'],
-  [de.page.play.inMoves, 'in 1 Zug', 'in 2 Zügen'],
-];
-for (const [say, one, two] of COUNTED) assert.deepEqual([say(1), say(2)], [one, two]);
-const FILES = [
-  [1, 1, 'a is shown. The other file is kept, and listed with the lessons.'],
-  [2, 2, 'a is shown. The 2 other files are kept, and listed with the lessons.'],
-  [3, 2, 'a is shown. Of the 3 other files the first 2 are kept, and listed with the lessons. '
-    + 'The browser has no room for more.'],
-  [1, 0, 'a is shown. The other file is not kept. The browser has no room for more.'],
-];
-for (const [others, kept, said] of FILES) {
-  assert.equal(texts.own.several('a', others, kept), said);
-}
 assert.equal(LOCK_NAMES[run.kind], LOCKS[run.kind].name);
-
-// A text has in both languages the same values, numbers, quotes and sign at its end, in the same
-// order, except for the key Pos1, the name of a panel, and numbers that begin at 0 again.
-const OTHERWISE = [
-  'page.keys.list.1.0', 'page.own.several', 'rwFifo.wraps', 'ticket.captions.wraps', 'ticket.wraps',
-];
-const PART = /<[\w.]+>|\{\w+\}|\d+|[“„”]|[.?!:…]$/g;
-// A value that a text takes, and its own values, by their names or in a list.
-const valueOf = (at) => new Proxy(new String(`<${at}>`), {
-  get(letters, name) {
-    if (name === Symbol.iterator) return () => [`<${at}.1>`, `<${at}.2>`].values();
-    const own = letters[name];
-    if (own === undefined && typeof name === 'string') return `<${at}.${name}>`;
-    return own instanceof Function ? own.bind(letters) : own;
-  },
-});
-const values = [1, 2, 3].map(valueOf);
-const partsIn = (said) => (said instanceof Function ? said(...values) : said).match(PART) ?? [];
-const inOrder = (said) => [...new Set(partsIn(said))].join(' ').replace(/[“„”]/g, '"');
-const otherwise = (english, other, path) => {
-  if (english instanceof Object && !(english instanceof Function)) {
-    return Object.keys(english).filter((name) => name in other)
-      .flatMap((name) => otherwise(english[name], other[name], [...path, name]));
-  }
-  return inOrder(english) === inOrder(other) ? [] : [path.join('.')];
-};
-assert.deepEqual(otherwise(sources, de, []).sort(), OTHERWISE);
-
-// Each text of a lesson, a refusal or a fault has a German translation.
-const german = JSON.parse(readFileSync(
-  new URL('../../examples/lessons.de.json', import.meta.url), 'utf8'));
-for (const example of examples()) {
-  const { title, learn, about, say, ask, answer } = remarksOf(example.text);
-  const all = [title, learn, about, ...[say, ask, answer].flatMap((by) => [...by.values()])];
-  for (const one of all.filter(Boolean)) assert.ok(one in german, `${example.name}: ${one}`);
-}

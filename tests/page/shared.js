@@ -208,3 +208,45 @@ function dropFiles(files) {
   for (const [name, letters] of files) data.items.add(new File([letters], name));
   bring('drop', 'dataTransfer', data);
 }
+
+// Clicks a control that copies, and returns what it copied. The clipboard may refuse it.
+function copiedBy(selector, isAllowed = true) {
+  let taken = null;
+  const writeText = async (letters) => {
+    taken = letters;
+    if (!isAllowed) throw new Error('not allowed');
+  };
+  Object.defineProperty(navigator, 'clipboard', { value: { writeText }, configurable: true });
+  click(selector);
+  return taken;
+}
+
+// The box of a node on the screen. For a text in a picture it leaves out the halo, which Firefox
+// counts.
+function boxOf(node) {
+  if (!(node instanceof SVGTextElement)) return rect(node);
+  const { x, y, width, height } = node.getBBox();
+  const [{ x: left, y: top }, { x: right, y: bottom }] = [[x, y], [x + width, y + height]]
+    .map(([across, down]) => new DOMPoint(across, down).matrixTransform(node.getScreenCTM()));
+  return { left, top, right, bottom };
+}
+
+const middleX = (node) => (rect(node).left + rect(node).right) / 2;
+const middleY = (node) => (rect(node).top + rect(node).bottom) / 2;
+
+// Whether a node is in the middle of another one, up to a distance across and one down.
+const isIn = (one, other, across = 2, down = 6) => Math.abs(middleX(one) - middleX(other)) < across
+  && Math.abs(middleY(one) - middleY(other)) < down;
+
+// The pairs of nodes that lie on each other, but for those that are one by `isOne`.
+function overlapsOf(nodes, isOne = () => false) {
+  const seen = nodes.map((node) => {
+    const { left, right, top, bottom } = boxOf(node);
+    return { node, left, right, top, bottom };
+  });
+  const overlap = (one, other) => one.left + 3 < other.right - 3 && other.left + 3 < one.right - 3
+    && one.top + 6 < other.bottom - 6 && other.top + 6 < one.bottom - 6;
+  return seen.flatMap((one, at) => seen.slice(at + 1).map((other) => [one, other]))
+    .filter(([one, other]) => overlap(one, other) && !isOne(one.node, other.node))
+    .map((those) => those.map(({ node }) => node.textContent || node.parentNode.textContent));
+}

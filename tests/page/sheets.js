@@ -21,7 +21,8 @@ function sheet() {
     spans: count('#paper .strip :is(.span, .found, .arrow, .unlinked)'),
     words: count('#paper .figure .word'), values: count('#paper .figure .value'),
     lines: count('#paper .name-line span'), places: count('#paper .figure .cell'),
-    discs: count('#paper .figure .code .disc'), pictures: count('#paper .figure > div > svg'),
+    threads: port.state().threads, discs: count('#paper .figure .code .disc'),
+    pictures: count('#paper .figure > div > svg'),
     arrows: texts('#paper .figure .note').filter((one) => one === '→').length,
   };
 }
@@ -48,6 +49,8 @@ function blankMemory() {
   svg.remove();
   return found;
 }
+
+const viewBoxes = () => all('#paper .figure svg').map((one) => one.getAttribute('viewBox'));
 
 // How these are drawn, each look once.
 const looksOf = (selector) => [...new Set(all(`#paper ${selector}`).map((one) => {

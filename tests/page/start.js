@@ -7,8 +7,16 @@ const lessonNow = () => port.state().lesson;
 
 const cards = () => all('#lessons .lock-card').map((card) => ({
   lock: card.dataset.lock, live: all('.live svg text', card).length,
+  says: plain(card.querySelector('p').textContent),
   lessons: all('[data-lesson]', card).map((one) => [one.dataset.lesson, plain(one.textContent)]),
 }));
+
+// The lessons with a frame, but for one below the pointer.
+const framed = () => all('#lessons [data-lesson]:not(:hover)')
+  .filter((one) => getComputedStyle(one).borderTopColor !== 'rgba(0, 0, 0, 0)')
+  .map((one) => one.dataset.lesson);
+
+const stored = (name) => localStorage.getItem(name);
 
 // Whether each picture of a card is as wide as the card.
 const pictures = () => all('#lessons .live')
@@ -22,16 +30,21 @@ const inHall = () => document.body.classList.contains('hall');
 const topOf = (selector) => rect(document.querySelector(selector)).top;
 
 // The explanation of a term in a part, and whether all of it is on the screen with nothing over it.
+// It begins where the term does, unless it would go beyond the edge.
 function explained(part, term) {
-  all(`${part} .term`).find((one) => one.dataset.term === term && one.checkVisibility()).focus();
+  const node = all(`${part} .term`)
+    .find((one) => one.dataset.term === term && one.checkVisibility());
+  node.focus();
   const box = byId('tip-box');
   const { left, right, top, bottom } = rect(box);
+  const isBeside = Math.abs(left - rect(node).left) < 2 || right > innerWidth - 10;
   const screen = { left: 0, top: 0, right: innerWidth, bottom: innerHeight };
   // elementFromPoint skips a box without pointer events.
   box.style.pointerEvents = 'auto';
   const above = document.elementFromPoint((left + right) / 2, (top + bottom) / 2);
   box.style.pointerEvents = '';
-  return [!box.hidden && box.textContent, inside(rect(box), screen) && above === box];
+  return [!box.hidden && box.textContent,
+    isBeside && inside(rect(box), screen) && above === box];
 }
 
 // The term that the explanation describes, with its role; null without one.

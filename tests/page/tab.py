@@ -1,6 +1,7 @@
 """A tab with the page: it acts like a reader, and calls JavaScript functions in the page."""
 import base64
 import json
+import os
 import re
 import time
 from pathlib import Path
@@ -11,7 +12,8 @@ from bidi import PATIENCE as LONGEST
 from tree import TOP
 
 HERE = Path(__file__).parent
-PAGE = TOP / "page" / "lockreplay.html"
+# Another page than the built one, in which a mistake was planted.
+PAGE = Path(os.environ.get("LOCKREPLAY_PAGE", TOP / "page" / "lockreplay.html"))
 OWN = ("about:", "data:", "blob:")
 PATIENCE = 60  # seconds
 # How many seconds one question waits for an answer while a page loads.

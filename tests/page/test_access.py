@@ -46,6 +46,8 @@ def test_what_is_read_aloud(page):
     assert spoken.startswith("Move 10 of 16. Ann, read, waits. Ann polls its own next")
     assert page.js("attribute", "#spoken", "aria-live") == "polite"
     assert page.js("texts", "[aria-current=step]") == ["await succ := me.next A"]
+    here, beside = page.js("groundsOfLines")
+    assert len(here) == 1 and here[0] not in beside, (here, beside)
     label = page.js("attribute", "#memory-picture svg", "aria-label")
     assert label.startswith("Ann is followed by Bob, and only Bob knows. ")
     for word in ["tail = Bob", "Ann.next = nil", "Bob.next = nil", "Bob.locked = 0"]:
@@ -67,16 +69,24 @@ def test_the_names_of_the_foot(page):
 def test_the_button_that_plays(page):
     """Its name says what a press does, so it is not read as pressed too."""
     page.open("#lesson=mcs-late-link&move=0")
-    for name in ["Play the moves one after another", "Pause", "Play the moves one after another"]:
+    for name, sign in [("Play the moves one after another", "go"), ("Pause", "stop")] * 2:
         assert [page.js("attribute", "#run", one) for one in ["aria-label", "aria-pressed"]] == [
             name, None]
+        assert page.js("signOfRun") == [sign]
         page.press("Space")
+    assert not page.js("isRunning")
+    for runs in (True, False):
+        page.click("#run")
+        assert page.js("isRunning") == runs
 
 
 def test_everything_has_a_name(page):
     """Each control, part and picture has a name, and a screen reader hears each move."""
     page.open(LATE_LINK)
     assert page.js("nameless") == []
+    assert page.js("liveRegions") == {
+        "banner": "status", "damaged": "alert", "verdict": "status", "notice": "status",
+        "find-answer": "status", "take-cut": "status", "why-changes": "polite", "spoken": "polite"}
     # A screen reader hears a fact for which a question asks only after the answer is shown.
     assert "compare-and-swap fails" not in page.text("#spoken")
     page.press("a")
@@ -121,7 +131,8 @@ def test_on_a_phone(page, width, height):
     "light": ({}, "&theme=light"), "dark": ({}, "&theme=dark"), "system light": ({}, ""),
     "system dark": ({"prefers-color-scheme": "dark"}, "")})
 def test_contrast_of_letters_and_words(page, theme):
-    """Letters and line numbers have a contrast of 4.5 : 1, and borders of words of 3 : 1."""
+    """Letters and line numbers have a contrast of 4.5 : 1, those on the colours of standings too,
+    and borders of words 3 : 1. A dark system has the colours of the dark theme."""
     page.open(f"{LATE_LINK}{theme}")
     page.press("a", "e")
     shown = page.js("colours")
@@ -130,6 +141,11 @@ def test_contrast_of_letters_and_words(page, theme):
         for ground in [shown["card"], shown["page"]]:
             assert contrast(letters, ground) >= 4.5, (letters, ground)
     assert contrast(shown["word"], shown["card"]) >= 3, shown
+    for letters, ground in shown["standings"]:
+        assert contrast(letters, ground) >= 4.5, (letters, ground)
+    assert len(shown["standings"]) == 9
+    of_the_theme, of_the_system = page.js("darkColours")
+    assert of_the_theme == of_the_system
 
 
 @cases("media", {"forced": FORCED})

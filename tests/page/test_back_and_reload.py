@@ -116,19 +116,33 @@ def test_a_long_schedule(page):
 
 
 def test_a_schedule_that_is_too_long_for_a_link(page):
-    """The page saves the schedule as a file, byte for byte."""
+    """A link has at most 24,000 bytes. The page saves a longer schedule as a file, byte for
+    byte."""
     page.open(LESSON)
-    page.show(LONG)
+    page.js("copiedBy", "#link")
+    page.show(LONG[:24000])
+    page.press("Escape", "l")
+    assert page.js("addressBegins", "#schedule=") and "copied" in page.until("notice")
+    page.show(LONG[:24001])
     page.press("Escape", "l")
     assert "saved as a file" in page.until("notice")
-    assert page.saved("schedule.txt", len(LONG)) == LONG.encode()
+    assert page.saved("schedule.txt", 24001) == LONG[:24001].encode()
+
+
+def test_back_to_a_schedule_that_is_too_long_for_a_link(page):
+    """Back finds it, even if it was left before the browser had time to keep it."""
+    page.open(LESSON)
+    page.js("showAndLeave", LONG, 7, "ticket-hand-over")
+    page.js("back")
+    shows(page, LONG.encode(), 7)
 
 
 def test_a_link_from_disk(page):
     """The page tells a reader who copies the link that it names a file of this disk."""
     page.open(LESSON)
-    page.press("l")
-    assert "on your disk" in page.until("notice")
+    assert page.js("copiedBy", "#link") == page.js("href")
+    page.becomes("The link is copied. It names this file on your disk. To share it, put the page "
+                 "on a web server.", "notice")
 
 
 @cases("fragment, part", {
@@ -147,6 +161,9 @@ def test_damaged_links(page, fragment, part):
     page.press("ArrowRight")
     page.js("leave")
     assert page.js("address") == fragment
+    if part == "has no end":
+        page.press("l")
+        assert page.js("address") == f"{fragment}&move=1" and page.js("damaged") == ""
     page.lesson("ticket-hand-over", 2)
     page.becomes("#lesson=ticket-hand-over&move=2", "address")
     assert page.js("damaged") == ""
@@ -168,6 +185,8 @@ def test_foreign_bytes_survive_a_mend(page):
     page.show(MINE.replace(b"0 read", b"0 readd") + b"# \xff\xfe\n")
     page.js("click", "#verdict [data-mend]")
     shows(page, MINE + b"# \xff\xfe\n")
+    page.js("write", page.shown()["area"] + "# x\n")
+    shows(page, MINE + b"# \xff\xfe\n# x\n")
 
 
 @cases("text", {
@@ -189,6 +208,15 @@ def test_a_link_carries_a_schedule(page, text):
     after = page.shown()
     assert [after[name] for name in ("place", "moves", "text")] == [
         before[name] for name in ("place", "moves", "text")]
+
+
+def test_a_link_in_the_other_alphabet_of_base64(page):
+    """Other programs write + and / where the page writes - and _."""
+    text = b"#  \xfb\xef\xbe\xff\xff\xff\nlock ticket threads 1\n0 acquire\n"
+    coded = base64.b64encode(text).decode()
+    assert "+" in coded and "/" in coded
+    page.open(f"#schedule={coded}&move=1")
+    assert page.shown(place=1)["text"] == text.decode("latin-1") and page.js("damaged") == ""
 
 
 def test_a_link_names_a_lesson(page):
@@ -222,8 +250,20 @@ def test_a_text_is_kept_once(page):
     for _ in range(2):
         page.show(MINE)
         page.lesson("ticket-hand-over")
+        page.shown(mode="lessons")
     page.press("Escape", "o")
     assert len(page.js("keptNames")) == 1
+
+
+def test_what_is_undone_is_kept_once(page):
+    """After an undo an edit changes the kept schedule in its place."""
+    mine_at(page, 2)
+    page.js("click", "#clear")
+    page.undo()
+    page.js("write", "lock ticket threads 3\n2 acquire\n")
+    page.lesson("ticket-hand-over")
+    page.press("Escape", "o")
+    assert len(page.js("keptNames")) == 2, "that and the new one"
 
 
 def test_what_is_kept_is_changed_in_its_place(page):
@@ -281,17 +321,57 @@ def test_the_last_hundred_are_kept(page):
     page.press("Escape", "o")
     titles = [text.split(" at move ")[0] for text in page.js("texts", "[data-kept]")]
     assert titles == [f"of {number}" for number in range(103, 3, -1)], titles
+    assert page.js("keptTexts") == 100, "what is not listed takes no room"
+
+
+def test_the_oldest_makes_room(page):
+    """Of three texts with 4,000,000 letters of base64 together, the last two are kept."""
+    page.open(LESSON)
+    for title in ("# One\n", "# Two\n", "# Three\n"):
+        page.js("showLarge", 1_000_000, title)
+    page.lesson("ticket-hand-over")
+    page.press("Escape", "o")
+    assert page.js("texts", "[data-kept]") == ["Three at move 0", "Two at move 0"]
+    assert page.js("keptTexts") == 2
+
+
+def test_links_to_two_schedules(page):
+    """Schedules that links open are kept, each by itself."""
+    page.open(LESSON)
+    for thread in (0, 1):
+        coded = base64.b64encode(f"lock ticket threads 2\n{thread} acquire\n".encode()).decode()
+        page.js("follow", f"#schedule={coded}&move=1")
+        page.js("leave")
+    page.lesson("ticket-hand-over")
+    page.press("Escape", "o")
+    assert len(page.js("keptNames")) == page.js("keptTexts") == 2
+
+
+@cases("size, listed", {"large": (1_000_000, 2), "too large": (2_400_000, 1)})
+def test_a_large_text_takes_no_room_from_others(page, size, listed):
+    """Texts of up to 3,000,000 letters of base64, four for three bytes, are kept. A text that is
+    longer by itself is not kept, and what was kept before stays."""
+    page.open(LESSON)
+    page.show(MINE)
+    page.js("showLarge", size)
+    page.lesson("ticket-hand-over")
+    page.press("Escape", "o")
+    assert len(page.js("keptNames")) == page.js("keptTexts") == listed
+    page.js("click", "[data-kept]:last-of-type")
+    shows(page, MINE)
 
 
 @cases("damage", {
-    "kept": ("lockreplay.kept", "{"), "done": ("lockreplay.done", "]"),
+    "kept": ("lockreplay.kept", "{"), "no list": ("lockreplay.kept", "{}"),
+    "number": ("lockreplay.kept", "5"), "no schedule": ("lockreplay.kept", "[null,7]"),
+    "done": ("lockreplay.done", "]"), "done number": ("lockreplay.done", "5"),
     "theme": ("lockreplay.theme", "pink")})
 def test_what_the_browser_stores_may_be_damaged(page, damage):
     """The start opens all the same, and a schedule is kept again."""
     page.before("storeAndLoad", *damage)
     page.open()
     assert page.js("count", "#lessons[open] .lock-card") == 4
-    assert page.js("keptNames") == []
+    assert page.js("keptNames") == [] and page.js("count", ".kept") == 0
     page.show(MINE)
     page.lesson("ticket-hand-over", 10)
     page.press("Escape", "o")

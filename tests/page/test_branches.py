@@ -46,6 +46,22 @@ def test_an_edit_leaves_out_what_no_longer_holds(page):
     assert "#! ask 8" in shown["held"] and shown["title"] == "The late link", shown
 
 
+def test_what_no_longer_holds_is_not_handed_on(page):
+    """An edited text is copied, saved and kept without the remarks that it leaves out."""
+    page.open("#lesson=mcs-late-link&move=16")
+    page.press("e")
+    page.js("edit", *SWAPPED)
+    held = page.shown()["held"]
+    assert "#! ask 7" in held and "#! ask 8" not in held, held
+    assert page.js("copiedBy", "#copy") == held
+    page.click("#save")
+    assert page.saved("schedule.txt", len(held)) == held.encode()
+    page.lesson("ticket-hand-over")
+    page.press("Escape", "o")
+    page.click("[data-kept]")
+    assert page.shown(lesson=None)["text"] == held
+
+
 def test_an_accepted_text_says_what_it_leaves_out(page):
     """If the last move is removed, the rest is accepted, and what belongs to all moves is left out
     until a click keeps it."""
@@ -62,6 +78,7 @@ def test_an_accepted_text_says_what_it_leaves_out(page):
 
 
 def test_the_branch_and_the_original(page):
+    """Move 8 there has a question, so its line and links come with the answer."""
     page.open("#lesson=mcs-late-link&move=6")
     page.press("c")
     assert not page.js("compared")["shown"]
@@ -69,20 +86,31 @@ def test_the_branch_and_the_original(page):
     shown = page.js("compared")
     assert shown["there"] == shown["here"] == "8", shown
     assert shown["title"] == "Compared with: The late link First difference: move 8", shown
+    assert shown["titles"] == ["Memory there", "Memory here"], shown
+    assert "tail = Bob" in shown["labels"][0] and "tail = nil" in shown["labels"][1], shown
+    assert shown["lines"] == ["there: ?", "here: 8 0 cas left hold - queue -"], shown
+    assert shown["found"] == ["?"] and shown["links"] == 0, shown
+    page.press("a")
+    shown = page.js("compared")
     assert shown["lines"] == [
         "there: 8 1 swap moved hold 0 queue 0,1", "here: 8 0 cas left hold - queue -"], shown
+    assert shown["found"] == ["Ann"] and shown["links"] == 2, "one from the tail, one is missing"
     assert shown["differs"] == 1, shown
     page.press("ArrowLeft")
     shown = page.js("compared")
     lines = shown["lines"]
     assert lines[0].removeprefix("there: ") == lines[1].removeprefix("here: "), lines
     assert shown["differs"] == 0, shown
+    page.go(0)
+    assert page.js("compared")["lines"] == [
+        "there: before the first move", "here: before the first move"]
     page.press("c")
     assert not page.js("compared")["shown"]
 
 
 def test_the_same_calls_on_the_other_lock(page):
-    """The reader waits on the FIFO lock, and enters on the simple lock, by the tables of both."""
+    """The reader waits on the FIFO lock, and enters on the simple lock, by the tables of both. The
+    line of move 4, which a question asks for, comes with the answer."""
     page.open("#lesson=fifo-reader-waits-behind-writer&move=6")
     page.press("c")
     shown = page.js("compared")
@@ -90,6 +118,10 @@ def test_the_same_calls_on_the_other_lock(page):
     assert shown["lines"] == [
         "there: 6 2 section entered hold r0,2 queue -",
         "here: 6 2 section waits hold r0 queue 1"], shown
+    page.go(4)
+    assert page.js("compared")["lines"][1] == "here: ?"
+    page.press("a")
+    assert page.js("compared")["lines"][1] == "here: 4 1 section moved hold r0 queue 1"
 
 
 def test_one_comparison_after_another(page):
@@ -104,6 +136,24 @@ def test_one_comparison_after_another(page):
         assert shown["shown"] and shown["title"] == f"Compared with: {title}", shown
     page.press("c")
     assert not page.js("compared")["shown"]
+
+
+def test_a_refused_move_after_the_original(page):
+    """A text that goes on after the lesson's last move with a refused one differs at that move."""
+    page.open("#lesson=ticket-hand-over&move=10")
+    page.press("e")
+    page.js("write", page.shown()["area"] + "1 read\n")
+    page.press("c")
+    assert page.js("compared")["title"] == (
+        "Compared with: Hand-over in the order of the tickets First difference: move 11")
+
+
+def test_a_branch_of_a_schedule_without_a_title(page):
+    page.open()
+    page.show("lock ticket threads 2\n0 acquire\n1 acquire\n", 1)
+    page.press("g", "0", "c")
+    assert page.js("compared")["title"] == (
+        "Compared with: Your own schedule First difference: move 2")
 
 
 def test_a_chosen_schedule_goes_with_its_lock(page):

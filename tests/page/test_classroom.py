@@ -41,6 +41,12 @@ def test_a_reload_keeps_the_answers(page):
     page.js("leave")
     page.reload()
     assert page.text(".score") == score and "(0 right, 0 wrong)" not in score
+    page.press("q")
+    page.js("leave")
+    page.reload()
+    assert page.js("count", ".score") == 0
+    page.press("q")
+    assert page.text(".score") == score, "also of a quiz that is closed"
 
 
 def test_a_name_is_asked_for_once(page):
@@ -65,6 +71,7 @@ def test_another_language_keeps_the_answers(page):
     page.js("answer", "-")
     points = re.findall(r"\d+", page.text(".score"))
     page.js("click", "#show-about")
+    assert page.js("texts", "#about [lang=de]") == ["Deutsch"]
     page.js("click", "#about [data-lang=de]")
     page.wait(lambda: page.tried(page.js, "attribute", "html", "lang") == "de",
               lambda: "it stays English")
@@ -73,13 +80,14 @@ def test_another_language_keeps_the_answers(page):
 
 
 def test_the_answers_for_the_teacher(page):
-    """The saved answers have the name, the day and the link."""
+    """The saved answers have the name, the minute and the link."""
     page.open(f"{LATE_LINK}&move=0")
     page.press("q", "End")
     page.js("answer", "-")
     text = page.js("saved", "Ada Lovelace")
     assert "# Name: Ada Lovelace\n" in text and LATE_LINK in text, text
     assert page.js("today") in text
+    assert re.search(r"(?m)^# \d{4}-\d\d-\d\dT\d\d:\d\d file:", text), text
 
 
 def test_a_name_is_an_answer(page):

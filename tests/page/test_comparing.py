@@ -19,6 +19,10 @@ def test_a_branch(page, width, height, look):
     assert len(shown["here"]) == len(shown["there"]) == 8, shown
     assert sorted(shown["here"]) == sorted(shown["there"]) and is_seen(shown), shown
     assert shown["words"] == [5, 5] and "First difference: move 8" in shown["first"], shown
+    seventh, eighth = sorted(shown["here"])[6:8]
+    assert seventh < shown["different"][0] < eighth, shown
+    # In a hall and in a narrow window the sentences on the move make room.
+    assert shown["now"] == (width > 1024 and not look), shown
 
 
 def test_in_play(page):
@@ -62,6 +66,26 @@ def test_a_click_beside_this_run(page):
     page.shown(position="11 of 15")
     page.click("#other [data-first]")
     page.shown(position="4 of 15")
+    page.click("#time [data-move='2']")
+    page.shown(position="2 of 15")
+
+
+def test_a_refused_move_has_no_turn(page):
+    """The second rlock is refused here, so it is no turn of the other lock, which made two
+    moves."""
+    page.open("#lesson=refused-already-holds&move=3&compare")
+    assert page.js("texts", "#other .compared code") == [
+        "there: 2 0 section entered hold r0 queue -", "here: refused line 5 AlreadyHolds"]
+    assert page.js("compared")["first"] == "Compared with: FIFO read-write lock No difference"
+
+
+def test_no_run_gives_the_quiz_away(page):
+    """Moves to come, which are drawn faintly, are hidden in both runs while the quiz asks."""
+    page.open("#lesson=fifo-reader-waits-behind-writer&move=2&compare&future")
+    later = [("count", f"{box} .move.future") for box in ("#other", "#lanes")]
+    assert all(page.js(*one) > 0 for one in later)
+    page.press("q")
+    assert [page.js(*one) for one in later] == [0, 0]
 
 
 @pytest.mark.parametrize("width, height", SCREENS)
@@ -97,16 +121,30 @@ def test_what_it_needs(page):
         "Play: choose another next move", "Your own: change the text, or open one", "Mine",
         "The order is that of tickets, not of calls", "Tickets wrap around"]
     page.click("#choose-other [data-way=play]")
-    assert page.shown()["mode"] == "play"
+    assert page.shown()["mode"] == "play" and page.js("offered") is None
+
+
+def test_titles_in_german(page):
+    """The dialog offers lessons by their German titles."""
+    page.open("#lesson=ticket-hand-over&move=5&lang=de")
+    page.press("c")
+    assert page.js("offered")[2:] == ["Es gilt die Reihenfolge der Tickets, nicht die der Aufrufe",
+                                      "Tickets beginnen wieder bei 0"]
 
 
 def test_nothing_is_offered_to_itself(page):
-    """If two schedules are kept, the dialog offers only the one that is not shown."""
+    """If two schedules are kept, the dialog offers only the one that is not shown. One without a
+    title has a name, too."""
     page.open("#lesson=ticket-hand-over&move=5")
     for title, thread in [("First", 0), ("Second", 1)]:
         page.show(f"#! title {title}\nlock ticket threads 2\n{thread} acquire\n")
     page.press("c")
     assert {"First", "Second"} & set(page.js("offered")) == {"First"}
+    page.press("Escape")
+    page.show("lock ticket threads 2\n")
+    page.lesson("ticket-hand-over")
+    page.press("c")
+    assert page.js("offered")[2:5] == ["Your own schedule", "Second", "First"]
 
 
 @pytest.mark.parametrize("look", LOOKS)
@@ -134,9 +172,9 @@ def test_a_lecture_after_a_comparison(page):
     page.open("#lesson=mcs-record-used-again&move=5")
     page.press("c")
     page.click("#choose-other [data-other='0']")
-    page.press("n")
+    page.press("g", "n")
     page.click("#plans [data-plan='mcs'][data-step='0']")
-    page.shown(lesson="mcs-record-used-again", place=5)
+    page.shown(lesson="mcs-record-used-again", place=5, mode="lessons")
     page.press("c")
     assert page.js("offered")
 
@@ -179,9 +217,9 @@ def test_a_run_that_goes_on_until_it_is_refused(page):
     """Two runs differ at the move after the last of the shorter one, also if that is refused."""
     compared_with(page, "lock ticket threads 2\n0 acquire\n", REFUSED)
     assert page.js("compared")["first"] == "Compared with: Other First difference: move 2"
-    compared_with(page, "lock ticket threads 2\n0 acquire\n",
-                  "lock ticket threads 2\n0 acquire\n")
-    assert page.js("compared")["first"] == "Compared with: Other No difference"
+    for same in ("lock ticket threads 2\n0 acquire\n", REFUSED):
+        compared_with(page, same, same)
+        assert page.js("compared")["first"] == "Compared with: Other No difference"
 
 
 def test_columns_for_the_longer_run(page):

@@ -70,6 +70,9 @@ def test_the_boxes_of_the_view(page):
     """Each box shows or hides what it names, and keeps the focus."""
     page.open(LESSON)
     page.press("v")
+    assert page.js("texts", "#view label") == [
+        "Threads", "Memory", "Code", "This move", "Draw later moves too, faintly",
+        "Hall mode: large letters"]
     parts = ["time", "memory", "code", "now"]
     for name in parts:
         others = [one for one in parts if one != name]
@@ -98,6 +101,8 @@ def test_keys_of_the_browser(page, held):
     before = page.shown()
     assert page.js("actsOf", "body", KEYS, held) == []
     assert page.js("opened") == [] and page.shown() == before
+    page.press("y")
+    assert page.js("actsOf", "#why-next", ["ArrowLeft", "n", "y"], held) == []
 
 
 TEXTS = {
@@ -142,6 +147,13 @@ def test_what_there_is_of_a_text_without_a_lock(page):
     assert page.js("opened") == ["find"] and page.js("value", "#find-lock") == "ticket"
     page.press("Escape")
     assert page.text("#nothing-verdict").startswith("A schedule begins with a header.")
+    assert "Threads: 1 to 64." in page.text("#nothing-verdict")
+    assert page.text("#subtitle") == "No lock yet"
+    page.press("c")
+    assert page.text("#notice") == (
+        "There is nothing to compare with. Branch off first, in Play or by an edit.")
+    page.press("Escape", "g")
+    assert page.text("#choices") == "The text has a fault. Correct it, or begin a new schedule."
 
 
 @cases("selector, acts, leaves", {
@@ -152,7 +164,7 @@ def test_what_there_is_of_a_text_without_a_lock(page):
     "button": ("#forward", ["j", "ArrowLeft"], [" ", "Enter"]),
     "summary": ("#next-kinds summary", ["j"], [" ", "Enter"]),
     "lanes": ("#lanes", ["ArrowDown", "ArrowUp", "Enter", "j", " "], ["x"]),
-    "elsewhere": ("body", ["j", " "], ["ArrowDown", "ArrowUp", "Enter", "x"])})
+    "elsewhere": ("body", ["j", " ", "Enter"], ["ArrowDown", "ArrowUp", "x"])})
 def test_keys_of_a_control(page, selector, acts, leaves):
     """A control keeps the keys that it needs itself."""
     page.open(LESSON)
@@ -174,11 +186,16 @@ def test_keys_of_an_answer(page):
     assert page.js("attribute", "#quiz-form", "data-kind") == "outcome"
     assert page.js("actsOf", "#quiz-form [type=radio]", ["ArrowDown", "ArrowRight", " ", "j"]) == [
         "j"]
+    assert page.js("texts", "#quiz-form fieldset label") == [
+        "moved: the call goes on", "waits: a failed poll", "entered: the thread holds",
+        "left: it no longer holds"]
 
 
 def test_code_that_is_selected(page):
-    """A click that ends a selection of code opens no dialog."""
+    """A click that ends a selection of code opens no dialog. The tip says what another does."""
     page.open(LESSON)
+    assert page.js("attribute", "#code-lines", "title") == (
+        "A click on a line, or key Y, says why it is there")
     page.js("clickSelected")
     assert page.js("opened") == []
     page.js("click", "#code-lines .code-line")
@@ -209,6 +226,6 @@ def test_a_second_window_that_is_not_allowed(page):
 def test_copying_the_text(page, allowed, said):
     page.open("#lesson=mcs-late-link&move=2")
     page.press("e")
-    copied = page.js("copied", allowed)
+    copied = page.js("copiedBy", "#copy", allowed)
     assert copied == (EXAMPLES / "mcs-late-link.schedule").read_text("ascii")
     page.becomes(said, "text", "#notice")

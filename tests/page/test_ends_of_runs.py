@@ -10,6 +10,8 @@ INSIDE = "thread 1 has ended inside a call ('cas tail failed' at mcs.c:46); the 
 @cases("comments, said", {
     "ended": ([DONE, "# thread 1 has ended", "# line 3 is mcs.c:21"], ""),
     "open": ([DONE, OPEN], "thread 1 has not ended"),
+    "both open": (["# thread 0 has not ended", OPEN],
+                  "thread 0 has not ended; thread 1 has not ended"),
     "stopped": (["# thread 0 was stopped", "# thread 1 has ended"], "thread 0 was stopped"),
     "hangs": ([DONE, OPEN, f"# {SIGNAL}", "# line 3 is a.c:51"], SIGNAL),
     "inside": ([DONE, "# thread 1 has ended", f"# {INSIDE}"], INSIDE),

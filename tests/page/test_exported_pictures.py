@@ -1,5 +1,6 @@
 """Exported pictures have the page's fonts, the chosen parts and no gaps; there are strips and
 animations of several moves, and pictures for LaTeX."""
+import re
 import shutil
 import subprocess
 import xml.etree.ElementTree
@@ -33,6 +34,9 @@ def test_in_letters_of_its_own(page):
     assert "url(data:font/woff2;base64," in page.js("taken", "svg", EVERYTHING)
     families = page.js("alone", EVERYTHING)["families"]
     assert [one.strip('"') for one in families] == ["Page Mono", "Page Sans"], families
+    for family in families:
+        normal, bold = page.js("inks", family)
+        assert bold > 1.1 * normal, (family, normal, bold)
 
 
 def test_what_was_chosen(page):
@@ -43,6 +47,20 @@ def test_what_was_chosen(page):
     for part in ["The late link", "acquire(me):", "in the queue, not linked", "no link", "entered"]:
         assert part in words(whole), part
     assert float(whole.get("height")) > float(tree_of(page).get("height")) + 30
+    here = [one for one in whole.iter("{http://www.w3.org/2000/svg}text")
+            if "code-text here" in (one.get("class") or "")]
+    assert ["".join(one.itertext()).strip() for one in here] == ["cas(tail, me, nil), or else:"]
+
+
+def test_each_part_by_its_label(page):
+    """The boxes of the dialog choose what their labels say."""
+    page.open(LATE_LINK)
+    parts = {"with title": "The late link", "with marks": "failed poll",
+             "with code": "acquire(me):", "with what the open question asks for": "no link"}
+    for label in parts:
+        page.js("chooseOnly", label)
+        said = words(xml.etree.ElementTree.fromstring(page.js("takenAsChosen")))
+        assert [part in said for part in parts.values()] == [one == label for one in parts], label
 
 
 @pytest.mark.parametrize("lesson, moves", [
@@ -67,6 +85,7 @@ def test_the_band_has_no_gap(page):
     shown = page.js("alone", [])
     (_, above), (below, end) = shown["bands"][:2]
     assert below <= above and end > max(lane for _, lane in shown["lanes"]) + 20, shown
+    assert shown["band"] == "rgb(240, 234, 216)", "not the ground of the card, which is white"
 
 
 @pytest.mark.parametrize("width", [1024, 1440])
@@ -74,7 +93,8 @@ def test_marks_are_in_the_picture(page, width):
     """The marks of the legend take as many rows as they need, all inside the picture."""
     page.resize(width, 800)
     page.open(LATE_LINK)
-    assert page.js("alone", ["legend"])["outside"] == []
+    shown = page.js("alone", ["legend"])
+    assert shown["outside"] == shown["overlaps"] == []
 
 
 def test_the_theme(page):
@@ -126,12 +146,17 @@ def test_a_strip_says_what_memory_says(page, lesson, first, last):
     page.open(f"#lesson={lesson}")
     strip = xml.etree.ElementTree.fromstring(page.js("stripOf", first, last))
     pictures = [one for one in strip.findall("{*}g") if one.find(".//{*}svg") is not None]
-    assert len(pictures) == last - first + 1
+    # Two in a row, each in a cell of 560 by 326, and 14 apart.
+    assert [one.get("transform") for one in pictures] == [
+        f"translate({x},{y})" for y in (20, 360) for x in (20, 594)]
+    assert [strip.get(side) for side in ("width", "height")] == ["1188", "720"]
     for move, picture in enumerate(pictures, first):
         page.go(move)
         page.press("a")
         head, *words_of = texts(picture)
-        assert head.startswith(f"{move} ")
+        said = page.js("text", "#now .aside .aside, #now p.aside, #now .say:not(.own-say)")
+        # A long sentence is cut.
+        assert f"{move} {said}".startswith(head.rstrip("…")) and len(head) > 20
         said = page.js("texts", "#memory-picture text")
         assert sorted("".join(one.split()) for one in words_of if "own var" not in one) == sorted(
             "".join(one.split()) for one in said if "own var" not in one), move
@@ -233,8 +258,10 @@ def test_frames_have_one_size(page):
     low = float(tree_of(page).get("height"))
     page.go(7)
     assert float(tree_of(page).get("height")) > low + 20
-    size, *frames = page.js("animation", 1, 7)["sizes"]
+    shown = page.js("animation", 1, 7)
+    size, *frames = shown["sizes"]
     assert frames == [size] * 7
+    assert shown["corner"] == [255, 255, 255, 255], "below a low picture is the card"
 
 
 def test_each_frame_is_of_its_move(page):
@@ -264,6 +291,17 @@ def test_shapes_for_latex(page):
     lines = [line for line in text.splitlines()
              if line.startswith("\\path") or line.startswith("\\node") and not line.endswith("{};")]
     assert {shape: sum(shape in line for line in lines) for shape in SHAPES} == SHAPES, lines
+    anchors = {line.rpartition("{")[2]: re.search(r"anchor=([a-z ]+)", line)[1]
+               for line in lines if line.startswith("\\node")}
+    assert [anchors[word] for word in ("thread 0};", "acquire};", "1};")] == [
+        "base west", "base", "base"]
+    # The picture's edge is 20 wide, and in TikZ up is positive.
+    scopes = [line for line in text.splitlines() if line.startswith("\\begin{scope}")]
+    assert scopes[0] == "\\begin{scope}[cm={1,0,0,1,(20pt,-20pt)},yscale=-1]", scopes[0]
+    sides = [[float(number) for number in re.findall(r"-?[\d.]+", line.partition("pt] (")[2])]
+             for line in lines if "rounded corners=2pt" in line]
+    assert [[right - left, bottom - top] for left, top, right, bottom in sides] == [[5, 24]]
+    assert not [line for line in lines if "-{Latex" in line]
 
 
 @cases("theme, holds, queue, fails", {
@@ -279,12 +317,26 @@ def test_colours_for_latex(page, theme, holds, queue, fails):
         assert any(colour in line and shape in line for line in lines), (colour, lines)
 
 
+def test_letters_for_latex(page):
+    """A reader has the ground of reading, and the word of a call is slanted."""
+    page.open("#lesson=fifo-reader-waits-behind-writer&move=6&theme=light")
+    lines = page.js("taken", "tikz", []).splitlines()
+    ground = "fill={rgb,255:red,217;green,231;blue,248}"
+    assert any(ground in line and "rectangle" in line for line in lines)
+    slants = {line.rpartition("{")[2]: "\\itshape" in line for line in lines}
+    assert [slants[word] for word in ("rlock};", "wlock};", "section};")] == [True, True, False]
+
+
 def test_dashes_for_latex(page):
     """The two failed polls are dashed circles, and nothing else is."""
     page.open("#lesson=mcs-late-link&move=12")
     lines = page.js("taken", "tikz", []).splitlines()
     dashed = [line for line in lines if "dash pattern=on 3pt off 2.3pt" in line]
     assert len(dashed) == 2 and all("circle" in line for line in dashed), dashed
+    page.go(14)
+    # The arrow to the poll that Bob's write let go on; the tail's arrow, and Ann's to Bob.
+    arrows = [line for line in page.js("taken", "tikz", []).splitlines() if "-{Latex" in line]
+    assert len(arrows) == 3 and all("svg {" in line for line in arrows), arrows
 
 
 def test_signs_of_latex(page):
@@ -297,6 +349,15 @@ def test_signs_of_latex(page):
     assert "font=\\sffamily\\bfseries\\fontsize{20}{20}" in title, title
     assert any("font=\\ttfamily\\fontsize" in line and line.endswith("{now\\_serving};")
                for line in lines), lines
+
+
+def test_code_for_latex(page):
+    """Lines of code keep their indentation, in blanks that LaTeX does not leave out."""
+    page.open(LATE_LINK)
+    lines = [line.rpartition(") {")[2] for line in page.js("taken", "tikz", ["code"]).splitlines()]
+    for code in ["acquire(me):", "~~me.next := nil", "~~if pred is not nil:",
+                 "~~~~me.locked := true"]:
+        assert f"{code}}};" in lines, lines
 
 
 @pytest.mark.skipif(not shutil.which("pdflatex"), reason="needs texlive-latex-base and pgf")
@@ -327,3 +388,8 @@ def test_more_moves_than_are_drawn(page, language, said):
     for what in ["strip", "animated"]:
         assert page.js("noticed", what, 10, 74) == said
         assert page.js("noticed", what, 10, 12) == ""
+    strip = xml.etree.ElementTree.fromstring(page.js("stripOf", 10, 74))
+    assert len([one for one in strip.findall("{*}g") if one.find(".//{*}svg") is not None]) == 40
+    page.js("askMoves", 10, 74)
+    page.press("Escape", "t")
+    assert page.js("askedCut") == ""

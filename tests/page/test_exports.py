@@ -4,6 +4,7 @@ import xml.etree.ElementTree
 
 import pytest
 
+from tab import PAGE
 from tree import EXAMPLES, TOP, VERSION
 
 LATE_LINK = "#lesson=mcs-late-link&move=9"
@@ -32,6 +33,17 @@ def test_the_picture_of_points(page):
     assert name == "mcs-late-link-9.png"
 
 
+def test_a_picture_that_cannot_be_made(page):
+    """The page says what to take in its place."""
+    page.open(LATE_LINK)
+    page.js("refusePictures")
+    for what in ["png", "animated"]:
+        page.js("click", "#show-take")
+        page.js("click", f"[data-take={what}]")
+        page.becomes("This browser cannot make the picture. Take the SVG.", "text", "#notice")
+        page.js("forgetNotice")
+
+
 def test_how_sharp_the_picture_is(page):
     """The picture has two pixels for each unit of the drawing, in both directions."""
     page.open(LATE_LINK)
@@ -56,6 +68,7 @@ def test_names_of_files(page, what, name):
     page.open(LATE_LINK)
     page.press("t")
     assert page.js("take", what)[0] == name
+    assert page.js("count", ".unseen") == 0
     page.show("lock ticket threads 1\n0 acquire\n", 1)
     assert page.js("take", what)[0] == name.replace("mcs-late-link-9", "schedule-1")
 
@@ -66,14 +79,21 @@ def test_the_frame(page, look):
     page.open(f"{LATE_LINK}{look}")
     frame = page.js("copied", "frame")
     assert "#lesson=mcs-late-link&amp;move=9&amp;embed&amp;show=memory,code" in frame, frame
+    assert frame.startswith('<iframe src="file:///')
+    assert frame.endswith('" width="960" height="480"></iframe>')
+    page.becomes("The frame is copied.", "text", "#notice")
 
 
 def test_the_frame_of_a_schedule_that_is_too_long_for_a_link(page):
-    """Another browser would not have it, so it is saved as a file instead, as for a link."""
-    text = "lock ticket threads 2\n0 acquire\n0 add\n1 acquire\n1 add\n" + "1 read\n" * 5000
+    """Another browser would not have it, so it is saved as a file instead, as for a link. A link
+    has room for 24,000 bytes."""
+    text = "lock ticket threads 2\n0 acquire\n0 add\n1 acquire\n1 add\n"
+    text = text.ljust(23999, "#") + "\n"
     page.open(LATE_LINK)
     page.show(text)
-    page.js("closeDialog", "lessons")
+    assert "&amp;embed" in page.js("copied", "frame")
+    text = f"#{text}"
+    page.show(text)
     assert page.js("copied", "frame") is None
     assert page.text("#notice").startswith("This schedule is too long for a link.")
     assert page.saved("schedule.txt", len(text)) == text.encode()
@@ -92,16 +112,72 @@ def test_tips_and_speeds(page):
     tips = page.js("tips")
     assert len(tips) == 6 and all(tips) and len(set(tips)) == 6, tips
     assert page.js("fills") == ["none", "none", True]
+    assert page.js("waysOfArrows") == {"first": "left", "back": "left", "forward": "right",
+                                       "last": "right"}
+    # An arrow's tip is turned as its line is.
+    assert [page.js("attribute", f"#{tip}", "orient")
+            for tip in ("tip", "tip-open", "tip-missing")] == ["auto"] * 3
     page.press(".", ".")
     assert page.js("value", "#speed") == "4"
     page.press(",")
     assert page.js("value", "#speed") == "2"
 
 
+CLOSED = ["lessons", "plans", "find", "why", "take", "view", "sheets", "choose-other", "about",
+          "keys"]
+# By its id, or by what it belongs to. A space is between the name of a control and its key.
+NAMES = {
+    "show-about": "lockreplay", "mode-lessons": "Lessons O", "mode-own": "Your own E",
+    "mode-play": "Play G", "mode-quiz": "Quiz Q", "compare": "Compare C", "mode-hall": "Hall H",
+    "link": "Link L", "show-find": "Find M", "show-view": "View V", "show-take": "Export T",
+    "print": "Print P", "theme": "Dark D", "plan": "Teach N", "show-keys": "Keys ?",
+    "menu": "More", "close-banner": "Close", "leave": "Leave hall mode",
+    "every": "Every move, also those that are refused", "undo": "Undo U",
+    "new-lock": "lock", "new threads": "threads", "new bits": "bits", "new": "Begin",
+    "open": "Open", "copy": "Copy", "undo-own": "Undo", "save": "Save", "clear": "New",
+    "first": "First move", "back": "One move back", "forward": "One move forward",
+    "last": "Last move", "run": "Play the moves one after another",
+    "speed 0.5": "½ ×", "speed 1": "1 ×", "speed 2": "2 ×", "speed 4": "4 ×",
+    "find-lock": "lock", "find-form threads": "threads",
+    "find-rounds": "times that each thread may take the lock", "find-form bits": "bits",
+    "find-kind": "Which move",
+    "find-sketch": "Lines that the run has, in this order, with other moves between them. * is any "
+    "thread. “not” and a line: no such move before the next line.", "find-search": "Find",
+    "why-back": "The line before", "why-next": "The next line", "take-title": "with title",
+    "take-legend": "with marks", "take-code": "with code",
+    "take-answered": "with what the open question asks for", "take-from": "From move",
+    "take-to": "to move", "svg": "This state as a picture (SVG)",
+    "png": "This state as a picture (PNG)", "tikz": "This state for LaTeX (TikZ)",
+    "strip": "Memory after each of these moves (SVG)",
+    "animated": "These moves as an animated picture (APNG)", "report": "The whole report",
+    "schedule": "The schedule", "frame": "Copy a frame for a slide", "worked": "With answers",
+    "exercise": "Exercise sheet with blanks", **dict.fromkeys(CLOSED, "Close"),
+    "next-kinds": "What can happen next", "new-lock ticket": "Ticket lock",
+    "new-lock mcs": "MCS queue lock", "new-lock rw-simple": "Simple read-write lock",
+    "new-lock rw-fifo": "FIFO read-write lock",
+}
+
+
 def test_names_of_controls(page):
-    """A space is between the name of a control and its key."""
+    """Each control has the name of what it does."""
     page.open()
-    assert {"Lessons O", "Play G", "Keys ?", "Undo U"} <= set(page.js("withKeys"))
+    names = page.js("namesOfControls")
+    assert {key: names.get(key) for key in NAMES} == NAMES
+    assert [key for key in names if key not in NAMES] == ["new schedule"] + [
+        f"find-lock {lock}" for lock in ("ticket", "mcs", "rw-simple", "rw-fifo")]
+    assert page.js("attribute", "#code-lines", "title") == (
+        "A click on a line, or key Y, says why it is there")
+
+
+def test_what_the_page_may_do():
+    """The page loads nothing, sends nothing, and runs no script but its own."""
+    head = PAGE.read_text("utf-8").partition("<title>")[0]
+    assert re.findall(r'<meta ([^>]+)>', re.sub(r"sha256-[\w+/=]{44}", "sha256", head)) == [
+        'charset="utf-8"', 'http-equiv="Content-Security-Policy" content="default-src \'none\'; '
+        "script-src 'sha256' 'wasm-unsafe-eval'; style-src 'unsafe-inline'; font-src data:; "
+        "img-src data:; base-uri 'none'; form-action 'none'\"",
+        'name="viewport" content="width=device-width,initial-scale=1"',
+        'name="referrer" content="no-referrer"', 'name="trace" content=""']
 
 
 def test_who_it_is(page):
@@ -130,6 +206,7 @@ def test_what_the_page_has_of_itself(page):
         assert shown == " ".join(re.sub(r" *-- .*", "", block).split()), name
     assert page.js("texts", "#about [aria-pressed=true]") == ["English"]
     assert page.js("texts", "#about [lang]") == ["English", "Deutsch"]
+    assert page.js("texts", "#about [lang=de]") == ["Deutsch"]
 
 
 # Of a call, and of a step with each outcome.

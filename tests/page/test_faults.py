@@ -1,4 +1,6 @@
 """Schedules of the reader's own: messages on faults and refusals, corrections, and markup."""
+import re
+
 import pytest
 
 HEADER = "lock ticket threads 2\n"
@@ -9,30 +11,44 @@ FAULTS = [
      ["Unknown lock MCS", "Did you mean “mcs”?", "BadHeader"]),
     ("lock clh threads 2\n", 1, 0, ["Unknown lock clh", "ticket, mcs, rw-simple, rw-fifo"]),
     ("lock rw_fifo threads 2\n", 1, 0, ["Did you mean “rw-fifo”?"]),
-    ("lock ticket thread 2\n", 1, 0, ["After the lock’s name comes “threads”"]),
+    ("Lock ticket threads 2\n", 1, 0,
+     ["A header begins with “lock”.", "Write “lock ticket threads 2”"]),
+    ("lock ticket\n", 1, 0, ["After the lock’s name comes “threads”"]),
+    ("lock ticket thread 2\n", 1, 0,
+     ["After the lock’s name comes “threads”", "Write “lock ticket threads 2”"]),
     ("lock ticket threads 65\n", 1, 0,
      ["“65” is not a number of threads", "from 1 to 64", "BadThreads"]),
-    ("lock ticket threads 02\n", 1, 0, ["no leading zero", "BadThreads"]),
+    ("lock ticket threads 02\n", 1, 0,
+     ["no leading zero", "Write “lock ticket threads 2”", "BadThreads"]),
+    ("lock ticket threads 065\n", 1, 0, ["from 1 to 64"]),
     ("lock ticket threads 2 bits 1\n", 1, 0, ["“1” is not a number of bits", "from 2 to 64"]),
-    ("lock ticket threads 2 bit 8\n", 1, 0, ["only “bits” may follow"]),
+    ("lock ticket threads 2 bit 8\n", 1, 0,
+     ["only “bits” may follow", "Write “lock ticket threads 2 bits 8”"]),
+    ("lock ticket threads 2 bit 8 9\n", 1, 0,
+     ["only “bits” may follow", "Write “lock ticket threads 2”"]),
     ("lock ticket threads\n", 1, 0, ["This is not a header"]),
     ("lock ticket threads 2 bits 8 9\n", 1, 0,
      ["This is not a header", "Write “lock ticket threads 2 bits 8”"]),
     ("lock ticket threads 4 bits 2\n", 1, 0,
-     ["have 4 values", "bits 3 or more", "WordsTooNarrow"]),
+     ["have 4 values", "bits 3 or more", "Write “lock ticket threads 4 bits 3”",
+      "WordsTooNarrow"]),
+    ("lock ticket threads 16 bits 2\n", 1, 0,
+     ["bits 5 or more", "Write “lock ticket threads 16 bits 5”"]),
     ("lock ticket threads 2\r\n0 acquire\r\n", 1, 0,
      ["carriage return (CR)", "Remove every carriage return"]),
     ("lock ticket threads 2 \n", 1, 0, ["blank at the line’s end"]),
+    ("\ufefflock ticket threads 2\n", 1, 0,
+     ["byte order mark", "Write “lock ticket threads 2”"]),
     ("", None, 0, ["There is no header", "lock NAME threads N", "NoHeader"]),
     ("# a\n\n", None, 0, ["There is no header"]),
     ("0 acquire\n", 1, 0, ["This is not a header"]),
     (f"{CALLED}0 addd\n", 3, 1, ["Unknown move “addd”", "Did you mean “add”?", "BadLine"]),
     (f"{CALLED}0 Add\n", 3, 1, ["Did you mean “add”?"]),
-    (f"{CALLED}0 add\r\n", 3, 1, ["carriage return (CR)"]),
-    (f"{CALLED}0 add \n", 3, 1, ["blank at the line’s end"]),
-    (f"{CALLED} 0 add\n", 3, 1, ["blank at the line’s beginning"]),
-    (f"{CALLED}0  add\n", 3, 1, ["two blanks in a row"]),
-    (f"{CALLED}0\tadd\n", 3, 1, ["a tab"]),
+    (f"{CALLED}0 add\r\n", 3, 1, ["carriage return (CR)", "Write “0 add”"]),
+    (f"{CALLED}0 add \n", 3, 1, ["blank at the line’s end", "Write “0 add”"]),
+    (f"{CALLED} 0 add\n", 3, 1, ["blank at the line’s beginning", "Write “0 add”"]),
+    (f"{CALLED}0  add\n", 3, 1, ["two blanks in a row", "Write “0 add”"]),
+    (f"{CALLED}0\tadd\n", 3, 1, ["a tab", "Write “0 add”"]),
     (f"{CALLED}0\u00a0add\n", 3, 1, ["no-break space", "Write “0 add”"]),
     (f"{CALLED}0 a\u200bdd\n", 3, 1, ["U+200B", "Write “0 add”"]),
     (f"{CALLED}0 a\0dd\n", 3, 1, ["U+0000", "Write “0 add”"]),
@@ -40,7 +56,7 @@ FAULTS = [
     (f"{HEADER}0 \U0001f600\n", 2, 0, ["“\U0001f600” is not an ASCII character, but U+1F600"]),
     ("lock mcs threads 2\r0 acquire\r", 1, 0, ["carriage returns (CR) alone"]),
     ("l\0o\0c\0k\0", 1, 0, ["UTF-16"]),
-    (f"{CALLED}00 add\n", 3, 1, ["no leading zero"]),
+    (f"{CALLED}00 add\n", 3, 1, ["no leading zero", "Write “0 add”"]),
     (f"{HEADER}256 acquire\n", 2, 0, ["“256” is not a thread’s number", "from 0 to 255"]),
     (f"{HEADER}acquire\n", 2, 0, ["This is not a move"]),
     (f"{HEADER}0: acquire\n", 2, 0, ["This is not a move", "Did you mean “0 acquire”?"]),
@@ -48,6 +64,9 @@ FAULTS = [
     ("lock mcs threads 2\n0 lock\n", 2, 0,
      ["Unknown move “lock”", "acquire, write, swap, read, release, cas"]),
     (f"{CALLED}0 go\n", 3, 1, ["Unknown move “go”", "acquire, add, read, release, write"]),
+    (f"{CALLED}0 add\n1 acquire\n1 add\n" + "1 read\n" * 65533, None, 65536,
+     ["Line 65538", "This would be move 65,537. A schedule has at most 65,536.", "TooManyMoves"]),
+    (CALLED + "#" * 1048576, None, 1, ["more than 1,048,576 bytes", "TooLong"]),
 ]
 REFUSALS = [
     (f"{HEADER}2 acquire\n", 2, 0,
@@ -79,9 +98,12 @@ def test_what_is_said(page):
         shown = page.shown()
         marked = page.text("#gutter .fault").removeprefix("✕ ")
         assert line is None or marked == str(line), (text, marked)
+        assert line is None or re.match(rf"Line {line}\b", shown["verdict"]), (text, shown)
         assert shown["moves"] == count, (text, shown)
         for part in parts:
             assert part in shown["verdict"], (text, part, shown["verdict"])
+            # The verdict is without blanks in a row.
+            assert not part.startswith("Write ") or part == f"Write “{page.js('offered')}”", text
         moves = "move" if count == 1 else f"{count} moves"
         assert (f"The {moves} before it can be stepped through." in shown["verdict"]) == (
             "stepped through" in shown["verdict"]) == (count > 0), text
@@ -98,14 +120,20 @@ def test_it_is_said_once(page):
     assert page.js("places") == ["verdict"]
     page.press("e")
     assert page.js("places") == ["nothing-verdict"]
+    assert "Threads: 1 to 64." in page.text("#nothing-verdict")
+    page.js("open", "lock MCS threads 2\n0 acquire\n")
+    page.press("e")
+    page.click("#nothing-verdict [data-mend]")
+    assert page.shown()["text"] == "lock mcs threads 2\n0 acquire\n"
 
 
 def test_the_line_that_is_wrong_has_a_band(page):
     """The band of a wrong line is as tall as its number, and beside it."""
     page.open()
-    page.js("open", f"{CALLED}0 addd\n0 read\n")
-    band, number = page.js("bandAndNumber")
-    assert max(abs(one - other) for one, other in zip(band, number)) <= 1, (band, number)
+    for comments in ["", "# x\n" * 60]:
+        page.js("open", f"{comments}{CALLED}0 addd\n0 read\n")
+        band, number = page.js("bandAndNumber")
+        assert max(abs(one - other) for one, other in zip(band, number)) <= 1, (band, number)
 
 
 def test_what_is_offered_is_written(page):
@@ -123,8 +151,13 @@ def test_carriage_returns_are_removed(page):
     page.open()
     page.js("open", "lock mcs threads 2\r\n0 acquire\r\n")
     assert "\u240d" in page.shown()["area"]
+    page.js("write", f"{page.shown()['area']}# x\n")
+    assert page.shown()["text"] == "lock mcs threads 2\r\n0 acquire\r\n# x\n"
     page.js("click", "#verdict [data-returns]")
     assert page.text("#verdict").endswith("end 1")
+    page.js("open", "lock mcs threads 2\r0 acquire\r")
+    page.js("click", "#verdict [data-mend]")
+    assert page.shown(moves=1)["text"] == "lock mcs threads 2\n0 acquire\n"
 
 
 def test_near_misses(page):
@@ -167,10 +200,13 @@ def test_markup_is_text(page):
 
 
 @pytest.mark.parametrize("text", [
-    f"{HEADER}0 {'x' * 5000}\n", f"lock {'y' * 900} threads 2\n", f"{'9' * 300} add\n"],
+    f"{CALLED}0 {'x' * 5000}\n", f"lock {'y' * 900} threads 2\n", f"{'9' * 300} add\n"],
     ids=["move", "lock", "number"])
 def test_a_long_word_stays_inside(page, text):
     """A long word from a line of the text breaks at the edge of the panel."""
     page.open()
     page.js("open", text)
     assert page.js("wide") == []
+    page.press("g")
+    assert page.js("count", "#choices [data-thread='1'][data-word=acquire]") == (
+        text.startswith(HEADER)), "the machine still has the text after it read the line"

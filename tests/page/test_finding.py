@@ -79,6 +79,7 @@ def test_bounds_of_numbers(page):
 def test_lines_go_with_their_lock(page):
     page.open(HAND_OVER)
     page.press("m")
+    assert page.js("focused") == "find-kind", "the reader can choose at once"
     assert "cas failed" in page.js("fill", [["lock", "mcs"], ["kind", "12"]])
     assert page.js("fill", [["lock", "ticket"]]) == ""
 
@@ -109,6 +110,18 @@ def test_lines_of_ones_own(page):
     shown, lines = shown_lines(page)
     assert shown["threads"] == 3 and not shown["refused"], shown
     assert lines[-1] == "1 cas" and "2 swap" in lines and shown["place"] == shown["moves"], lines
+    assert shown["text"].splitlines()[1:6] == [
+        "# A shortest run of 3 threads, each of which takes the lock at most once, with these "
+        "lines:", "#   2 swap", "#   # then", "#   1 cas failed", "lock mcs threads 3"]
+
+
+def test_lines_in_place_of_those_of_a_kind(page):
+    """Lines that were changed are looked for, and not the kind that was chosen before."""
+    page.open(HAND_OVER)
+    ask(page, lock="mcs", threads="2", kind="12", sketch="0 swap")
+    page.becomes("0 swap", "text", "#title")
+    shown = page.shown()
+    assert shown["place"] == shown["moves"] == 3, shown
 
 
 @each_lock
@@ -180,6 +193,8 @@ BOTH_LOCKED = "0 write locked of 1\n1 write locked of 0"
         {"lock": "mcs", "threads": "2", "rounds": "1", "sketch": "* write waits"},
         "No run of 2 threads, each of which takes the lock at most once, has these lines: all 76 "
         "states were searched."),
+    "too many lines": ({"lock": "ticket", "threads": "2", "sketch": "0 add\n" * 256},
+                       "Line 256 is one too many: a sketch has at most 255 lines."),
     "a lock": ({"lock": "ticket", "threads": "4", "bits": "2", "sketch": "0 add"},
                "There is no such lock, the text is too long, or many threads need wider words."),
 })
@@ -195,15 +210,26 @@ def test_it_speaks_german(page):
     page.open("#lang=de&lesson=ticket-hand-over&move=0")
     ask(page, lock="ticket", sketch="0 write\n0 add")
     page.becomes(KEIN_LAUF, "text", "#find-answer")
+    page.press("Escape", "m")
+    assert page.text("#find-answer") == "", "the answer was to another question"
     page.press("Escape")
     ask(page, lock="mcs", threads="3", sketch=BOTH_LOCKED)
     page.until("answerEnds", "Alle 1.018 Zustände sind durchsucht.")
+
+
+def test_it_says_that_it_searches(page):
+    page.open(HAND_OVER)
+    page.press("m")
+    assert page.js("saidAtOnce") == "Searching …"
 
 
 def test_what_is_not_decided(page):
     page.open(HAND_OVER)
     ask(page, lock="mcs", threads="9", rounds="9", sketch=BOTH_LOCKED)
     page.until("answerBegins", "Not decided: ")
+    page.press("Escape")
+    ask(page, lock="ticket", threads="5", rounds="9", sketch="* write waits")
+    page.until("answerBegins", "Not decided: 250,001 states were found")
 
 
 # After move 8 of the lesson of the late link: thread 0 is about to try its compare-and-swap, and
@@ -249,6 +275,11 @@ def test_what_is_near_in_a_lesson(page):
     page.press("u")
     assert page.shown()["place"] == 8
     what_is_next(page, AFTER_THE_SWAP)
+    hint = ("texts", "#next-kinds-list .hint")
+    assert page.js(*hint) == []
+    page.show("lock mcs threads 9\n")
+    page.press("g")
+    page.becomes(["What is further away was not searched."], *hint)
 
 
 def test_what_is_near_is_that_of_the_move(page):

@@ -37,9 +37,14 @@ def test_by_key(page):
     page.becomes(f"{LATE_LINK}&hall", "address")
     page.press("a", "ArrowRight")
     assert page.text("#current").startswith("10 Ann, read await succ")
+    assert page.shown()["spoken"].startswith("Move 10 of 16."), "it is said though it is not drawn"
     page.press("h")
     assert page.js("header")
     page.becomes("#lesson=mcs-late-link&move=10", "address")
+    page.press("h", "End", "ArrowRight")
+    assert page.text("#notice") == "That was the last move.", "the next lesson is not in view"
+    page.click("#leave")
+    assert page.js("header")
 
 
 def test_how_tall_lanes_are(page):
@@ -140,6 +145,7 @@ def test_a_frame_for_a_slide(page):
         shown = page.js("inView")
         assert shown["parts"] == ["memory", "code"] and not shown["header"], (lesson, shown)
         assert shown["line"] and shown["moving"], (lesson, shown)
+        assert not page.js("isSeen", "#leave"), "a slide does not leave anything"
     page.press("a", "ArrowRight")
     page.until("addressEnds", "&move=17&embed&show=memory,code")
 
@@ -158,12 +164,12 @@ def chosen_and_opened_again(page):
     return page.js("isMarked")
 
 
-@pytest.mark.parametrize("letters", ["soon", "late"])
+@pytest.mark.parametrize("letters", ["soon", "late", "never"])
 def test_a_theme_in_the_link(page, letters):
     """The link has a chosen theme, and the browser remembers it, even if the fonts come late, for
-    which the page waits."""
-    if letters == "late":
-        page.before("delayLetters")
+    which the page waits, or if the browser blocks them."""
+    if letters != "soon":
+        page.before("delayLetters" if letters == "late" else "blockLetters")
     assert any(chosen_and_opened_again(page) for _ in range(5)), "the browser stores nothing"
     assert page.js("theme") == "light"
 

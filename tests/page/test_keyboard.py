@@ -24,10 +24,13 @@ def test_moving(page):
     page.open(f"{LATE_LINK}0")
     for key, move in [
             ("ArrowRight", 1), ("ArrowRight", 2), ("ArrowLeft", 1), ("End", 16), ("Home", 0),
-            ("PageDown", 10), ("PageUp", 0), ("j", 7), ("j", 8), ("]", 12), ("[", 8), ("+", 8),
-            ("-", 8)]:
+            ("]", 1), ("[", 1), ("Home", 0),
+            ("PageDown", 10), ("PageUp", 0), ("J", 7), ("j", 8), ("]", 12), ("[", 8), ("+", 8),
+            ("-", 8), ("PageDown", 16)]:
         page.press(key)
         page.shown(position=f"{move} of 16")
+    page.press("End", "h", "ArrowRight")
+    assert page.text("#notice") == "That was the last move.", "no lesson is offered in a hall"
 
 
 def test_zoom(page):
@@ -48,7 +51,9 @@ def test_running(page):
     page.open(f"{LATE_LINK}6")
     page.press("Space")
     page.becomes(True, "isRunning")
+    assert page.js("signsOfRun") == ["stop"]
     page.becomes(False, "isRunning")
+    assert page.js("signsOfRun") == ["go"]
     page.shown(position="7 of 16")
     page.press("Space")
     page.becomes(True, "isRunning")
@@ -77,6 +82,11 @@ def test_running_from_the_end(page):
     page.open(f"{LATE_LINK}16")
     page.press(",", "Space", "Space")
     page.shown(position="0 of 16")
+    page.press(".")
+    page.lesson("mcs-record-used-again", 8)
+    page.press("Space")
+    page.becomes(False, "isRunning")
+    page.shown(position="9 of 9")
 
 
 def test_speed(page):
@@ -95,21 +105,26 @@ def test_speed_while_moves_run(page):
     """A new speed replaces the clock of the running moves."""
     page.before("keepClocks")
     page.open(f"{LATE_LINK}0")
-    page.press(",", "Space")
+    page.press("Space")
+    assert page.js("clocks") == [900]
+    page.press("Space", ",", "Space")
     assert page.js("clocks") == [1800]
     page.press(".", ".")
     assert page.js("clocks") == [450]
+    page.press(".")
+    assert page.js("clocks") == [225]
     page.press("Space")
     assert page.js("clocks") == []
 
 
 def test_a_notice_has_its_time(page):
-    """A second notice is not hidden when the time of the first is over."""
+    """A second notice is not hidden when the time of the first is over, but when its own is."""
     page.before("keepClocks", "Timeout")
     page.open(f"{LATE_LINK}0")
     for _ in range(2):
         page.js("paste", "no schedule")
-    assert page.js("clocks").count(4000) == 1
+    assert page.js("clocks").count(4000) == page.js("count", "#notice:not([hidden])") == 1
+    page.becomes(0, "count", "#notice:not([hidden])")
 
 
 def test_choosing_a_lesson(page):
@@ -137,13 +152,21 @@ def test_writing_and_playing(page):
     page.press("Control+a", *"lock ticket threads 2", "Enter", *"0 acquire", "Enter", *"0 add",
                "Enter")
     page.shown(position="2 of 2")
-    page.press("Escape", "g")
+    page.press("Escape", "w", "g")
     page.shown(mode="play")
+    assert page.js("count", "#every:checked") == 0, "W is a key of Play"
     page.press(*"011")
     page.shown(position="5 of 5",
                area="lock ticket threads 2\n0 acquire\n0 add\n0 read\n1 acquire\n1 add\n")
     page.press("u")
     page.shown(position="4 of 4")
+    page.show("lock ticket threads 3\n")
+    page.press("g", "2")
+    assert page.shown(mode="play", place=1)["area"].endswith("\n2 acquire\n"), "no second window"
+    page.show("lock rw-simple threads 2\n")
+    page.press("g", "1")
+    assert page.js("attribute", ":focus", "data-thread") == "1", "it has several calls"
+    page.shown(mode="play", place=0)
 
 
 def test_themes(page):
@@ -180,6 +203,29 @@ KEYS = {
     "Y": ("why this line", "warum diese Zeile"),
     "D": ("dark or light", "dunkel oder hell"), "?": ("these keys", "diese Tasten"),
 }
+# The whole explanation of each other key, in the order of the list.
+OTHERS = {
+    "en": [("→ ←", "one move forward, one move back"), ("Home End", "the first, the last move"),
+           ("Page Down, Page Up", "ten moves forward, ten back; in hall mode one"),
+           ("] [", "the same thread’s next, its previous move"),
+           ("Space", "play the moves, pause"),
+           ("↑ ↓ Enter", "on the threads: choose one, go to its next move"),
+           ("0 to 9",
+            "in Play: this thread’s step; of several choices the first, Tab to the others"),
+           ("U, Ctrl Z", "undo: a choice, an edit, another schedule"),
+           (", .", "slower, faster; in hall mode . blanks the screen"),
+           ("+ −", "wider, narrower columns"), ("Tab", "from one control to the next")],
+    "de": [("→ ←", "ein Zug vor, ein Zug zurück"), ("Pos1 Ende", "der erste, der letzte Zug"),
+           ("Bild ab, Bild auf", "zehn Züge vor, zehn zurück; im Saalmodus einer"),
+           ("] [", "desselben Threads nächster, voriger Zug"),
+           ("Leertaste", "abspielen, anhalten"),
+           ("↑ ↓ Enter", "auf den Threads: einen wählen, zu seinem nächsten Zug"),
+           ("0 bis 9",
+            "beim Spielen: der Schritt dieses Threads; bei mehreren der erste, dann Tab"),
+           ("U, Strg Z", "rückgängig: eine Wahl, eine Änderung, ein anderer Ablauf"),
+           (", .", "langsamer, schneller; im Saalmodus macht . den Bildschirm schwarz"),
+           ("+ −", "breitere, schmalere Spalten"), ("Tab", "von einem Bedienelement zum nächsten")],
+}
 
 
 @pytest.mark.parametrize("language", ["en", "de"])
@@ -194,5 +240,4 @@ def test_the_list_of_keys(page, language):
     tools = page.js("tools")
     assert len(tools) >= 14 and all(listed[key].lower() == title.lower()
                                     for key, title in tools.items()), (tools, listed)
-    others = set(listed) - set(KEYS)
-    assert len(others) == 11 and not any(key in KEYS for key in others), others
+    assert [one for one in listed.items() if one[0] not in KEYS] == OTHERS[language]

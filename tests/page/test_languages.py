@@ -48,6 +48,38 @@ def test_lesson_plans(page):
                                 for name in ("say", "ask"))]
         for text in filter(None, texts):
             assert text not in said and TRANSLATIONS[text] in said, text
+    steps = [step for plan in PLANS for step in plan["steps"]]
+    assert page.js("texts", "#plans [data-step] b") == [
+        f"{TRANSLATIONS[title_of(step['lesson'])]}, {step['move']}" for step in steps]
+    assert page.js("texts", "#plans .minutes")[:2] == ["0 bis 1 min", "1 bis 3 min"]
+
+
+def title_of(lesson):
+    return re.search(r"^#! title (.+)$", (EXAMPLES / f"{lesson}.schedule").read_text("latin-1"),
+                     re.MULTILINE)[1]
+
+
+def test_what_is_said_in_a_lesson(page):
+    """A lesson's story, sentences, questions, answers and point are German, and so are the titles
+    of the lessons that come next and that it can be compared with."""
+    page.open("#lesson=ticket-hand-over&move=5&lang=de")
+    page.press("a")
+    assert page.text("#now .question") == (
+        "Frage: Mit welchem Zug kommt Bob in die Schlange? AntwortA Mit diesem, seinem add.")
+    page.go(1)
+    assert page.text("#now .own-say") == (
+        "Ann will die Sperre. Ihr Aufruf ändert noch nichts im Speicher.")
+    page.go(0)
+    story = " ".join(re.findall(
+        r"^# (.+)$", (EXAMPLES / "ticket-hand-over.schedule").read_text("latin-1"), re.MULTILINE))
+    assert page.text("#now .about") == TRANSLATIONS[story].replace("`", "")
+    page.go(10)
+    assert "Eine Nummer ziehen, warten, bis sie gezeigt wird" in page.text("#now .last")
+    after = ["Es gilt die Reihenfolge der Tickets, nicht die der Aufrufe",
+             "Tickets beginnen wieder bei 0"]
+    assert page.text("#now [data-next]").startswith(f"Weiter: {after[0]}")
+    page.press("c")
+    assert page.js("texts", "#other-list [data-other]")[-2:] == after
 
 
 @pytest.mark.parametrize("width, height, look", [
@@ -76,6 +108,8 @@ def test_by_the_address_and_back(page):
     page.js("click", "#about [data-lang=en]")
     english(page)
     page.becomes("#lesson=mcs-late-link&move=10&lang=en", "address")
+    page.js("follow", "#lesson=mcs-late-link&move=10&lang=de")
+    page.wait(lambda: page.tried(page.js, "hasBegunIn", "de"), lambda: "it stays English")
 
 
 @pytest.mark.parametrize("link", ["#lang=de&lesson=none", "#lesson=none&lang=de"])
@@ -104,6 +138,17 @@ def test_another_language_of_the_start(page, look):
     page.becomes(f"#lesson=ticket-hand-over&move=1&lang=de{look}", "address")
 
 
+def test_another_language_of_the_first_lesson(page):
+    """A lesson that was chosen at the start stays, though no move was shown."""
+    page.open("#lang=en")
+    page.click("[data-lesson=mcs-late-link]")
+    page.press("o")
+    page.js("click", "#lessons [data-lang=de]")
+    page.wait(lambda: page.tried(page.js, "hasBegunIn", "de"), lambda: "it stays English")
+    page.becomes("#lesson=mcs-late-link&move=0&lang=de", "address")
+    assert page.js("count", "#lessons[open]") == 0
+
+
 @pytest.mark.parametrize("wanted, language", [
     (["de-AT"], "de"), (["fr", "de"], "de"), (["en-GB", "de"], "en"), (["fr"], "en")])
 def test_the_language_of_the_browser(page, wanted, language):
@@ -121,6 +166,7 @@ def test_the_language_is_pressed(page, language, name):
     page.press("Escape")
     page.js("click", "#show-about")
     assert page.js("texts", "#about [data-lang][aria-pressed=true]") == [name]
+    assert page.js("texts", "#about [lang=de]") == ["Deutsch"], "a voice reads it in its language"
 
 
 # The German words for the standing of a thread: in lessons at a move, in the room or in the head
@@ -134,6 +180,13 @@ STANDINGS = {
 }
 SIGNS = {"call": "in einem Aufruf", "queue": "in der Schlange", "reads": "liest",
          "writes": "schreibt"}
+# The German for what a move does, by a move of the late link that does it.
+PLAIN = {1: "ein Aufruf beginnt", 2: "der Aufruf geht weiter",
+         3: "von hier an hält der Thread die Sperre", 9: "das compare-and-swap scheitert",
+         10: "eine vergebliche Abfrage", 15: "der Thread hält die Sperre nicht mehr"}
+LEGEND = ["ruft auf", "der Aufruf geht weiter", "wartet: vergebliche Abfrage", "tritt ein",
+          "ist draußen", "cas scheitert", "in einem Aufruf", "in der Schlange", "hält",
+          "in der Schlange, nicht verknüpft", "das write, das ein Warten beendet hat"]
 
 
 def test_how_threads_stand(page):
@@ -142,6 +195,48 @@ def test_how_threads_stand(page):
         assert page.text(selector) == text, link
     page.open("#lesson=fifo-downgrade&move=0&lang=de")
     assert page.js("signs") == SIGNS
+    page.lesson("mcs-late-link", 12)
+    assert page.text("#memory-says") == "Nach Ann kommt Bob, und nur Bob weiß es."
+
+
+def test_what_moves_do(page):
+    page.open(GERMAN)
+    assert page.js("texts", "#legend > span") == LEGEND
+    assert page.js("plainAt", list(PLAIN)) == list(PLAIN.values())
+    page.go(15)
+    assert "Ann löscht locked von Bob und hat die Sperre verlassen; Bob ist als Nächstes dran" in (
+        page.text("#now"))
+
+
+# For each term of the German glossary a text with a form of it, and a part of its meaning.
+TERMS = {
+    "zwei Züge": ("Zug", "eine Zeile eines Ablaufs"),
+    "des Aufrufs": ("Aufruf", "mit dem ein Thread eine Operation beginnt"),
+    "in Schritten": ("Schritt", "eine atomare Operation eines Threads"),
+    "die Wörter": ("Wort", "eine Variable im gemeinsamen Speicher"),
+    "sie fragt ab": ("Abfrage", "nachsieht, ob er weitergehen darf"),
+    "nach vergeblicher Abfrage": ("vergebliche Abfrage", "dass sein Thread warten muss"),
+    "Ann hält sie": ("Halter", "eine Sperre betreten und noch nicht verlassen"),
+    "die Schlange": ("Schlange", "die älteste zuerst"),
+    "zwei Records": ("Record", "next und locked eines Threads"),
+    "noch nicht verknüpft": ("Link", "in das next seines Vorgängers einträgt"),
+    "mit dem späten Link": ("später Link", "nachdem der Vorgänger sein release begonnen hat"),
+    "zweier Abschnitte": ("Abschnitt", "ein Schritt einer Schreib-Lese-Sperre"),
+    "schon angekündigt": ("ankündigen", "setzt das flag und ist der nächste Schreiber"),
+    "ihr Linearisierungspunkt": ("Linearisierungspunkt", "für alle Threads wirkt"),
+}
+
+
+def test_which_term_a_german_word_is(page):
+    """A word is marked if it is a term or a form of one, and not if it is a part of another word
+    or a word for left."""
+    page.open("#lang=de")
+    page.show(f"#! say 1 {'; '.join(TERMS)}; nach links, Aufzug, behalten.\n"
+              "lock ticket threads 1\n0 acquire\n", 1)
+    explained = page.js("meanings", "#now .own-say .term")
+    assert [term for term, _ in explained] == [term for term, _ in TERMS.values()]
+    for (term, meaning), (_, part) in zip(explained, TERMS.values()):
+        assert part in meaning, term
 
 
 @cases("moves, said", {
@@ -184,6 +279,12 @@ def test_who_holds_at_a_refused_move(page, call, holds):
     page.open(GERMAN)
     page.show(f"lock rw-simple threads 2\n0 {call}\n0 section\n1 runlock\n", 3)
     assert f"Thread 0 hält die Sperre {holds}." in page.text("#now")
+
+
+def test_who_reads_at_a_refused_move(page):
+    page.open(GERMAN)
+    page.show("lock rw-simple threads 3\n0 rlock\n0 section\n1 rlock\n1 section\n2 runlock\n", 5)
+    assert "Thread 0, Thread 1 halten die Sperre zum Lesen." in page.text("#now")
 
 
 @pytest.mark.parametrize("moves, said", [

@@ -8,6 +8,7 @@ import pytest
 from tree import EXAMPLES, TOP
 
 PLANS = json.loads((EXAMPLES / "plans.json").read_text("utf-8"))
+TRANSLATIONS = json.loads((EXAMPLES / "lessons.de.json").read_text("utf-8"))
 GUIDE = (TOP / "docs" / "GUIDE.md").read_text("utf-8")
 LESSONS = {"ticket": "ticket-", "mcs": "mcs-", "rw-simple": "simple-", "rw-fifo": "fifo-"}
 
@@ -37,12 +38,14 @@ def test_a_plan_step_by_step(page, plan, width, height):
         assert shown["place"] == step["move"] + played(step) and shown["hall"], where
         assert shown["step"] == f"Step {at} of {len(plan['steps'])}" and shown["isSeen"], where
         assert "show" not in step or shown["parts"] == step["show"].split(","), where
+        assert page.text("#bar .plan-say") == step.get("say", ""), where
         assert shown["compares"] == bool(played(step) or step.get("compare")), where
         if step["place"] != "hand-over, 3":
-            assert shown["question"].startswith("Question: "), where
+            assert shown["question"].startswith(f"Question: {step.get('ask', '')}"), where
             page.press("a")
             answered = page.js("step")
             assert answered["answers"] == 1 and answered["isSeen"], (at, answered)
+            assert step.get("answer", "") in answered["answer"] != "", (at, answered)
         page.press(*"n"[:at < len(plan["steps"])])
     page.press("Escape")
     shown = page.js("step")
@@ -104,13 +107,18 @@ def test_a_step_that_compares(page, lock, further, width, height):
 
 
 def test_the_clock(page):
-    """The clock shows the minutes left in the plan, and after its end the minutes over."""
+    """The clock shows the minutes left in the plan, and after its end the minutes over. It stands
+    when the lecture is over."""
+    page.before("keepClocks")
     begin(page, "mcs")
     assert re.fullmatch(r"10:00|9:5\d", page.js("step")["clock"])
     assert [page.js("attribute", f"#lecture {part}", "title") for part in ("b", "span")] == [
         "Minutes left", "MCS queue lock"]
     page.js("wait", 11)
     page.until("clockBegins", "−1:")
+    assert page.js("clocks") == [1000]
+    page.press("Escape")
+    assert page.js("clocks") == []
 
 
 def test_the_clock_of_a_later_step(page):
@@ -137,17 +145,21 @@ def test_escape_in_the_menu(page):
 def test_the_last_step(page):
     """The button says that no other step follows."""
     begin(page, "mcs")
+    assert page.js("texts", "#lecture span") == ["Step 1 of 5", "0 to 1 min"]
     for _ in range(4):
         assert page.text("#lecture [data-lecture=next]") == "Next step N"
         page.press("n")
     assert page.text("#lecture [data-lecture=next]") == "Last step"
+    page.press("n")
+    assert not page.js("isOpen") and page.js("step")["step"] == "Step 5 of 5"
 
 
 def test_the_step_before(page):
     """Back goes to the place of the step before, and stays at the first step."""
     begin(page, "mcs")
     first = page.js("step")["place"]
-    page.press("n")
+    assert page.js("attribute", "#lecture [data-lecture=back]", "aria-label") == "The step before"
+    page.click("#lecture [data-lecture=next]")
     assert page.js("step")["step"].startswith("Step 2 ")
     for _ in range(2):
         page.click("#lecture [data-lecture=back]")
@@ -186,6 +198,7 @@ def test_homework(page, way):
     assert page.js("texts", "dialog[open] > form h2") == ["Lesson plans"]
     page.js("click", "#plans [data-sheet^=mcs-]")
     assert page.js("texts", "dialog[open] > form h2") == ["Print"]
+    assert page.js("count", "#sheets [data-sheet=exercise]:focus") == 1
     assert page.shown()["lesson"] == PLANS[1]["homework"]["lesson"]
 
 
@@ -201,10 +214,26 @@ def test_a_second_window(page):
     assert page.js("windowThere") == ["lockreplay: for the presenter", "presenter", True]
     page.js("pressThere", "n")
     assert page.js("step")["place"] == 9
+    page.js("pressThere", "n")
+    said = page.js("presented")
+    for name in ("ask", "answer"):
+        assert PLANS[1]["steps"][3][name] in said, said
     page.press("d")
     assert page.js("themeThere") == page.js("theme") != ""
     page.js("wait", 11)
     page.until("clockThereBegins", "−1:")
+    page.js("closeThere")
+
+
+def test_a_second_window_in_german(page):
+    """What the lecturer says at this step, and the place of the next one, are German."""
+    page.before("keepWindows")
+    begin(page, "ticket", "de")
+    page.press("2")
+    said = page.until("presented")
+    assert TRANSLATIONS[PLANS[0]["steps"][0]["say"]] in said, said
+    title = TRANSLATIONS["Hand-over in the order of the tickets"]
+    assert f"Nächster Schritt: {title}, 5" in said, said
     page.js("closeThere")
 
 
@@ -259,7 +288,8 @@ def test_keys_of_the_second_window(page):
 
 
 def test_the_style_of_the_second_window(page):
-    """However often the key is pressed, the second window has one style and its title."""
+    """However often the key is pressed, there is one second window, with one style and its
+    title."""
     page.before("keepWindows")
     page.open("#lesson=mcs-late-link&move=3")
     for _ in range(3):
@@ -267,6 +297,7 @@ def test_the_style_of_the_second_window(page):
         page.until("presented")
         assert page.js("stylesThere") == 1
         assert page.js("windowThere") == ["lockreplay: for the presenter", "presenter", True]
+    assert page.js("countOfWindows") == 1
     page.js("closeThere")
 
 

@@ -77,6 +77,10 @@ def test_without_the_machine_nothing_is_played(page):
     assert page.js("count", "#choices button") == 0
     page.show("lock mcs threads 1\n")
     assert "Only the lessons can be shown" in page.text("#verdict")
+    page.lesson("simple-second-writer")
+    page.press("c")
+    assert page.js("count", "#choose-other[open]") == 1, "there is no other lock beside it"
+    assert page.js("count", "#other-list [data-way]") == 0 < page.js("count", "#other-list button")
 
 
 @cases("language, said", {
@@ -136,10 +140,28 @@ SENTENCES = {
 }
 
 
+# And on moves of other lessons: a section that writes two words, a poll with the thread's own
+# ticket, and counts that wrap.
+WRAPS = "After 3 comes 0: the count wraps around."
+OTHER_SENTENCES = {
+    "simple-downgrade": {6: "Thread 0 becomes a reader in one section: readers is now 1, and the "
+                            "flag is clear."},
+    "ticket-wraps-at-2-bits": {
+        23: "Cem polls and waits: now_serving is 3, and its ticket is 0."},
+    "fifo-counts-wrap-at-2-bits": {
+        14: f"Thread 0 finds the flag clear, and counts itself in: readAcquires is now 0. {WRAPS}",
+        18: f"Thread 0 counts itself out, and has left: readReleases is now 0. {WRAPS}"},
+    "fifo-second-writer": {12: "Thread 1 clears the flag, and has left."},
+}
+
+
 def test_what_a_move_did(page):
     """Each sentence names the thread that moved, and the thread whose word it is about."""
     page.open("#lesson=mcs-late-link")
     assert page.js("said", list(SENTENCES)) == list(SENTENCES.values())
+    for name, sentences in OTHER_SENTENCES.items():
+        page.lesson(name)
+        assert page.js("said", list(sentences)) == list(sentences.values()), name
 
 
 # What threads of a FIFO lock with a due section want to do, in the order of their numbers.
@@ -151,11 +173,27 @@ WANTS = {
 }
 
 
-def test_what_is_wanted_at_the_monitor(page):
-    page.open()
+GERMAN = {
+    "wants to stop reading": "möchte aufhören zu lesen", "wants to read": "möchte lesen",
+    "wants to stop writing": "möchte aufhören zu schreiben", "wants to write": "möchte schreiben",
+    "wants to become a reader": "möchte Leser werden",
+    "announced, awaits the readers": "angekündigt, wartet auf Leser",
+}
+
+
+@pytest.mark.parametrize("language, of", [("en", lambda wish: wish), ("de", GERMAN.get)])
+def test_what_is_wanted_at_the_monitor(page, language, of):
+    page.open(f"#lang={language}")
     for moves, wanted in WANTS.items():
         page.show(f"lock rw-fifo threads 2\n{moves}", moves.count("\n"))
-        assert page.js("texts", "#memory-picture .wants title") == wanted, moves
+        assert page.js("texts", "#memory-picture .wants title") == [*map(of, wanted)], moves
+
+
+def test_what_a_lesson_is_about(page):
+    """Before the first move stands what the lesson is about, with the names of words as code."""
+    page.open()
+    page.lesson("mcs-late-link", 0)
+    assert page.js("texts", "#now .about code") == ["next", "locked"]
 
 
 def test_who_has_polled_in_vain(page):
@@ -168,6 +206,32 @@ def test_who_has_polled_in_vain(page):
     assert page.js("texts", "#memory-picture .wants + .note") == ["failed poll"], "its first"
     page.go(3)
     assert page.js("texts", "#memory-picture .wants + .note") == [], "it has not polled yet"
+
+
+ASKED = "#! ask {0} hide standing : Who is where?\n#! answer {0} See.\n"
+ONE_AFTER_THE_OTHER = "1 acquire\n1 write\n1 swap\n0 acquire\n0 write\n0 swap\n0 write\n"
+
+
+def test_who_stands_where_is_not_drawn(page):
+    """A question that hides who holds and who waits hides the order of the queue, who is idle, and
+    who is about to pass the lock on."""
+    page.open()
+    records = ("texts", "#memory-picture .record .name")
+    page.show(f"{ASKED.format(7)}lock mcs threads 3\n{ONE_AFTER_THE_OTHER}", 7)
+    assert page.js(*records) == ["T0", "T1", "T2"]
+    assert page.js("count", "#memory-picture .link") == 1, "the tail is a word"
+    page.press("a")
+    assert page.js(*records) == ["T1", "T0", "T2"]
+    assert page.js("count", "#memory-picture .link") == 2
+    page.show(f"{ASKED.format(7)}lock mcs threads 12\n{ONE_AFTER_THE_OTHER}", 7)
+    assert page.text("#memory-note") == "" and len(page.js(*records)) == 12
+    page.press("a")
+    assert page.text("#memory-note") == "Idle: 10 threads"
+    page.show(f"{ASKED.format(5)}lock ticket threads 1\n0 acquire\n0 add\n0 read\n0 release\n"
+              "0 read\n", 5)
+    assert "served" not in page.text("#memory-picture")
+    page.press("a")
+    assert "served = 0 thread 0’s own variable" in page.text("#memory-picture")
 
 
 @cases("lesson, move, records", {

@@ -96,6 +96,7 @@ def test_signs(page):
     assert page.js("signs") == [1, 1, [2]]
     page.show(STARVES, 6)
     assert abs(page.js("beforeMark", 2) - 0.5) < 0.1, "it is between two columns"
+    assert page.js("endsBehind", 6), "the arrow comes from the last move"
     page.show(ALONE, 3)
     assert page.js("signs") == [1, 1, [1]]
     page.show(ENDS, 1)

@@ -8,19 +8,32 @@ from reports import moves_replayed
 CLICKS = 12
 
 
-@pytest.mark.parametrize("lock, threads, bits", [
-    ("ticket", 3, 2), ("mcs", 3, 64), ("rw-simple", 2, 2), ("rw-fifo", 4, 3)])
-def test_played_by_clicks(page, lockreplay, lock, threads, bits):
-    chance = random.Random(7)
-    page.open("#lesson=mcs-late-link&move=0")
-    page.click("#mode-play")
+def new_schedule(page, lock, threads, bits):
+    """Begins a schedule by the form of Play, and returns its text."""
     page.js("openNew", lock)
     for name, number in [("threads", threads), ("bits", bits)]:
         page.click(f"#new [name={name}]")
         page.press("Control+a", *str(number))
     page.click("#new button")
     page.becomes("0 of 0", "text", "#position")
-    header, lines = page.shown()["area"], []
+    return page.shown()["area"]
+
+
+def test_headers(page):
+    """Words of 64 bits, which are usual, are not in the header."""
+    page.open("#lesson=mcs-late-link&move=0")
+    page.click("#mode-play")
+    assert new_schedule(page, "rw-fifo", 4, 3) == "lock rw-fifo threads 4 bits 3\n"
+    assert new_schedule(page, "mcs", 3, 64) == "lock mcs threads 3\n"
+
+
+@pytest.mark.parametrize("lock, threads, bits", [
+    ("ticket", 3, 2), ("mcs", 3, 64), ("rw-simple", 2, 2), ("rw-fifo", 4, 3)])
+def test_played_by_clicks(page, lockreplay, lock, threads, bits):
+    chance = random.Random(7)
+    page.open("#lesson=mcs-late-link&move=0")
+    page.click("#mode-play")
+    header, lines = new_schedule(page, lock, threads, bits), []
     for number in range(1, CLICKS + 1):
         lines.append(chance.choice(page.js("offered")))
         page.click(page.js("choice", *lines[-1].split()))
@@ -47,6 +60,17 @@ def test_from_a_lesson(page, lockreplay):
     page.click("#undo")
     page.becomes("9 of 16", "text", "#position")
     assert page.shown()["area"] == before
+
+
+def test_what_is_offered(page):
+    """Each thread has its due step, or its calls, beside what it is doing."""
+    page.open("#lesson=mcs-late-link&move=9")
+    page.click("#mode-play")
+    assert page.js("rows") == [
+        ["disc holds A", "Ann", "Ann: read due"], ["disc queue B", "Bob", "Bob: write due"]]
+    page.go(0)
+    assert page.js("rows") == [
+        ["disc rest A", "Ann", "Ann: acquire may"], ["disc rest B", "Bob", "Bob: acquire may"]]
 
 
 @pytest.mark.parametrize("move, hint", [

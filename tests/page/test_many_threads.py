@@ -78,6 +78,18 @@ def test_who_is_not_linked(page):
     page.js("open", [f"lock mcs threads 16\n{''.join(moves)}", "lessons", 48])
     shares = page.js("belowLines")
     assert len(shares) >= 5 and all(0 < one < 0.5 for one in shares), shares
+    page.js("open", [f"lock mcs threads 6\n{''.join(moves[:18])}", "lessons", 18])
+    # The tail's link to the last record is written, and the five between records are not.
+    assert page.js("count", "#memory-picture .link.missing") == 5
+    assert page.js("count", "#memory-picture .link:not(.missing)") == 1
+
+
+def test_who_is_idle(page):
+    """Records of threads that wait for nothing are folded, and a note below memory lists them."""
+    page.open()
+    for threads, idle in [(9, "Idle: T1, T2, T3, T4, T5, T6, T7, T8"), (16, "Idle: 15 threads")]:
+        page.js("open", [f"lock mcs threads {threads}\n0 acquire\n", "lessons", 1])
+        assert page.text("#memory-note") == idle
 
 
 def test_choices_are_in_view(page):
@@ -87,6 +99,9 @@ def test_choices_are_in_view(page):
     assert page.js("choiceInView", 63) and not page.js("choiceInView", 0)
     page.go(3)
     assert page.js("choiceInView", 0) and not page.js("choiceInView", 63)
+    assert page.js("count", "#lane-63") == 0
+    page.js("scrollLanes")
+    page.becomes(1, "count", "#lane-63")
 
 
 def test_the_chosen_lane_is_in_view(page):
@@ -97,6 +112,8 @@ def test_the_chosen_lane_is_in_view(page):
     page.js("focus", "#lanes")
     page.press(*["ArrowDown"] * 16)
     page.until("isChosenInView", 15)
+    page.press(*["ArrowUp"] * 15)
+    page.until("isChosenInView", 0)
 
 
 # Twenty threads take the lock one after another, in six moves each.
@@ -173,6 +190,33 @@ def test_a_digit_that_chooses_nothing(page, polls, key, said):
     shown = page.shown()
     assert shown["place"] == shown["moves"] == polls + 5 and shown["mode"] == "play"
     assert page.text("#choices .hint") == said
+
+
+def test_room_for_several_moves(page):
+    """A transition that is three moves away is chosen if the schedule may have three more."""
+    page.open()
+    before = "lock ticket threads 3\n0 acquire\n0 add\n0 read\n1 acquire\n1 add\n"
+    page.js("open", [before + 65529 * "1 read\n", "play", 65534])
+    page.click("#next-kinds summary")
+    page.js("chooseIn", "in 3 moves")
+    page.shown(moves=65534, place=65534)
+    page.go(65533)
+    page.js("chooseIn", "in 3 moves")
+    page.shown(moves=65536, place=65536)
+
+
+@cases("comment, said, moves", {
+    "before": (0, "A schedule has at most 1,048,576 bytes.", 1),
+    "after": (1, "Choose who moves next. The machine plays what you choose.", 2)})
+def test_the_most_bytes(page, comment, said, moves):
+    """A choice goes on from the text up to the move that is shown. So a long comment before that
+    move leaves no room, and one after it takes none."""
+    page.open()
+    page.js("openLarge", "lock ticket threads 2\n", "0 acquire\n", comment, 1048570)
+    page.press("g")
+    assert page.text("#choices .hint") == said
+    page.press("1")
+    page.shown(moves=moves, place=moves)
 
 
 @pytest.mark.parametrize("lock, call, line", [

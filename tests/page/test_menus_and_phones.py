@@ -10,22 +10,26 @@ ONE = "lock mcs threads 2\n0 acquire\n"
 
 @pytest.mark.parametrize("width, height", [(390, 844), (1366, 768)])
 def test_the_menu_closes(page, width, height):
-    """A choice, a click elsewhere and Escape close the menu."""
+    """A choice, a click elsewhere or on its button, and Escape close the menu."""
     page.resize(width, height)
-    for away in ["#mode-quiz", "#position", None]:
+    for away in ["#mode-quiz", "#position", "#menu", None]:
         page.open(LESSON)
         page.click("#menu")
-        assert page.js("isMenu")
+        assert page.js("isMenu") and page.js("attribute", "#menu", "aria-expanded") == "true"
         if away:
             page.click(away)
         else:
             page.press("Escape")
         assert not page.js("isMenu"), away
+        assert page.js("attribute", "#menu", "aria-expanded") == "false"
 
 
 def test_several_files(page):
     """The page shows the first dropped file, lists the others with the lessons, and says so."""
     page.open(LESSON)
+    page.press("o")
+    assert page.js("count", "#lessons .kept") == 0
+    page.press("Escape")
     page.js("dropFiles", [
         ["a.txt", f"#! title First\n{ONE}"], ["b.txt", f"#! title Second\n{ONE}"]])
     page.becomes("First", "text", "#title")
@@ -78,6 +82,9 @@ def test_a_text_that_is_too_large(page):
     page.show("lock ticket threads 2\n0 acquire\n0 add\n1 acquire\n1 add\n" + "1 read\n" * 65000)
     said, wrap = page.js("instead")
     assert "too much to edit here" in said and wrap == "soft"
+    page.lesson("mcs-late-link")
+    page.press("o")
+    assert page.js("texts", "#lessons [data-kept]") == ["Your own schedule at move 0"]
 
 
 def test_beginning_a_new_schedule(page):
@@ -129,7 +136,8 @@ def test_a_finger(page):
 
 
 @cases("swipe, place", {
-    "two fingers": ((-120, 2), 10), "short": ((-40,), 10), "steep": ((-120, 1, "lanes", 80), 10),
+    "two fingers": ((-120, 2), 10), "short": ((-40,), 10), "long enough": ((-60,), 11),
+    "steep": ((-120, 1, "lanes", 80), 10),
     "steep up": ((120, 1, "lanes", -80), 10), "slanted": ((-120, 1, "lanes", 40), 11),
     "beside the lanes": ((120, 1, "now"), 9)})
 def test_which_swipe_steps(page, swipe, place):
@@ -190,6 +198,11 @@ def test_without_the_machine(page):
     assert page.js("disabled", ["mode-own", "mode-play", "show-find"]) == [True] * 3
     page.press("e")
     assert page.shown()["mode"] == "lessons"
+    page.press("o")
+    assert page.js("texts", "#lessons .ways :disabled b") == page.js(
+        "texts", "#lessons .ways [data-way]:not([data-way=plans]) b")
+    assert page.js("count", "#lessons .ways :enabled") == 1
+    page.press("Escape")
     [before] = page.js("tops", ["#time"])
     page.click("#close-banner")
     [after] = page.js("tops", ["#time"])

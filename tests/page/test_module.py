@@ -5,7 +5,7 @@ from tree import TESTS, ran
 
 
 @pytest.mark.parametrize("script", ["module", "bytes", "moments", "known", "lib", "model",
-                                    "session"])
+                                    "session", "texts"])
 def test_in_node(module, script):
     done = ran("node", TESTS / "page" / f"{script}.mjs", module)
     assert done.returncode == 0, done.stderr

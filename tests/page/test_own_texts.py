@@ -3,6 +3,9 @@ import pytest
 
 HEAD = b"lock ticket threads 1\n0 acquire\n0 add\n"
 MOST = 1048576  # bytes
+MOST_EDITED = 400000  # bytes
+TRACE = "lock ticket threads 1\n0 acquire\n0 add next_ticket found 0\n"
+MOST_OF_A_TRACE = 4194304  # bytes
 
 
 def test_typed(page):
@@ -24,10 +27,14 @@ def test_typed(page):
     (HEAD.replace(b"\n", b"\r\n"), "carriage return", 0),
     (HEAD + b"#" * (MOST - len(HEAD)), "end 2", 2),
     (HEAD + b"#" * (MOST + 1 - len(HEAD)), "fault TooLong", 2),
+    (HEAD + b"#" * (MOST - len(HEAD) - 4) + b"\n0 read\n", "more than 1,048,576 bytes", 2),
+    (HEAD.replace(b"1", b"2", 1) + b"0 read\n1 acquire\n1 add\n" + b"1 read\n" * 65532,
+     "This would be move 65,537", 65536),
     (b"# \xff\xfe\0\n" + HEAD, "end 2", 2),
     (b"\xef\xbb\xbf" + HEAD, "byte order mark", 0),
     (b"\0" * MOST, "BadHeader", 0),
-], ids=["plain", "returns", "longest", "too long", "no text", "mark", "zeros"])
+], ids=["plain", "returns", "longest", "too long", "cut line", "too many", "no text", "mark",
+        "zeros"])
 def test_files(page, tmp_path, data, said, count):
     path = tmp_path / "schedule.txt"
     path.write_bytes(data)
@@ -35,6 +42,7 @@ def test_files(page, tmp_path, data, said, count):
     page.choose_file("#file", path)
     page.until("verdictHas", said)
     assert page.shown()["moves"] == count
+    assert page.js("count", "#text:disabled") == (len(data) > MOST_EDITED)
 
 
 def test_a_file_that_was_changed(page, tmp_path):
@@ -74,10 +82,22 @@ def test_the_line_of_the_move(page):
     page.show("lock ticket threads 2\n0 acquire\n0 add\n0 read\n", 2)
     assert page.text("#gutter .here") == "▸ 3"
     page.click("#text")
+    page.shown(position="3 of 3")
+    page.press("ArrowUp", "ArrowUp")
+    page.shown(position="2 of 3")
     page.press("Control+Home", "ArrowDown", "ArrowDown", "ArrowDown")
     page.shown(position="3 of 3")
     page.press("ArrowUp")
     page.shown(position="2 of 3")
+    page.click("#text")
+    page.shown(position="3 of 3")
+    page.go(1)
+    page.press("Home")
+    assert page.shown()["position"] == "1 of 3", "the caret is in the same line"
+    # In another text the caret was in no line before.
+    page.show("lock ticket threads 2\n0 acquire\n0 add\n1 acquire\n")
+    page.click("#text")
+    page.shown(position="3 of 3")
 
 
 def test_numbers_beside_a_long_text(page):
@@ -92,8 +112,29 @@ def test_numbers_beside_a_long_text(page):
         first, last = shown["seen"][0], shown["seen"][-1]
         assert shown["seen"] == list(range(first, last + 1)), shown
         assert len(shown["seen"]) >= shown["most"] - 1 > 5, shown
-    page.js("scrollText", 1100)
+    # So is a line next to the last one in view.
+    for move in range(4, 4 + shown["most"]):
+        page.go(move)
+        page.js("blur")
+        assert page.js("marked")["isSeen"], move
+    page.js("writeAt", 1100)
     page.becomes("51", "text", "#gutter div div")
+    page.go(200)
+    assert page.text("#gutter div div") == "51", "who writes is not led away"
+
+
+def test_numbers_while_one_types(page):
+    page.open()
+    page.show("lock ticket threads 2\n")
+    assert page.js("numbersOf", "lock ticket threads 2\n0 acquire\n0 add\n") == 4
+
+
+def test_returns_within_a_line(page):
+    """The button removes carriage returns at the ends of lines, and no other byte."""
+    page.open()
+    page.show("# a\rb\r\nlock ticket threads 1\r\n0 acquire\r\n")
+    page.js("click", "#verdict [data-returns]")
+    assert page.shown(moves=1)["text"] == "# a\rb\nlock ticket threads 1\n0 acquire\n"
 
 
 def test_the_line_of_a_refused_move(page):
@@ -113,6 +154,7 @@ def test_dropped_and_pasted(page):
     page.open()
     page.js("dropFile", "lock mcs threads 1\n0 acquire\n")
     page.until("verdictEnds", "end 1")
+    assert page.text("#notice") == "", "there is no other file"
     page.js("paste", "lock rw-fifo threads 1\n0 rlock\n0 section\n")
     page.until("verdictEnds", "end 2")
 
@@ -150,9 +192,34 @@ def test_a_trace_dropped_into_the_text(page):
     """It takes the place of the schedule, as a trace that is pasted does."""
     page.open("#lesson=mcs-late-link&move=9")
     page.press("e")
-    trace = "lock ticket threads 1\n0 acquire\n0 add next_ticket found 0\n"
-    assert not page.js("bringInto", "drop", "#text", trace)
-    assert page.shown(moves=2)["area"] == trace
+    assert not page.js("bringInto", "drop", "#text", TRACE)
+    assert page.shown(moves=2)["area"] == TRACE
+
+
+def test_a_file_that_is_too_large(page):
+    """A file of more than 4,194,304 bytes is not opened, since a part would look like the whole.
+    Without its values, a trace has at most as many bytes as a schedule."""
+    page.open("#lesson=mcs-late-link&move=9")
+    before = page.shown()
+    page.js("dropLarge", TRACE, MOST_OF_A_TRACE + 1)
+    page.becomes("A file of more than 4,194,304 bytes is not opened.", "text", "#notice")
+    assert page.shown() == before
+    page.js("dropLarge", TRACE, MOST_OF_A_TRACE)
+    page.until("verdictEnds", "fault TooLong")
+    begin = "lock ticket threads 2\n0 acquire\n0 add\n1 acquire\n1 add\n"
+    trace = begin + "1 read now_serving found 0\n" * 45000
+    assert MOST < len(trace) < MOST_OF_A_TRACE
+    page.js("dropFile", trace)
+    page.until("verdictEnds", "end 45004")
+
+
+def test_a_text_that_is_opened_while_one_types(page):
+    """What was typed a moment before a lesson is opened is no edit of the lesson."""
+    page.open("#lesson=mcs-late-link&move=9")
+    page.press("e")
+    page.js("typeAndOpen", "lock mcs threads 1\n", "ticket-hand-over")
+    page.becomes("#lesson=ticket-hand-over&move=0", "address")
+    page.shown(lesson="ticket-hand-over", moves=10)
 
 
 def test_a_file_that_cannot_be_read(page):
@@ -173,5 +240,6 @@ def test_saved(page, tmp_path):
     page.click("#mode-own")
     page.choose_file("#file", path)
     page.until("verdictEnds", "end 1")
+    assert page.js("fieldOfOpen") == "file"
     page.click("#save")
     assert page.saved("schedule.txt", len(data)) == data

@@ -64,8 +64,12 @@ def test_only_paper_is_printed(page):
 def test_no_explanation_is_printed(page):
     page.open("#lesson=ticket-hand-over&move=5")
     page.js("pointAt", "main .term")
+    page.press("l", "e")
+    page.until("text", "#notice")
+    page.js("pointAt", "main .term")
     page.js("drawPaper")
-    assert page.js("screenAndPaper", ["tip-box", "time"]) == [["tip-box", "time"], []]
+    parts = ["tip-box", "notice", "side", "time"]
+    assert page.js("screenAndPaper", parts) == [parts, []]
 
 
 def test_no_warning_is_printed(page):
@@ -112,6 +116,36 @@ def test_which_part_is_printed(page, move):
     assert page.text("#paper > p") == f"Moves {numbers[0]} to {numbers[-1]} of 1500"
 
 
+def test_a_long_queue(page):
+    """Of a long list of threads the table has the first, and how many there are. Nobody holds the
+    lock, since thread 0 never polls."""
+    page.open()
+    page.show(turns(64, 381), 381)
+    page.js("drawPaper")
+    assert page.js("rows")[-1][5:] == ["-", "0,1,2,3,4,5,6,7,… (64)"]
+
+
+def test_questions_on_paper(page):
+    """The questions of all moves are printed, with their answers, from that before the first move
+    to that of the last one."""
+    page.open()
+    asked = "".join(f"#! ask {move} Number {move}?\n#! answer {move} It is.\n" for move in range(3))
+    page.show(f"lock ticket threads 1\n{asked}0 acquire\n0 add\n")
+    page.js("drawPaper")
+    assert page.js("texts", "#paper .asked dt") == ["0", "1", "2"]
+    assert page.js("texts", "#paper .asked .answer") == ["It is."] * 3
+
+
+def test_a_refused_move_on_paper(page):
+    """The strips have the refused move after the accepted ones, with its number crossed out."""
+    page.open("#lesson=refused-already-holds&move=0")
+    page.js("drawPaper")
+    numbers = [str(number) for number in range(1, 3)]
+    assert page.js("texts", "#paper .strip .number") == [*numbers, "✕"]
+    assert page.js("count", "#paper .strip [data-refused] .refused-mark") == 1
+    assert page.js("texts", "#paper .strip [data-refused] title") == ["Line 5: 0 rlock"]
+
+
 def test_forty_moves_in_one_row(page):
     page.open()
     page.show(turns(8, 40), 40)
@@ -126,6 +160,10 @@ def test_memory_and_code(page):
     for part in ["after move 9", "tail", "no link", "cas(tail, me, nil), or else:", "pred = Ann"]:
         assert part in figure
     assert page.js("words", "#paper td:nth-child(2)") == "Ann (0)"
+    assert page.js("texts", "#paper .legend > span > span") == [
+        "called", "moved: the call goes on", "waits: failed poll", "entered", "left", "cas fails",
+        "in a call", "in the queue", "holds", "in the queue, not linked",
+        "the write that ended a wait"]
 
 
 @cases("lesson, moves", {
@@ -155,8 +193,55 @@ def test_an_exercise_sheet(page):
     # Each question has two lines to write on.
     assert page.js("drawn") == [0, 10]
     assert "record that nobody reads" not in said and "no link" not in said
+    heads = ["Move", "Thread", "Call or step", "Outcome", "Holds", "Queue"]
+    assert page.js("texts", "#paper th") == heads
     assert page.js("print", "worked") == "worked"
     assert "record that nobody reads" in page.js("words", "#paper")
+    assert page.js("rows")[7][4].startswith("Bob swaps the tail and finds Ann; it is in the queue")
+
+
+# Lessons of each lock, and the threads that have names in them.
+GIVEN = {"ticket-wraps-at-2-bits": [0, 1, 2], "mcs-late-link": [0, 1], "simple-downgrade": [],
+         "fifo-counts-wrap-at-2-bits": []}
+
+
+def test_marks_to_fill_in(page):
+    """On an exercise sheet each mark is empty, on the line of its thread and below its word, and a
+    thread with a name has its number too: the table names it by both."""
+    page.open()
+    for name, given in GIVEN.items():
+        page.lesson(name)
+        page.js("print", "exercise")
+        shown = page.js("marksToFillIn")
+        assert shown["askew"] == shown["overlaps"] == [], name
+        words = [move[1] for move in moves_of(LESSONS[name])]
+        assert shown["words"] == [[number, word] for number, word in enumerate(words, 1)], name
+        assert shown["notes"] == [f"thread {thread}" for thread in given], name
+
+
+@pytest.mark.parametrize("threads", [2, 5, 6, 14])
+def test_marks_of_many_threads(page, threads):
+    """Strips of few threads and of many have the same."""
+    page.open()
+    names = "".join(f"#! name {thread} Name{thread}\n" for thread in range(threads))
+    calls = "".join(f"{thread} acquire\n" for thread in range(threads))
+    page.show(f"{names}lock ticket threads {threads}\n{calls}")
+    page.js("print", "exercise")
+    shown = page.js("marksToFillIn")
+    assert shown["askew"] == shown["overlaps"] == []
+    assert shown["words"] == [[number, "acquire"] for number in range(1, threads + 1)]
+    assert shown["notes"] == [f"thread {thread}" for thread in range(threads)]
+
+
+def test_a_black_screen_on_paper(page):
+    """The black screen of a hall changes nothing on paper."""
+    page.open(f"{LATE_LINK}&hall")
+    page.js("drawPaper")
+    bodies = [page.js("bodyOnPaper")]
+    page.press(".")
+    assert page.js("count", "body.blank") == 1
+    bodies.append(page.js("bodyOnPaper"))
+    assert bodies[0] == bodies[1] and bodies[0][0] > 400, bodies
 
 
 def test_after_an_exercise_sheet(page):

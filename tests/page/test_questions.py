@@ -25,6 +25,7 @@ def test_each_part_comes_with_the_answer(page):
         if "facts" in parts:
             assert before["facts"] == before["report"] == "" and before["marks"] == 0, where
             assert after["facts"] and after["report"], where
+            assert before["found"] == ["?"] and "?" not in after["found"], where
         if "memory" in parts:
             assert before["caption"] == "" and not before["links"], where
             assert after["caption"] and after["label"].startswith(after["caption"]), where
@@ -86,6 +87,18 @@ def test_who_has_a_ticket_is_not_drawn(page):
         shown = [page.js("count", "#memory-picture .token")]
         page.press("a")
         assert [*shown, page.js("count", "#memory-picture .token")] == [0, 4 if width else 2]
+        assert set(page.js("texts", "#memory-picture .token text")) == {"A", "B"}
+
+
+def test_who_is_in_the_queue_is_not_drawn(page):
+    """In Play, no disc has the colour of a thread that holds or is in the queue, as a question asks
+    at move 5."""
+    page.open("#lesson=ticket-hand-over&move=5")
+    page.press("g")
+    discs = [("count", f"#choices .disc.{one}") for one in ("asked", "holds", "queue")]
+    assert [page.js(*one) for one in discs] == [2, 0, 0]
+    page.press("a")
+    assert [page.js(*one) for one in discs] == [0, 1, 1]
 
 
 def test_one_prompt(page):
@@ -99,8 +112,22 @@ def test_where_questions_are(page):
     page.open("#lesson=mcs-late-link&move=16")
     asked = [move for name, move, _ in QUESTIONS if name == "mcs-late-link"]
     assert page.js("marked") == {"numbers": asked, "slider": asked}
+    assert page.js("texts", "#lanes .note") == ["thread 0", "thread 1"], "below Ann and Bob"
+    page.go(0)
+    assert page.js("marked")["slider"] == asked, "also of moves to come"
     page.show(OWN, 5)
     assert page.js("marked") == {"numbers": [3, 4, 5], "slider": [3, 4, 5]}, "5 is the last move"
+
+
+def test_the_key_of_the_next_question(page):
+    """J goes to the nearest question ahead, in whichever order the text has them, and to none after
+    the last move."""
+    page.open()
+    asks = "".join(f"#! ask {move} Who?\n" for move in (9, 4, 3))
+    page.show(asks + OWN[OWN.index("lock"):])
+    for place in (3, 4, 4):
+        page.press("j")
+        page.shown(place=place)
 
 
 def test_who_holds_is_not_drawn(page):
@@ -109,6 +136,7 @@ def test_who_holds_is_not_drawn(page):
     page.open("#lesson=simple-writer-after-readers&move=9")
     signs, beyond = page.js("readers")
     assert signs == 0 and beyond < -10, (signs, beyond)
+    assert page.js("texts", "#memory-picture .room ~ .note")[0] == "?"
     page.press("a")
     signs, beyond = page.js("readers")
     assert signs >= 1 and beyond > -10, (signs, beyond)
@@ -167,6 +195,7 @@ def test_a_step_stops_once(page, look, key):
     assert page.shown()["place"] == 7 and page.js("waiting") == [WAITS, 1]
     page.press(key)
     assert page.shown()["place"] == 8 and page.js("waiting")[1] == 0
+    assert page.js("count", "#notice:not([hidden])") == 0, "it is of the move before"
     page.press("a", key)
     assert page.shown()["place"] == 9, "an answer that was seen lets one go on"
     page.press(key, "ArrowLeft", key)
@@ -180,4 +209,4 @@ def test_the_end_waits_for_the_answer(page):
     ended = ("count", "#now .last")
     assert page.js(*ended) == 0
     page.press("a")
-    assert page.js(*ended) == 1
+    assert page.js(*ended) == 1 and page.js("count", "#now [data-next]") == 0, "it is no lesson"

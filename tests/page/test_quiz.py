@@ -11,6 +11,16 @@ LESSON = "fifo-reader-waits-behind-writer"
 TRUTH = {"outcome": 2, "holders": 3, "queue": 4}
 # The outcomes, which a test also gives as answers without thought.
 ALWAYS = ["moved", "waits", "entered", "left"]
+ASKED = {"outcome": "What is its outcome?", "holders": "Who holds then?",
+         "queue": "Who is in the queue then?"}
+WHY = {
+    "moved": "The outcome is “moved”: the call goes on, and the same threads hold the lock.",
+    "waits": "The outcome is “waits”: the poll failed, and the thread polls again.",
+    "entered": "The outcome is “entered”: from this move on the thread holds the lock.",
+    "left": "The outcome is “left”: from this move on the thread no longer holds the lock in that "
+            "mode.",
+}
+WHY_QUEUE = "In the queue is who has taken a place there and has not left, the oldest first."
 
 
 def begin(page, name):
@@ -26,6 +36,9 @@ def test_all_right(page):
     while (shown := page.js("asked"))["move"]:
         assert shown["place"] == shown["move"] - 1 and shown["future"] == 0, shown
         assert not shown["filled"], shown
+        thread, word, *_ = moves[shown["move"] - 1]
+        assert shown["said"] == f"Move {shown['move']}: thread {thread}, {word}", shown
+        assert shown["marks"] == ["?"] and shown["asks"] == ASKED[shown["kind"]], shown
         # The quiz asks for no outcome of a call, and no step has the outcome `called`.
         assert shown["choices"] == (ALWAYS if shown["kind"] == "outcome" else []), shown
         page.js("answer", moves[shown["move"] - 1][TRUTH[shown["kind"]]])
@@ -39,30 +52,115 @@ def test_all_right(page):
 
 
 def test_a_wrong_answer_is_told_why(page):
+    """The first question, on move 2, asks for the outcome. The reason for a wrong queue is the rule
+    of queues, that for other wrong answers is the move's outcome, which says who holds."""
+    moves = moves_of(LESSONS[LESSON])
     begin(page, LESSON)
     kind = page.js("asked")["kind"]
     page.js("answer", "waits" if kind == "outcome" else "w2")
-    assert "The outcome is" in page.text("#now .why")
+    assert page.text("#now .why") == WHY["entered"]
+    assert page.text("#now .result code") == "entered"
     assert "0 right, 1 wrong" in page.text("#now .score")
     page.press("Escape", "q", "q")
     assert "0 right, 1 wrong" in page.text("#now .score")
     page.lesson("ticket-hand-over")
     assert "0 right, 1 wrong" in page.text("#now .score")
+    page.lesson(LESSON)
+    told = set()
+    while (shown := page.js("asked"))["move"]:
+        move = moves[shown["move"] - 1]
+        truth = move[TRUTH[shown["kind"]]]
+        wrong = ("moved" if truth != "moved" else "left") if shown["kind"] == "outcome" else "7"
+        page.js("answer", wrong)
+        told.add(page.text("#now .why"))
+        assert page.text("#now .result code") == truth, shown
+        assert page.text("#now .why") == (
+            WHY_QUEUE if shown["kind"] == "queue" else WHY[move[2]]), shown
+    assert {WHY["waits"], WHY["left"]} <= told, told
+
+
+def test_an_answer_goes_with_its_move(page):
+    """What came of an answer is shown until another schedule is shown, or another text of this
+    one."""
+    begin(page, LESSON)
+    page.press("g")
+    came = ("count", "#now .result")
+    for act in [lambda: page.js("choose", 1, "wlock"), page.undo,
+                lambda: page.js("write", "lock ticket threads 1\n0 acquire\n"),
+                lambda: page.lesson("mcs-late-link")]:
+        page.lesson(LESSON)
+        asked = page.js("asked")
+        page.js("answer", moves_of(LESSONS[LESSON])[asked["move"] - 1][TRUTH[asked["kind"]]])
+        assert page.js(*came) == 1
+        act()
+        assert page.js(*came) == 0
+
+
+def test_moves_that_run_stop_at_a_question(page):
+    begin(page, LESSON)
+    page.press(".", ".", "Space")
+    page.becomes(False, "isRunning")
+    assert page.js("question")["move"] == 2 and page.js("focused") == "input"
+
+
+def test_no_question_of_the_lesson_stops_a_step(page):
+    """In the quiz a step goes past the lesson's own questions, of which no answer was seen."""
+    moves = moves_of(LESSONS["mcs-late-link"])
+    begin(page, "mcs-late-link")
+    while (shown := page.js("question"))["place"] < 16:
+        if shown["move"]:
+            page.js("answer", moves[shown["move"] - 1][TRUTH[shown["kind"]]])
+        else:
+            page.press("ArrowRight")
+    assert page.text("#notice") == ""
+
+
+def test_schedules_that_begin_alike(page):
+    """Each schedule has its own answers. The file calls one without a title the reader's own, and
+    has a dash for no name."""
+    page.open()
+    for end in ("", "1 runlock\n"):
+        page.show(READERS + end)
+        if not end:
+            page.press("q")
+        assert page.js("asked")["move"] == 4
+        page.js("answer", "r0,1")
+    head, *parts = page.js("saved").split("\n\n")
+    assert "\n# Name: -\n" in head and head.endswith("\n# Points: 2 (2 right, 0 wrong)"), head
+    assert [one.rstrip("\n") for one in parts] == 2 * [
+        "# Your own schedule\n# Points: 1 (1 right, 0 wrong)\n+ 4 1 section holders: r0,1"]
+
+
+def test_what_is_asked_anew(page):
+    """The quiz asks from the move on that is shown when it begins, also if it asked before."""
+    begin(page, LESSON)
+    first = page.js("asked")["move"]
+    page.press("q")
+    page.go(15)
+    page.press("q", "q")
+    page.go(0)
+    page.press("q")
+    assert page.js("asked")["move"] == first
 
 
 def test_the_points_of_each_schedule(page):
     """The file for the teacher has the points of each schedule above its answers, and of all."""
     begin(page, LESSON)
-    kind = page.js("asked")["kind"]
-    page.js("answer", "waits" if kind == "outcome" else "w2")
+    one = page.js("asked")
+    given = "waits" if one["kind"] == "outcome" else "w2"
+    page.js("answer", given)
     page.lesson("ticket-hand-over")
     shown = page.js("asked")
     truth = moves_of(LESSONS["ticket-hand-over"])[shown["move"] - 1][TRUTH[shown["kind"]]]
     page.js("answer", truth)
+    page.lesson("mcs-late-link")
     head, wrong, right = page.js("saved").split("\n\n")
     assert head.endswith("\n# Points: 0 (1 right, 1 wrong)"), head
     assert wrong.startswith("# A reader may not pass an announced writer\n"
                             "# Points: 0 (0 right, 1 wrong)\n- "), wrong
+    thread, word, *_ = move = moves_of(LESSONS[LESSON])[one["move"] - 1]
+    assert wrong.splitlines()[2] == (f"- {one['move']} {thread} {word} {one['kind']}: {given} "
+                                     f"({move[TRUTH[one['kind']]]})"), wrong
     assert right.splitlines()[1] == "# Points: 1 (1 right, 0 wrong)", right
     assert right.splitlines()[2].startswith("+ ") and right.rstrip().endswith(f": {truth}"), right
 
@@ -80,14 +178,17 @@ def test_a_wrong_answer_takes_a_point(page):
 
 
 def test_a_wrong_queue_is_told_why(page):
-    """The reason for a wrong queue is the rule of queues, not the outcome, which says who holds."""
+    """The reason for a wrong queue is the rule of queues, not the outcome, which says who holds.
+    Blanks are no answer."""
     moves = moves_of(LESSONS["ticket-hand-over"])
     begin(page, "ticket-hand-over")
     while (shown := page.js("asked"))["kind"] != "queue":
         page.js("answer", moves[shown["move"] - 1][TRUTH[shown["kind"]]])
+    page.js("answer", " ")
+    assert page.js("question")["move"] == shown["move"]
     page.js("answer", "7")
-    assert page.text("#now .why") == (
-        "In the queue is who has taken a place there and has not left, the oldest first.")
+    assert page.text("#now .why") == WHY_QUEUE
+    assert page.text("#now .score").split(" wrong)")[0].endswith(" 1"), page.text("#now .score")
 
 
 def test_what_the_slider_gives_away(page):
@@ -145,6 +246,7 @@ def test_the_next_question_of_the_lesson_is_open(page):
     """Key A before an answer does not show the answer to the lesson's question on the next move."""
     page.open("#lesson=ticket-hand-over&move=4")
     page.press("q")
+    assert page.js("focused") == "input"
     page.js("blur")
     page.press("a")
     assert page.js("question")["move"] == 5
@@ -202,6 +304,9 @@ def test_names_of_readers(page, names, answers, right):
     for move, answer in zip([4, 10], answers):
         shown = page.js("asked")
         assert (shown["move"], shown["kind"]) == (move, "holders")
+        assert shown["asks"] == ASKED["holders"]
+        assert page.text("#quiz-form .hint") == (
+            "Numbers or names: - for nobody, 0 for a holder, r0,2 for readers, w1 for a writer.")
         page.js("answer", answer)
     assert f"({right} right, {2 - right} wrong)" in page.text("#now .score")
 
@@ -240,6 +345,10 @@ def test_what_there_is_to_do(page, look, box):
     assert page.text(f"{box} .quiz-how").startswith("Go on with →: before move 2 it is asked"), box
     page.press("ArrowRight")
     assert page.js("count", f"{box} .quiz-how") == 0 and page.js("count", "#quiz-form") == 1
+    assert page.js("focused") == "input"
+    page.js("blur")
+    page.press("ArrowRight")
+    assert page.js("focused") == "input" and page.shown()["place"] == 1
     assert page.text("#quiz-form button") == "CheckEnter"
     page.press("Escape", "q")
     page.go(10)

@@ -1,5 +1,5 @@
-"""For a trace, the page shows at each move the values of the recorded run and of the lock, and the
-step at which they differ. The values are worked out by hand from docs/LOCKS.md."""
+"""For a trace, the page shows at each move the values of the recorded run and of the lock. The
+values are worked out by hand from docs/LOCKS.md."""
 import json
 
 import pytest
@@ -49,10 +49,18 @@ AGREEING = {
         ("1 section 2 moved", "moved"), ("1 section 3", "waits"), ("0 runlock", ""),
         ("0 section 4 left", "left"), ("1 section 5 entered", "entered")]),
 }
+# The beginnings of two runs.
+SECOND = ("0 acquire; 0 write next left 0; 0 swap tail found 0 left 1; 1 acquire; "
+          "1 write next left 0; ")
+LINKED = "0 acquire; 0 write; 0 swap; 1 acquire; 1 write; 1 swap; "
 
 
 def text_of(head, moves):
     return "\n".join([head, *moves, ""])
+
+
+def moves_of(text):
+    return text.split("; ")
 
 
 @pytest.mark.parametrize("lock", AGREEING)
@@ -71,141 +79,6 @@ def test_equal_values(page, lock):
     assert f"end {len(rows)}" in shown["verdict"]
     assert page.js("recordedAt", len(rows)) == [[line, own] if own else [] for line, own in rows]
     assert page.shown()["spoken"].endswith("The recorded run has the same.")
-
-
-def moves_of(text):
-    return text.split("; ")
-
-
-# A run whose last line is refused, both values, and the cause.
-SECOND = ("0 acquire; 0 write next left 0; 0 swap tail found 0 left 1; 1 acquire; "
-          "1 write next left 0; ")
-LINKED = "0 acquire; 0 write; 0 swap; 1 acquire; 1 write; 1 swap; "
-DIFFERENT = {
-    "a value that thread 0 wrote over": (
-        "lock mcs threads 2", SECOND + "1 swap tail found 0", "0", "FoundOther", [
-            "The recorded run: swap tail found 0. The lock here: found 1.",
-            "Thread 0 wrote tail last, in line 4: it left 1.",
-            "The word had 0 until line 4: perhaps this swap was a load and a store, or is noted "
-            "too late."]),
-    "a value that nobody wrote": (
-        "lock ticket threads 2", "0 acquire; 0 add next_ticket found 3", "3", "FoundOther", [
-            "The recorded run: add next_ticket found 3. The lock here: found 0.",
-            "Nobody has written next_ticket yet: it has its first value, 0.",
-            "No other line writes 3 there: perhaps a write is missing in the trace."]),
-    "a value of a narrow word": (
-        "lock ticket threads 1 bits 2",
-        "; ".join(["0 acquire; 0 add; 0 read; 0 release; 0 read; 0 write"] * 4)
-        + "; 0 acquire; 0 add next_ticket found 4", "4", "FoundOther", [
-            "The recorded run: add next_ticket found 4. The lock here: found 0.",
-            "Thread 0 wrote next_ticket last, in line 21: it left 0."]),
-    "a value that was left": (
-        "lock mcs threads 2", "0 acquire; 0 write next left 0; 0 swap tail found 0 left 2", "2",
-        "LeftOther", [
-            "The recorded run: swap tail left 2. The lock here: left 1.",
-            "The step is line 3 of the code: “pred := swap(tail, me)”."]),
-    "a word on which no later step is": (
-        "lock mcs threads 2", LINKED + "1 write next of 0 left 2", "next of 0", "OtherWord", [
-            "The recorded run: write on next of 0. The lock here: write on locked of 1.",
-            "A step on locked of 1 may be missing before it, or this one is on the wrong word."]),
-    "a word of the thread's own record": (
-        "lock mcs threads 2", LINKED + "1 write next left 0", "next", "OtherWord", [
-            "The recorded run: write on next of 1. The lock here: write on locked of 1."]),
-    "the other word of the thread's own record": (
-        "lock mcs threads 2", "0 acquire; 0 write locked", "locked", "OtherWord", [
-            "The recorded run: write on locked of 0. The lock here: write on next of 0."]),
-    "a word of another lock": (
-        "lock mcs threads 2", "0 acquire; 0 write now_serving", "now_serving", "OtherWord", [
-            "The recorded run: write on now_serving. The lock here: write on next of 0."]),
-    "a word of no thread": (
-        "lock mcs threads 2", "0 acquire; 0 write next of 9", "next of 9", "OtherWord", [
-            "The recorded run: write on next of 9. The lock here: write on next of 0."]),
-    "a compare-and-swap that should fail": (
-        "lock mcs threads 2", LINKED + "0 release; 0 read; 0 cas tail done", "done",
-        "WroteOther", [
-            "The recorded run: cas tail done. The lock here: failed.",
-            "Thread 1 wrote tail last, in line 7: it left 2.",
-            "The step is line 12 of the code: “cas(tail, me, nil), or else:”."]),
-    "a count that does not grow": (
-        "lock rw-simple threads 2", "0 rlock; 0 section 3 entered; 1 rlock; 1 section 3 entered",
-        "3", "CountNotAbove", [
-            "The recorded run: section 3, after section 3. The counts of sections grow.",
-            "The count may be taken outside the monitor, or two lines are in the wrong order."]),
-    "a count of 0": (
-        "lock rw-simple threads 2", "0 rlock; 0 section 0", "0", "CountNotAbove", [
-            "The recorded run: section 0, after section 0."]),
-    "an outcome of a section": (
-        "lock rw-fifo threads 2", "0 wlock; 0 section entered; 1 rlock; 1 section 4 entered",
-        "entered", "OtherOutcome", [
-            "The recorded run: section entered. The lock here: waits.",
-            "Thread 0 wrote flag last, in line 3: it left 1.",
-            "A section may be missing before it, or two are in the wrong order."]),
-    "an outcome of a section that looks at two words": (
-        "lock rw-simple threads 2", "0 rlock; 0 section; 1 wlock; 1 section entered",
-        "entered", "OtherOutcome", [
-            "Thread 0 wrote readers last, in line 3: it left 1.",
-            "Nobody has written flag yet: it has its first value, 0."]),
-    "an outcome of a step on a word": (
-        "lock mcs threads 2", "0 acquire; 0 write moved; 0 swap moved", "moved", "OtherOutcome", [
-            "The recorded run: swap moved. The lock here: entered.",
-            "Nobody has written tail yet: it has its first value, 0.",
-            "The step is line 3 of the code: “pred := swap(tail, me)”."]),
-}
-
-
-@pytest.mark.parametrize("name", DIFFERENT)
-def test_differences(page, name):
-    """The page opens at the wrong step, crosses it out, and says both values and the cause."""
-    head, moves, wrong, code, said = DIFFERENT[name]
-    trace = text_of(head, moves_of(moves))
-    line = len(moves_of(moves)) + 1
-    page.open(LESSON)
-    page.js("paste", trace)
-    shown = page.shown(refused=True, moves=line - 2)
-    assert shown["place"] == line - 1 and shown["held"] == trace
-    assert page.text("#notice") == f"This is a trace. It differs from the lock in line {line}."
-    last = moves_of(moves)[-1]
-    assert page.js("marked") == [last, wrong]
-    for sentence in said:
-        for part in ("now", "spoken", "verdict"):
-            assert sentence in shown[part], (part, sentence, shown[part])
-    assert f"refused line {line} {code}" in shown["verdict"]
-    failed = sum("cas" in one for one in moves_of(moves)[:-1])
-    assert page.js("crosses") == [str(line - 1), 1 + failed, f"✕ {line}"]
-
-
-def test_a_write_that_is_noted_too_late(page):
-    """The page names the line of the late write, and steps through no line after a refusal."""
-    page.open(LESSON)
-    page.js("paste", text_of("lock ticket threads 2", moves_of(
-        "0 acquire; 0 add; 0 read; 0 release; 0 read; 1 acquire; 1 add; "
-        "1 read now_serving found 1; 0 write now_serving left 1; 1 release")))
-    shown = page.shown(moves=7, refused=True)
-    assert "found 1. The lock here: found 0." in shown["now"]
-    assert "Line 10 writes 1 there: perhaps that write is noted too late." in shown["now"]
-    page.press("ArrowRight")
-    assert page.shown()["place"] == 8
-
-
-def test_two_steps_in_the_wrong_order(page):
-    """The page names the line of the other step, if it is in the same call."""
-    page.open(LESSON)
-    page.js("paste", text_of("lock mcs threads 2", moves_of(
-        LINKED + "1 write next of 0 left 2; 0 release; 1 write locked left 1")))
-    assert ("Line 10 is on locked of 1: perhaps the two steps are in the wrong order."
-            in page.shown(refused=True)["now"])
-
-
-def test_a_move_that_the_machine_refuses(page):
-    """The page shows a refused move of a trace as one of a schedule. An earlier difference wins."""
-    page.open(LESSON)
-    page.js("paste", "lock mcs threads 2\n0 acquire\n0 swap tail found 0\n")
-    shown = page.shown(refused=True, moves=1)
-    assert "This is not the next step of thread 0." in shown["now"]
-    assert "refused line 3 WrongStep next write" in shown["now"]
-    assert page.js("marked") == ["0 swap tail found 0", "swap"]
-    page.js("paste", "lock mcs threads 2\n0 acquire\n0 write tail\n0 release\n")
-    assert "The lock here: write on next of 0." in page.shown(refused=True, moves=1)["now"]
 
 
 def test_missing_parts_are_not_compared(page):
@@ -229,6 +102,10 @@ def test_in_german(page):
         "Aufgezeichnet", "0 swap tail found 0 left 1",
         "Sperre hier", "tail found 0 left 1, entered"]
     assert page.text("#notice") == "Das ist ein Trace. In Zeile 7 weicht er von der Sperre ab."
+    page.js("paste", text_of("lock mcs threads 2", moves_of(
+        LINKED + "1 write next of 0 left 2; 0 release; 1 write locked left 1")))
+    assert ("Zeile 10 ist auf locked of 1: vielleicht sind beide Schritte vertauscht."
+            in page.shown(refused=True)["now"])
 
 
 WRONG = text_of("lock ticket threads 1", ["0 acquire", "0 add next_ticket found 1", "0 read"])
@@ -281,6 +158,20 @@ def test_it_stays_a_trace(page):
     assert page.js("recorded") == ["0 add next_ticket found 0", "next_ticket found 0 left 1, moved"]
 
 
+def test_a_trace_in_play_without_its_story(page):
+    """A story that no longer holds is left out, and what is said of a line goes with the line."""
+    noted = RIGHT.replace("0 read\n", "# line {} is lock.c:9\n0 read\n")
+    page.open(LESSON)
+    page.js("paste", f"# A run\n{noted.format(4)}0 release\n0 read\n")
+    page.press("g")
+    page.go(3)
+    page.js("choose", 0, "release")
+    assert page.shown(moves=4)["held"] == f"{noted.format(3)}0 release\n"
+    page.go(2)
+    assert page.js("recorded") == ["0 add next_ticket found 0 lock.c:9",
+                                   "next_ticket found 0 left 1, moved"]
+
+
 def told():
     """Each trace of a refusal in tests/rows, and the answer of `locktrace check` in JSON."""
     for name, row in transcripts().items():
@@ -293,7 +184,7 @@ def told():
 def test_the_program_says_the_same(page):
     """The page refuses the line that the program refuses, with the same fault and values."""
     answers = list(told())
-    assert len(answers) == 8
+    assert len(answers) == 9
     page.open(LESSON)
     for trace, answer in answers:
         page.js("paste", trace)
@@ -354,8 +245,10 @@ def test_lines_of_the_source(page):
     page.js("paste", NOTED)
     shown = page.shown(refused=True, moves=3)
     assert page.text("#now .source") == page.text("#verdict .source") == "wrong.c:14"
-    assert ("Thread 0 wrote next_ticket last, in line 5 (wrong.c:13): it left 1."
-            in shown["spoken"])
+    for said in ["Thread 0 wrote next_ticket last, in line 5 (wrong.c:13): it left 1.",
+                 "The word had 0 until line 5: perhaps this add was a load and a store, or is "
+                 "noted too late."]:
+        assert said in shown["spoken"], shown
     assert page.js("recordedAt", 3) == [
         ["1 acquire wrong.c:10"], ["0 acquire wrong.c:10"],
         ["0 add next_ticket found 0 wrong.c:13", "next_ticket found 0 left 1, moved"]]
@@ -374,10 +267,14 @@ def test_lines_of_the_source(page):
     (RIGHT.replace("found 0", "found 18446744073709551616"), "fault line 3 BadLine", 1),
     (RIGHT.replace("found 0", "found nil"), "fault line 3 BadLine", 1),
     (RIGHT.replace("found 0", "done"), "fault line 3 BadLine", 1),
+    (RIGHT.replace("found 0", "left 18446744073709551616"), "fault line 3 BadLine", 1),
+    ("lock mcs threads 2\n0 acquire\n0 write next of 256\n", "fault line 3 BadLine", 1),
+    ("lock mcs threads 2\n0 acquire\n0 write\n0 swap tail of 1\n", "fault line 4 BadLine", 2),
     (f"{WRONG}0 looks\n", "refused line 3 FoundOther", 1),
     (f"{RIGHT}0 looks\n", "fault line 5 BadLine", 3),
 ], ids=["comments", "ended", "no end", "returns", "a return", "no header", "a log", "a zero",
-        "too large", "nil", "a result", "a fault after it", "a fault"])
+        "too large", "nil", "a result", "too large to be left", "no such thread",
+        "a word of no thread", "a fault after it", "a fault"])
 def test_texts(page, text, said, count):
     """Comments, faults and texts that are no traces get their usual messages."""
     page.open(LESSON)

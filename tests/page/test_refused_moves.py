@@ -36,10 +36,12 @@ FAULTS = [
 def check_scene(page, count, last, parts):
     shown = page.shown()
     assert "refused" in shown["now"], shown
-    for part in [last, *parts]:
+    for part in [last, *parts, f"✕Line {last.split()[2]}:"]:
         assert part in shown["now"]
     assert page.js("attribute", "#lanes [data-refused]", "data-move") == str(count + 1)
-    assert shown["position"] == "refused", shown
+    assert page.js("farFromColumn") == 0
+    assert shown["position"] == page.js("attribute", "#slider", "aria-valuetext") == "refused"
+    assert page.js("attribute", "#slider", "max") == page.js("value", "#slider") == str(count + 1)
     assert shown["spoken"].startswith("refused"), shown
 
 
@@ -59,6 +61,18 @@ def test_lesson(page, name, count, last, parts):
     assert is_crossed
     for part in [last, *parts]:
         assert part in paper
+    assert page.text("#paper .wrong-part h3").startswith(f"Line {last.split()[2]}: ")
+
+
+def test_who_holds(page):
+    """Beside the reason are those who hold, who are readers if they are several."""
+    page.open("#lesson=refused-already-holds&move=3")
+    assert page.js("texts", "#now [data-holders] .pill") == ["thread 0"]
+    assert page.js("texts", "#now [data-decided] span") == [
+        "move 2: 0 section", "found readers = 0"]
+    page.show("lock rw-simple threads 3\n0 rlock\n0 section\n1 rlock\n1 section\n2 runlock\n", 5)
+    assert ("Thread 0, thread 1 hold the lock and read.Here thread 2 could call “rlock” or call "
+            "“wlock”.") in page.text("#now")
 
 
 def test_the_word_that_decided_it(page):
@@ -93,6 +107,7 @@ def test_the_line_that_is_due(page, name, code):
 @pytest.mark.parametrize("name, last, parts", FAULTS, ids=[row[0] for row in FAULTS])
 def test_fault_on_paper(page, name, last, parts):
     page.open(f"#lesson=fault-{name}&move=0")
+    assert page.shown()["mode"] == "own", "the panel of the text is open"
     paper, _ = page.js("onPaper")
     for part in [last, *parts]:
         assert part in paper
@@ -114,6 +129,8 @@ def test_a_wrong_step_in_play(page):
     """The page says why the step is wrong. Another choice replaces it, and undo brings it back."""
     page.open("#lesson=mcs-late-link&move=8")
     page.press("g", "w")
+    assert page.js("count", "#every:checked") == 1
+    assert page.js("count", "#choices :is(.due, .may)") == 0, "nothing shows what is accepted"
     page.js("choose", 0, "write")
     check_scene(page, 8, f"refused line {WRONG_LINE} WrongStep next cas",
                 ["The next step is “cas”", "found Ann.next = nil",

@@ -29,15 +29,25 @@ def test_marks_and_places(page):
         assert shown["blanks"] == moves and shown["lines"] == 2, (name, shown)
         assert shown["discs"] == 0, "no thread has a line before the first move"
         assert shown["words"] >= 2 and shown["places"] >= 2, (name, shown)
-        # Arrows are between the places of the queue, of which one more is for the holder.
+        # Arrows are between the places of the queue, of which one more is for the holder. The
+        # queue has a place for each thread.
         assert shown["places"] - shown["arrows"] == 2 * shown["pictures"], (name, shown)
+        assert shown["places"] == shown["pictures"] * (1 + shown["threads"]), (name, shown)
 
 
 WORDS = {
     "ticket-hand-over": (["next_ticket", "now_serving"], []),
     "mcs-late-link": (["tail"], [["Ann", "next,locked", 2], ["Bob", "next,locked", 2]]),
+    "mcs-third-linked-before-second": (
+        ["tail"], [[f"thread {one}", "next,locked", 2] for one in range(3)]),
     "simple-downgrade": (["readers", "flag"], []),
     "fifo-downgrade": (["readAcquires", "readReleases", "flag"], [])}
+
+
+# As wide as three records of 150 with gaps of 62, or 460. Words end at 90, records at 218, and two
+# rows of places are below, of 44 and with an edge of 40.
+SIZES = {name: "0 0 636 302" if name == "mcs-third-linked-before-second" else
+         "0 0 460 302" if name == "mcs-late-link" else "0 0 460 174" for name in WORDS}
 
 
 @pytest.mark.parametrize("name", WORDS)
@@ -46,6 +56,8 @@ def test_words_to_be_filled_in(page, name):
     page.open(f"#lesson={name}&move=0")
     page.js("sheet")
     words, records = WORDS[name]
+    assert page.js("texts", "#paper .figure > div:first-child .note")[:2] == ["Holds", "Queue"]
+    assert page.js("viewBoxes") == [SIZES[name]] * page.js("count", "#paper .figure svg")
     assert page.js("blankMemory") == [words, True, records]
 
 
@@ -79,6 +91,8 @@ def test_the_mark_that_is_explained(page):
     page.js("sheet")
     explained, drawn = page.js("blanks")
     assert len(explained) == len(drawn) == 1 and explained == drawn, (explained, drawn)
+    assert page.js("texts", "#paper .legend > span > span") == [
+        "to fill in", "called", "moved: the call goes on", "waits: failed poll", "entered", "left"]
 
 
 @pytest.mark.parametrize("name, move", [
@@ -147,3 +161,4 @@ def test_questions_of_the_first_moves(page):
     page.js("sheet")
     assert page.js("texts", "#paper .asked dt") == ["0", "1", "2"]
     assert page.js("texts", "#paper .asked dd") == ["Number 0?", "Number 1?", "Number 2?"]
+    assert page.text("#now .question p") == "Question: Number 0?"

@@ -3,7 +3,7 @@ import re
 
 import pytest
 
-from test_each_state import Replay
+from replayed import Replay
 from tree import EXAMPLES, cases
 
 LOCKS = ["ticket", "mcs", "rw-simple", "rw-fifo"]
@@ -18,6 +18,12 @@ def test_without_a_link(page):
     assert what.count(".") == 2 and "one atomic step at a time" in what, what
     cards = page.js("cards")
     assert [card["lock"] for card in cards] == LOCKS
+    assert [card["says"] for card in cards] == [
+        "First come, first served. Begin here.", "Each thread waits at a word of its own.",
+        "Readers share the lock. They can keep a writer out for ever.",
+        "A writer announces itself. Later readers wait for it."]
+    assert page.js("framed") == ["ticket-hand-over"], "the lesson that is shown below it"
+    assert page.js("count", "#lessons .kept") == 0
     listed = [name for card in cards for name, _ in card["lessons"]]
     assert sorted(listed) == sorted(path.stem for path in EXAMPLES.glob("*.schedule")
                                     if not path.stem.startswith(REFUSED))
@@ -109,6 +115,7 @@ def test_who_is_which_thread(page, language, said):
         names = "".join(f"#! name {thread} N{thread}\n" for thread in range(most))
         page.show(f"{names}lock ticket threads 10\n")
         assert page.text("#now .names").count(" N") == (9 if most == 9 else 0), most
+    assert page.text("#resting").startswith("2 "), "of ten threads eight are drawn before any move"
 
 
 def test_the_end_of_a_lesson(page):
@@ -118,11 +125,19 @@ def test_the_end_of_a_lesson(page):
     assert "What to keep: Take a number, wait until it is shown" in last, last
     button = page.text("#now [data-next]")
     assert button.startswith("Next: The order is that of tickets, not of calls"), button
+    page.press("Enter")
+    assert page.js("lessonNow") == "ticket-order-of-tickets", "the key works without a step"
+    page.press("Enter")
+    assert page.js("lessonNow") == "ticket-order-of-tickets", "it is not at its end"
+    page.js("back")
+    page.shown(lesson="ticket-hand-over", position="10 of 10")
     page.press("ArrowRight", "Enter")
-    assert page.js("lessonNow") == "ticket-order-of-tickets"
+    assert page.js("lessonNow") == "ticket-order-of-tickets", "a step leads to the button"
     # A lesson that was only begun is not ticked off.
     page.press("ArrowRight", "o")
     assert page.js("ticked") == ["ticket-hand-over"]
+    # Under this name earlier versions of the page have kept it.
+    assert page.js("stored", "lockreplay.done") == '["ticket-hand-over"]'
 
 
 def test_the_end_of_a_schedule_of_ones_own(page):
@@ -140,17 +155,33 @@ def test_a_refused_move_ends_its_lesson(page):
     page.open("#lesson=refused-busy&move=1")
     page.press("o")
     assert page.js("ticked") == []
+    assert page.js("refusals") == [12, True] and page.js("chosen") == "refused-busy"
+    assert page.js("texts", ".refusals h4") == ["Refused moves", "Texts that are not schedules"]
+    assert page.js("texts", ".refusals h4 + ol > :first-child .soft") == [
+        "refused-no-such-thread", "fault-no-header"]
     page.press("Escape", "ArrowRight", "o")
     assert page.js("ticked") == ["refused-busy"]
+    page.press("Escape")
+    page.lesson("fault-bad-header")
+    page.press("o")
+    assert page.js("ticked") == ["refused-busy"], "a text without a move has no end"
 
 
 def test_what_was_kept_is_near_the_top(page):
     page.resize(1366, 768)
     page.open("#lesson=mcs-late-link&move=3")
-    page.show("#! title Mine\nlock mcs threads 2\n0 acquire\n")
+    page.show("lock mcs threads 2\n")
+    page.show("#! title Mine\nlock mcs threads 2\n0 acquire\n", 1)
     page.press("e", "o")
     assert page.js("topOf", "#lessons [data-kept]") < 250
-    assert "Mine" in page.text("#lessons .kept")
+    assert page.js("texts", "#lessons [data-kept]") == [
+        "Mine at move 1", "Your own schedule at move 0"]
+    assert page.js("count", "#lessons .kept details") == 0
+    page.press("Escape")
+    for number in range(12):
+        page.show(f"#! title of {number}\nlock mcs threads 2\n")
+    page.press("o")
+    assert page.js("texts", "#lessons .kept summary") == ["2 more"], "of fourteen"
 
 
 def test_the_ways(page):
@@ -202,13 +233,16 @@ def test_which_term_a_word_is(page):
     """A word is marked if it is a term of the glossary or a form of one, the longest term first,
     and not if it is a part of another word."""
     page.open()
-    page.show("#! say 1 Who Holds words and steps moves, polls, and is linked after a failed poll; "
-              "a holder of a word, no keyword and no step-by-step.\n"
-              "lock ticket threads 1\n0 acquire\n", 1)
+    page.show("#! say 1 Who Holds words and steps moves, polls, and is linked after a failed "
+              "poll; a holder of a word, no keyword and no step-by-step.\n"
+              "#! say 1 A late link, a record, a call; sections and a section announce the queue "
+              "of a linearization point.\nlock ticket threads 1\n0 acquire\n", 1)
     assert page.js("terms", "#now .own-say") == [
         ["Holds", "holder"], ["words", "word"], ["steps", "step"], ["moves", "move"],
         ["polls", "poll"], ["linked", "link"], ["failed poll", "failed poll"],
-        ["holder", "holder"], ["word", "word"]]
+        ["holder", "holder"], ["word", "word"],
+        *([term, term] for term in ["late link", "record", "call", "section", "announce", "queue",
+                                    "linearization point"])]
 
 
 def test_a_term_at_the_foot_of_the_window(page):
@@ -229,6 +263,8 @@ def test_one_card_plays_at_a_time(page):
     page.before("keepClocks")
     page.open()
     assert page.js("clocks") == [800], "the lesson to begin with has the focus"
+    page.js("atCard", "mcs", "pointerenter")
+    assert page.js("clocks") == [800], "the first card has stopped, though it has the focus"
     for event, playing in [("pointerleave", []), ("pointerenter", [800]), ("focusout", [])]:
         page.js("atCard", "mcs", event)
         assert page.js("clocks") == playing, event

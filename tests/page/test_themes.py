@@ -21,11 +21,21 @@ def test_themes(page, is_dark):
     assert light > 0.8 and dark < 0.05, grounds
 
 
+def test_a_theme_that_there_is_not(page):
+    """A browser that keeps another theme has that of the system, and the button the other one."""
+    page.before("keepTheme", "pink")
+    page.open(LATE_LINK)
+    assert page.js("theme") == "" and page.text("#theme").startswith("Dark ")
+    page.press("d")
+    assert page.js("theme") == "dark" and page.text("#theme").startswith("Light ")
+
+
 def test_without_colour(page):
     """Each meaning of a colour has a pattern, a shape or a word as well."""
     page.open("#lesson=fifo-reader-waits-behind-writer&move=6")
     line, reads, call = page.js("fills", ["queue", "reads", "call"])
     assert "hatch" in line and "ruled" in reads and "url" not in call
+    assert page.js("linesOfPatterns") == ["wait", "hold"]
     words = page.js("texts", "#now .pill, #now .outcome")
     assert words and all(words), words
 
@@ -39,6 +49,64 @@ def test_a_word_in_a_bar(page, moves, word):
     assert page.js("wordsInBars") == [[word, True]]
 
 
+# The states in which threads stand so, and the grounds of their bars, discs, pills and heads, by
+# the names of colours and patterns.
+STATES = [("mcs-late-link", 9), ("mcs-late-link", 12), ("simple-downgrade", 3),
+          ("fifo-reader-waits-behind-writer", 6), ("ticket-hand-over", 10)]
+GROUNDS = {
+    ".span.call": "faint", ".span.queue": "hatch", ".span.holds": "hold", ".span.reads": "ruled",
+    ".span.writes": "hold", ".token.call circle": "card", ".token.queue circle": "wait-under",
+    ".token.holds circle": "hold", ".token.reads circle": "read", ".token.writes circle": "hold",
+    ".disc.call": "card", ".disc.queue": "wait-under", ".disc.holds": "hold", ".disc.reads": "read",
+    ".disc.writes": "hold", ".pill.queue": "wait-under", ".pill.holds": "hold",
+    ".pill.reads": "read", ".pill.writes": "hold", ".record.holds .head": "hold",
+    ".record.queue .head": "hatch", ".record.queue .plate": "card", ".here-column": "here",
+    ".word.changed": "here", ".code-line.here": "here", ".step": "card", ".call-mark": "ink",
+    ".outcome.entered": "hold", ".outcome.waits": "wait-under",
+}
+# The colours of lines and letters. Letters on the colour of who holds are as white as a card.
+INKS = {
+    ".step:not(.fails)": "ink", ".step.waits": "ink", ".step.fails": "bad", ".cross": "bad",
+    ".arrow": "ink", ".unlinked": "bad", ".unlinked-text": "bad", ".found.fails": "bad",
+    ".missing-text": "bad", "#memory-says .missing": "bad", ".gap.missing": "bad",
+    ".outcome.fails": "bad", ".link:not(.missing)": "ink", ".link.missing": "bad",
+    ".word.changed": "ink", ".word.read": "ink", ".span.queue": "wait", ".span.reads": "hold",
+    ".record.holds .frame": "hold", ".record.queue .frame": "wait", ".token.queue circle": "wait",
+    ".token.reads circle": "hold", ".token.call circle": "faint", ".disc.queue": "wait-ink",
+    ".disc.holds": "card", ".pill.queue": "wait-ink", ".pill.holds": "card", ".pill.reads": "ink",
+    ".number.here": "ink", ".word-label.here": "ink",
+}
+
+
+def test_grounds_of_standings(page):
+    """A thread has the colour of its standing in the lanes, in memory, in the code and in lists."""
+    page.open()
+    grounds, inks = {}, {}
+    for lesson, move in STATES:
+        page.lesson(lesson, move)
+        page.press("a")
+        grounds |= page.js("groundsOf", list(GROUNDS))
+        inks |= page.js("inksOf", list(INKS))
+    assert grounds == GROUNDS
+    assert inks == INKS
+    assert page.js("weights", "#numbers .number.here") == ["700"]
+    assert page.js("weights", "#numbers .number:not(.here)") == ["400"]
+
+
+def test_how_thick_bars_are(page):
+    """A call is a line, who waits has a low bar, and who holds the lock a high one."""
+    page.open("#lesson=mcs-late-link&move=12")
+    assert page.js("heightsOfBars") == {"call": ["3"], "queue": ["14"], "holds": ["24"]}
+
+
+def test_what_comes_is_faint(page):
+    """Later marks are faint, and so are the arrows to them."""
+    page.open("#lesson=mcs-late-link&move=13&future")
+    faint = page.js("faintMoves")
+    assert faint == [[move, move > 13] for move in range(1, 17)]
+    assert page.js("count", "#lanes .arrow.future:not(.halo)") == 2
+
+
 MOVES = "0 acquire\n0 write\n0 swap\n1 acquire\n1 write\n1 swap\n"
 NAMES = "#! name 0 Wilhelmina\n#! name 1 Montgomery\n"
 LONGER_NAMES = "#! name 0 Wilhelmina of the second row\n#! name 1 Montgomery of the first row\n"
@@ -50,6 +118,9 @@ def test_heads_have_room(page, names):
     """A thread's name in the head of its record does not run into its standing."""
     page.open()
     assert page.js("heads", f"{names}lock mcs threads 2\n{MOVES}") == [True, True]
+    page.press("Escape", "h")
+    assert page.js("heads", f"{names}lock mcs threads 2\n{MOVES}") == [True, True]
+    assert page.js("count", "body.hall") == 1
 
 
 def test_names_are_whole(page):
@@ -71,6 +142,14 @@ def test_names_that_are_cut(page):
         assert shown[f"{part}Whole"][:2] == whole, (part, shown)
     assert shown["next"].endswith("…") and shown["nextWhole"] == whole[1], shown
     assert shown["inside"], shown
+    # Letters are larger in a hall, and measured anew for it.
+    text = f"{LONGER_NAMES}lock mcs threads 2\n{MOVES}"
+    page.js("showEnd", text)
+    page.press("Escape", "h")
+    heads = page.js("texts", ".record > .name")
+    page.open(f"{LATE_LINK}&hall")
+    page.js("showEnd", text)
+    assert page.js("texts", ".record > .name") == heads
 
 
 def test_sentences_begin_so(page):
@@ -118,6 +197,9 @@ def test_a_link_that_is_missing(page):
     page.open("#lesson=mcs-late-link&move=12")
     assert page.js("texts", "#now [data-queue] .gap") == ["⇢"]
     assert page.js("count", "#memory-picture .link.missing") == 1
+    assert [page.js("isDashed", f"#memory-picture .link{kind}")
+            for kind in (".missing", ":not(.missing)")] == [True, False]
+    assert page.js("weights", ".record .field") == ["400"], "of a label in memory, not in the quiz"
     assert page.text("#memory-says .missing") == "Ann is followed by Bob, and only Bob knows."
     page.go(14)
     assert page.js("texts", "#now [data-queue] .gap") == ["→"]
@@ -133,6 +215,7 @@ def test_the_wheel(page):
               for at, center in zip(place, middle)] for place in places]
     # Right and down count as 1. The places are above, right, below, left.
     assert sides == [[0, -1], [1, 0], [0, 1], [-1, 0]], places
+    assert "2 bits: 4 numbers, then 0 again" in page.js("texts", "#memory-picture .note")
 
 
 @pytest.mark.parametrize("lock", ["ticket", "rw-fifo"])
@@ -157,7 +240,14 @@ def test_whose_ticket_it_is(page):
     page.show(f"lock ticket threads 2\n{TICKETS}", 4)
     assert page.js("texts", "#memory-picture .cell + text") == ["0", "1", "2"]
     assert page.js("texts", "#memory-picture .cell.next + text") == ["2"]
+    assert page.js("isDashed", ".cell.next") and not page.js("isDashed", ".cell:not(.next)")
+    assert page.js("texts", "#memory-picture .cell.next + text + .note") == ["next"]
+    assert page.js("texts", "#memory-picture .note")[0] == "Tickets in the order of the queue"
     assert page.js("texts", "#memory-picture .cell + text + .token text") == ["0", "1"]
+    # Thread 0 has read which ticket it serves.
+    page.show(f"lock ticket threads 2\n{TICKETS}0 read\n0 release\n0 read\n", 7)
+    assert page.js("texts", "#memory-picture .own ~ text")[-2:] == [
+        "served = 0", "thread 0’s own variable"]
 
 
 def test_a_write_is_a_change(page):
@@ -228,6 +318,13 @@ def test_shapes_of_outcomes(page):
             for move in marks} == marks
     signs = {"entered": "path", "left": "rect", "waits: failed poll": "circle"}
     assert {label: page.js("signShape", label) for label in signs} == signs
+
+
+def test_which_lesson_is_shown(page):
+    """The start marks the lesson that is open, by an edge in the colour of letters."""
+    page.open("#lesson=mcs-late-link&move=3")
+    page.press("o")
+    assert page.js("markedLessons") == ["mcs-late-link"]
 
 
 def test_a_failed_poll_is_dashed(page):

@@ -3,6 +3,9 @@ import pytest
 
 from tree import cases
 
+# The command key of a Mac.
+META = "\ue03d"
+
 
 def buttons(page):
     """How many buttons of Undo are enabled."""
@@ -11,7 +14,8 @@ def buttons(page):
 
 @cases("undo", {
     "button": lambda page: page.click("#undo"), "key": lambda page: page.press("u"),
-    "control": lambda page: page.press("Control+z")})
+    "control": lambda page: page.press("Control+z"),
+    "command": lambda page: page.press(f"{META}+z")})
 def test_choices_are_undone(page, undo):
     """Undo takes back the last choice, and then the first, which brings the whole lesson back."""
     page.open("#lesson=mcs-late-link&move=7")
@@ -25,6 +29,9 @@ def test_choices_are_undone(page, undo):
     assert page.shown(position="9 of 9")["area"] == branch["area"] + "1 swap\n"
     undo(page)
     assert page.shown(position="8 of 8") == branch
+    page.lesson("ticket-hand-over")
+    undo(page)
+    assert page.shown(position="8 of 8") == branch, "with the lesson's title"
     undo(page)
     assert page.shown(position="7 of 16") == lesson
 
@@ -58,18 +65,21 @@ def test_a_new_text_is_undone(page):
     page.press("e")
     lesson = page.shown()
     page.click("#clear")
-    page.shown(lesson=None)
+    assert page.shown(lesson=None)["held"] == "lock mcs threads 2\n0 acquire\n"
     assert buttons(page) == 2
     page.click("#undo-own")
     assert page.shown(lesson="ticket-hand-over") == lesson
 
 
 def test_a_letter_in_the_text_is_no_undo(page):
+    """In the text, Ctrl+Z is the field's own, too."""
     page.open("#lesson=ticket-hand-over&move=5")
     page.press("e")
     page.click("#clear")
     before = page.shown()["area"]
     page.click("#text")
+    page.press("Control+z")
+    assert page.shown()["lesson"] is None
     page.press("u")
     after = page.shown(lesson=None)["area"]
     assert len(after) == len(before) + 1 and after.replace("u", "") == before.replace("u", "")

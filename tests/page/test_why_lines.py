@@ -30,7 +30,18 @@ def walk(page, lock):
     return shown
 
 
-def check_harm(change):
+# Why a change of a lock is harmless, as docs/LOCKS.md says.
+HARMLESS = {
+    "ticket": "The release could do without its read of now_serving: the holder's own ticket is "
+              "there.",
+    "mcs": "The release could do without its first read, too: if there is a successor, the "
+           "compare-and-swap fails, and the release awaits the link.",
+    "rw-fifo": "A FIFO writer that set its flag only as it entered would break no promise, but "
+               "would wait for readers that come after it.",
+}
+
+
+def check_harm(lock, change):
     """The harm is at the last move, or after it if a call can never end. The reader can play a run
     with the changed step, and the dialog says why a harmless change is harmless."""
     stuck = "can never end" in change["verdict"]
@@ -39,6 +50,8 @@ def check_harm(change):
     assert change["plays"] == [True] * bool(change["changed"]), change
     if stuck:
         assert change["said"] == [STUCK if change["changed"] else LATER], change
+    if harmless:
+        assert change["said"] == [HARMLESS[lock]], change
     assert bool(change["said"]) == (stuck or harmless), change
 
 
@@ -58,7 +71,7 @@ def test_each_change_is_at_its_line(page, lock):
         for change in one["changes"]:
             steps = [re.findall(r"\w+", move)[1] for move in change["moves"]]
             assert change["code"] == [code.get(name, "") for name in steps]
-            check_harm(change)
+            check_harm(lock, change)
             assert change["changed"] == [at for at, name in enumerate(steps, 1) if name == step]
     assert sum(len(one["changes"]) for one in shown) == len(list(told(lock)))
 
@@ -77,6 +90,8 @@ def test_two_by_hand(page):
         "code": ["", "ticket := add(next_ticket, 1)", "", "ticket := add(next_ticket, 1)",
                  "await now_serving = ticket"],
         "changed": [2, 4], "harmed": [5], "said": [], "plays": [True]}
+    assert page.js("texts", "#why-changes section:first-of-type li mark") == [
+        "changed", "changed", "✕ goes wrong here"]
     page.open("#lesson=simple-second-writer&move=2")
     page.press("y")
     one = page.js("stop")
@@ -117,8 +132,11 @@ def test_keys(page):
     page.open(f"{LATE_LINK}9")
     page.press("y")
     assert page.js("isOpen") and page.js("stop")["lines"] == [12]
+    assert page.js("focused") == "why-next"
+    # A browser gives the number, or the attribute that has it.
+    assert page.js("numberOfLine") in ('"12"', "attr(data-number)")
     for key, line in [("ArrowRight", 13), ("ArrowLeft", 12), ("Home", 1), ("ArrowLeft", 1),
-                      ("End", 14), ("Enter", 14), ("PageUp", 14)]:
+                      ("End", 14), ("Enter", 14), ("PageUp", 14), ("Control+ArrowLeft", 14)]:
         page.press(key)
         assert page.js("stop")["lines"] == [line], key
     page.press("y")
@@ -128,11 +146,18 @@ def test_keys(page):
     # A step stops once at a question.
     page.press("ArrowRight", "ArrowRight", "y")
     assert page.js("stop")["lines"] == [13]
+    # The next question is seven slow moves away.
+    page.press("y", "Home", ",", "Space")
+    assert page.js("isRunning")
+    page.press("y")
+    assert not page.js("isRunning"), "the moves do not go on below the dialog"
 
 
 def test_by_hand(page):
     """Clicks on lines of the page and of the dialog choose a line, and so do the buttons."""
     page.open(f"{LATE_LINK}9")
+    assert page.js("attribute", "#code-lines", "title") == (
+        "A click on a line, or key Y, says why it is there")
     page.click(".code-line[data-phase=SetLocked]")
     assert page.js("stop")["lines"] == [5]
     page.press("Escape")
@@ -167,10 +192,12 @@ def test_each_line_begins_at_its_top(page, way):
 def test_a_run_is_played(page):
     """The unchanged lock plays the turns of the run unharmed, and Y leads back to the change."""
     page.open(f"{LATE_LINK}9")
-    page.press("y")
+    page.press("g", "y")
     assert page.text("[data-play='0']") == "Play the lock as it is in these turns"
     page.click("[data-play='0']")
     shown = page.shown(position="0 of 7", mode="lessons")
+    assert page.text("#now .own-say") == (
+        "In these turns the changed lock goes wrong; the lock as it is does not.")
     assert shown["title"] == "The lock as it is, in the turns of: CasTail, if its write is left out"
     assert shown["text"].split("\nlock ")[1].splitlines() == [
         "mcs threads 2", "0 acquire", "0 write", "0 swap", "0 release", "0 read", "0 cas",
@@ -183,21 +210,27 @@ def test_a_run_is_played(page):
         "1 Idle.")
     page.press("y")
     assert page.js("stop")["lines"] == [12] and page.js("isAtPlayed", 0)
+    page.press("Escape")
+    page.click(".code-line[data-phase=SetLocked]")
+    assert page.js("stop")["lines"] == [5], "a click chooses its own line"
     page.press("Escape", "u")
     page.shown(lesson="mcs-late-link", position="9 of 16")
 
 
 @cases("look", {
-    "another line": ["y", "ArrowRight"], "the last line": ["y", "End"]})
+    "another line": ["y", "ArrowRight"], "the last line": ["y", "End"],
+    "another lock": ["o", "[data-why=ticket]"]})
 def test_back_to_the_change_after_a_look_elsewhere(page, look):
     """Y leads to the change that was played, whatever was looked at since."""
     page.open(f"{LATE_LINK}9")
     page.press("y")
     page.click("[data-play='2']")
     for act in look:
-        page.press(act)
+        (page.click if act.startswith("[") else page.press)(act)
     assert page.js("stop")["lines"] != [12]
-    page.press("Escape", "y")
+    page.press("Escape")
+    page.becomes(0, "count", "dialog[open]")
+    page.press("y")
     assert page.js("stop")["lines"] == [12] and page.js("isAtPlayed", 2)
     assert page.text("#why-title") == "Why each line is there: MCS queue lock"
 
@@ -216,6 +249,8 @@ def test_a_run_that_the_lock_refuses(page):
         "goes on with “0 acquire”.")
     page.press("y")
     assert page.js("stop")["lines"] == [12] and page.js("isAtPlayed", 2), "the third change"
+    page.press("n")
+    assert page.js("count", "#why-changes section:nth-of-type(3).stepped") == 1
 
 
 def test_a_split_step(page):
@@ -289,15 +324,35 @@ def test_in_german(page):
     assert page.text("#now .own-say").startswith("Hier geändert: CasTail, wenn er ein Lesen")
 
 
+HOW_IN_GERMAN = {
+    "its write is left out": "sein Schreiben entfällt",
+    "the flag is not written": "das flag nicht geschrieben wird",
+    "the counts are not written": "die Zähler nicht geschrieben werden",
+    "it finds 0, whatever is there": "er 0 findet, was auch immer da steht",
+    "it finds the thread's own, whatever is there":
+        "er das Eigene des Threads findet, was auch immer da steht",
+    "it does not look at the flag": "er nicht auf das flag sieht",
+    "it does not look at the readers": "er nicht auf die Leser sieht",
+    "it writes nothing before it enters": "er vor dem Eintritt nichts schreibt",
+    "it is a load and then a store": "er ein Lesen und danach ein Schreiben ist",
+    "the step after it comes first": "der Schritt nach ihm zuerst kommt",
+    "the release returns in its place": "das release an seiner Stelle endet",
+}
+
+
 @pytest.mark.parametrize("lock", LOCKS)
 def test_german_sentences(page, lock):
-    english = {change[name] for change in told(lock) for name in ("how", "verdict")}
+    """No verdict is in English, and each change is named by what it is."""
+    english = {change["verdict"] for change in told(lock)}
     page.open(f"{LATE_LINK}0&lang=de")
     page.press("o")
     page.click(f"[data-why={lock}]")
-    for _ in stops(lock):
+    for _, step in stops(lock):
         said = page.text("#why-changes")
         assert not [one for one in english if one in said], said
+        assert [one["how"] for one in page.js("changes")] == [
+            f"Wenn {HOW_IN_GERMAN[change['how']]}" for change in told(lock)
+            if change["step"] == step]
         page.press("ArrowRight")
 
 

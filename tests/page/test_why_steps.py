@@ -151,6 +151,7 @@ def test_steps_by_mouse(page):
     assert page.js("at") == [1, 1]
     page.click("[data-of='0'][data-count='6']")
     assert page.js("at") == [0, 6] and page.js("step")["head"].endswith(" changed")
+    assert page.js("outlines") == ["solid"], "the current move alone has a frame"
     page.press("p")
     assert page.js("at") == [0, 5]
 
@@ -163,7 +164,9 @@ def test_a_screen_reader_follows(page):
     page.press("n", "n", "n")
     assert page.js("texts", "#why li[aria-current=step]") == ["0 SwapTail pred := swap(tail, me)"]
     assert page.js("attribute", ".stepped .why-step", "role") == "status"
-    assert page.js("texts", "#why .hint")[0].endswith("Keys N and P go from move to move of a run.")
+    hint = page.js("texts", "#why .hint")[0]
+    assert hint.endswith("Keys N and P go from move to move of a run.")
+    assert "with 2 threads and 2 rounds each, is harmless: all 325 states were searched." in hint
 
 
 def test_steps_in_german(page):

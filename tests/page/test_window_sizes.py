@@ -101,9 +101,29 @@ def test_how_parts_are_arranged(page):
 def test_whose_variables(page):
     """The picture shows Bob's predecessor, which he found by the swap, and Ann's successor."""
     page.open("#lesson=mcs-late-link&move=12")
-    assert page.js("texts", "#memory-picture .record .own + text") == ["pred = Ann"]
+    own = "#memory-picture .record .own ~ text"
+    assert page.js("texts", own) == ["pred = Ann", "Bob’s own variable"]
     page.go(14)
-    assert page.js("texts", "#memory-picture .record .own + text") == ["succ = Bob"]
+    assert page.js("texts", own) == ["succ = Bob", "Ann’s own variable"]
+
+
+def test_how_large_memory_is(page):
+    """Where there is room, memory is drawn larger, up to 1.3 times, and else smaller."""
+    for width, height, least, most in [(1920, 1080, 1.3, 1.3), (1440, 900, 1, 1.3),
+                                       (1024, 600, 0.6, 1)]:
+        page.resize(width, height)
+        page.open(LESSON)
+        scale, fits = page.js("scaleOfMemory")
+        assert least <= round(scale, 2) <= most and fits, (width, scale)
+
+
+def test_how_high_lanes_are(page):
+    """Two lanes are as high as can be, 85 each with a foot of 6; on a phone they have 100 at least,
+    and in the lowest windows 82."""
+    for width, height, lanes in [(1440, 900, 176), (360, 640, 100), (844, 390, 82)]:
+        page.resize(width, height)
+        page.open(LESSON)
+        assert page.js("heightOfLanes") == lanes, (width, height)
 
 
 def test_the_line_in_the_lowest_window(page):

@@ -2,8 +2,64 @@
 
 const isDark = () => matchMedia('(prefers-color-scheme: dark)').matches;
 
+// Before the page's script: what the browser keeps of an earlier choice.
+function keepTheme(name) {
+  if (location.protocol === 'file:') localStorage.setItem('lockreplay.theme', name);
+}
+
+const weights = (selector) => [...new Set(all(selector).map((one) => (
+  getComputedStyle(one).fontWeight)))];
+
 const ground = () => styleOf('body').backgroundColor;
 const fills = (kinds) => kinds.map((kind) => styleOf(`#lanes .span.${kind}`).fill);
+
+const COLOURS = ['card', 'ink', 'faint', 'hold', 'read', 'wait', 'wait-under', 'wait-ink', 'bad',
+  'here'];
+
+// The name of a pattern, or of a colour of the style.
+function nameOf(paint) {
+  const pattern = paint.match(/url\("?#(\w+)/)?.[1];
+  const probe = document.createElement('i');
+  document.body.append(probe);
+  const found = COLOURS.find((name) => {
+    probe.style.color = `var(--${name})`;
+    return getComputedStyle(probe).color === paint;
+  });
+  probe.remove();
+  return pattern ?? found ?? paint;
+}
+
+const groundOf = (one) => nameOf(one instanceof SVGElement ? getComputedStyle(one).fill
+  : getComputedStyle(one).backgroundColor);
+
+// The grounds of those of these that are drawn; several of a kind have the same.
+const groundsOf = (selectors) => Object.fromEntries(selectors.map((one) => (
+  [one, [...new Set(all(`main ${one}`).map(groundOf))].join()])).filter(([, ground]) => ground));
+
+// The colour of a line, or of letters.
+function inkOf(one) {
+  const { fill, stroke, color } = getComputedStyle(one);
+  if (!(one instanceof SVGElement)) return nameOf(color);
+  return nameOf(one instanceof SVGTextElement ? fill : stroke);
+}
+const inksOf = (selectors) => Object.fromEntries(selectors.map((one) => (
+  [one, [...new Set(all(`main ${one}:not(.halo)`).map(inkOf))].join(' ')]))
+  .filter(([, ink]) => ink));
+
+const heightsOfBars = () => Object.fromEntries(['call', 'queue', 'holds'].map((kind) => [kind,
+  [...new Set(all(`#lanes .span.${kind}`).map((one) => one.getAttribute('height')))]]));
+
+// For each move whether its mark is faint.
+const faintMoves = () => all('#lanes .move').map((one) => [Number(one.dataset.move),
+  Number(getComputedStyle(one.querySelector('.step, .call-mark')).opacity) < 0.6])
+  .sort(([one], [other]) => one - other);
+
+// The lines of the patterns of who waits and of who reads.
+const linesOfPatterns = () => ['hatch', 'ruled']
+  .map((id) => nameOf(styleOf(`#${id} rect:last-child`).fill));
+
+const markedLessons = () => all('#lesson-list [data-lesson]').filter((one) => (
+  nameOf(getComputedStyle(one).borderTopColor) === 'ink')).map((one) => one.dataset.lesson);
 
 function showEnd(letters) {
   show(letters);
@@ -13,8 +69,11 @@ function showEnd(letters) {
 // Whether each head of a record has a gap between the thread's name and its standing.
 function heads(letters) {
   showEnd(letters);
-  return all('.record').map((one) => rect(one.querySelector('.name')).right
-    <= rect(one.querySelector('.standing')).left);
+  return all('.record').map((one) => {
+    const [name, standing] = ['.name', '.standing'].map((part) => one.querySelector(part))
+      .map((part) => part.getBBox());
+    return standing.x - name.x - name.width >= 4;
+  });
 }
 
 // Each word in a bar of the lanes, and whether it is in the middle of its height and within it.
@@ -65,7 +124,7 @@ function shareOf(node) {
 }
 
 // The colour below a text: the card, or the bar that the text is in.
-function groundOf(node, card) {
+function groundBelow(node, card) {
   const at = rect(node);
   const isBelow = (one) => {
     const { left, right, top, bottom } = rect(one);
@@ -84,7 +143,7 @@ function coming() {
   const card = styleOf('#time').backgroundColor;
   const shown = all('#lanes .future text, #lanes text.future').filter((one) => one.textContent);
   return shown.map((one) => {
-    const ground = groundOf(one, card);
+    const ground = groundBelow(one, card);
     const colour = over(getComputedStyle(one).fill, ground, shareOf(one));
     return [one.lastChild.textContent, colour, ground];
   });

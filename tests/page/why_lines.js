@@ -3,6 +3,10 @@
 const isOpen = () => byId('why').open;
 const numbers = (selector) => all(selector).map((one) => Number(one.dataset.number));
 
+// The number before the first shown line.
+const numberOfLine = () => getComputedStyle(document.querySelector('#why-code .here'),
+  '::before').content;
+
 // The changes of the shown lines: how, the verdict, the moves with their code, the marked moves,
 // and further sentences.
 const changes = () => all('#why-changes section').map((one) => ({

@@ -26,6 +26,10 @@ const at = () => {
   return [number, count];
 };
 
+// The outlines of the moves that have one.
+const outlines = () => all('#why-changes li').map((one) => getComputedStyle(one).outlineStyle)
+  .filter((style) => style !== 'none');
+
 // Goes to a move by the buttons of a run, whose first click may leave another run.
 function stepTo(number, count) {
   const button = (by) => document.querySelector(`[data-of="${number}"][data-step="${by}"]`);

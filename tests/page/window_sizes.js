@@ -72,3 +72,12 @@ const arranged = () => [document.body.dataset.layout, document.body.dataset.tool
   Math.round(Number(document.body.style.getPropertyValue('--zoom')) * 100) / 100];
 
 const lineHeight = () => document.querySelector('.code-line').offsetHeight;
+
+// How many dots a unit of memory's picture has, and whether the picture is in view.
+function scaleOfMemory() {
+  const svg = document.querySelector('#memory-picture svg');
+  return [Number(svg.getAttribute('width')) / svg.viewBox.baseVal.width,
+    inside(rect(svg), rect(byId('memory-picture')))];
+}
+
+const heightOfLanes = () => byId('lanes').offsetHeight;

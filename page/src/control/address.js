@@ -41,9 +41,7 @@ export class Address {
       this.page.editing.openText(given);
       return;
     }
-    this.returning = true;
     this.page.openLesson(FIRST_LESSON);
-    this.returning = false;
     this.isAtStart = true;
     this.page.chooseLesson();
   }

@@ -5,7 +5,6 @@ import { byId, closesBeside, dataOf, dialogOf, focusIn } from '../lib/elements.j
 import { html, show } from '../lib/markup.js';
 import { texts } from '../texts/texts.js';
 import { keptSchedule } from '../model/kept_schedules.js';
-import { remarksOf } from '../model/remarks.js';
 import { lockOf } from '../locks/locks.js';
 
 const T = texts.compare;
@@ -22,8 +21,7 @@ export function othersOf({ session, lessons, address }) {
     .map(({ name, title }) => ({ title: title || texts.untitled, text: keptSchedule(name)?.text }))
     .filter(({ text }) => text && hasLock(text));
   const listed = lessons
-    .filter(({ name, group }) => name !== lesson && group === lockOf(run).name)
-    .map(({ title, text }) => ({ title: remarksOf(text).title || title, text }));
+    .filter(({ name, group }) => name !== lesson && group === lockOf(run).name);
   return [...kept, ...listed];
 }
 

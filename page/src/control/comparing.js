@@ -98,7 +98,7 @@ export class Comparing {
       at = (move) => there.at[Math.min(move, run.count)];
       title = lockTitle(otherLock(run));
     }
-    const first = firstDifference(run, session.run, at);
+    const first = firstDifference(run, session.run, at, this.kind === 'lock');
     const columns = columnsOf(run, at);
     title ||= texts.untitled;
     this.made = { run, kind: this.kind, session, at, columns, first, title };
@@ -119,7 +119,8 @@ export class Comparing {
     const { page } = this;
     const { session, at, first } = this.compared();
     const view = session.view({
-      hidden: page.hides, future: looks.future, different: first, compares: true,
+      answered: page.answered, hidden: page.hides, future: looks.future, different: first,
+      compares: true,
     }, at(page.session.place));
     return { view, state: session.run.state(view.move) };
   }

@@ -7,7 +7,8 @@ import { isKept } from '../model/kept_schedules.js';
 import { Editor } from '../view/editor.js';
 import { tell, toClipboard } from '../view/notice.js';
 
-// A trace of as many moves as a schedule may have is shorter, but for its comments.
+// A trace of as many moves as a schedule may have is shorter, but for its comments. A part of a
+// longer one would look like the whole.
 const MOST_TRACE_BYTES = 4194304;
 
 export class Editing {
@@ -18,12 +19,17 @@ export class Editing {
 
   // The first of several files is shown. As many others as have room are kept, and listed with the
   // lessons.
-  async openFiles([first, ...others]) {
+  async openFiles(files) {
+    const [first, ...others] = files;
     const { address, session } = this.page;
     const opened = [];
+    if ([...files].some(({ size }) => size > MOST_TRACE_BYTES)) {
+      tell(texts.tooLarge(MOST_TRACE_BYTES));
+      return;
+    }
     try {
       for (const file of [...others.reverse(), first]) {
-        this.openText(await bytesOfFile(file, MOST_TRACE_BYTES));
+        this.openText(await bytesOfFile(file));
         opened.push(session.held);
       }
       address.keep();
@@ -58,7 +64,6 @@ export class Editing {
   edited(text, line) {
     const { page } = this;
     page.stepping.pause();
-    page.quiz.clear();
     page.playing.remember('edit');
     page.derive(text, (session) => session.moveAtLine(line));
   }

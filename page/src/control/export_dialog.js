@@ -86,7 +86,7 @@ function tikzPicture(page) {
   return text;
 }
 
-export const stripOf = (page) => stripPicture(page, ...stretchNow(page));
+const stripOf = (page) => stripPicture(page, ...stretchNow(page));
 
 async function animatedOf(page) {
   const [from, to] = stretchNow(page);

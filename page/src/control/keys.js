@@ -21,7 +21,7 @@ function actions(page) {
     n: () => lecture.next(), j: () => stepping.nextQuestion(), a: () => stepping.toggleAnswer(),
     o: () => page.chooseLesson(), e: () => modes.toggle('own'), g: () => modes.toggle('play'),
     q: () => modes.toggleQuiz(),
-    w: () => page.mode === 'play' && playing.toggleEvery(),
+    w: () => page.mode === 'play' && playing.toggleEvery(), Enter: () => stepping.openNext(),
     c: () => comparing.toggle(), u: () => playing.undo(), l: () => address.copy(),
     t: () => page.showExports(), m: () => page.showFind(),
     h: () => page.toggleHall(), s: () => hall.fillScreen(), Escape: () => hall.leave(),
@@ -42,6 +42,7 @@ const onLanes = ({ stepping }) => ({
 // Keys that a focused control uses itself.
 function isTheirs(key, target) {
   if (target.closest(IN_FIELDS)) return true;
+  if (key === 'Enter') return target !== document.body && target.id !== 'lanes';
   if (target.matches('input[type=radio]')) return /^Arrow| $/.test(key);
   if (target.matches('input[type=checkbox]')) return key === ' ';
   return key === ' ' && target.closest('button, summary, [role=button]') !== null;

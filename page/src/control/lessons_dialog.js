@@ -25,10 +25,10 @@ const KEPT_AT_ONCE = 12;
 // Lessons with what one learns in them, how many moves they have and how long they take.
 /** @param {Run} run */
 function described(lesson, run) {
-  const { title, learn, ask } = remarksOf(lesson.text);
+  const { learn, ask } = remarksOf(lesson.text);
   const seconds = PACE.move * run.last + PACE.question * ask.size;
   const minutes = Math.max(1, Math.round(seconds / 60));
-  return { ...lesson, title: title || lesson.title, learn, moves: run.last, minutes };
+  return { ...lesson, learn, moves: run.last, minutes };
 }
 
 function lessonButton({ name, title, learn, moves, minutes }, number, current) {

@@ -7,7 +7,7 @@ import { linesOf } from '../machine/locks_code.js';
 import { Machine } from '../machine/machine.js';
 import { StoredMachine } from '../machine/stored_machine.js';
 import { learnWords } from '../machine/word_names.js';
-import { language, learnLessons, translatedTerms } from '../texts/language.js';
+import { language, learnLessons, translatedText } from '../texts/language.js';
 import { capital, texts } from '../texts/texts.js';
 import { learnKinds } from '../model/kinds.js';
 import { learnWhy } from '../model/line_changes.js';
@@ -81,8 +81,9 @@ function begin(data, machine) {
   learnKinds(data.kinds);
   learnWhy(data.why);
   learnLessons(data.translations);
-  learnTerms(translatedTerms(data.terms));
-  const lessons = data.lessons.map((lesson) => ({ ...lesson, text: fromBase64(lesson.text) }));
+  learnTerms(data.terms);
+  const lessons = data.lessons.map(({ title, text, ...lesson }) => (
+    { ...lesson, title: translatedText(title), text: fromBase64(text) }));
   writeTexts();
   const page = new Page(new Session(machine, linesOf(data.code)), lessons, data.plans);
   listen(page);

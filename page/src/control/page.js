@@ -5,10 +5,12 @@ import { LOCK_NAMES } from '../machine/codes.js';
 import { noteDone } from '../model/done_lessons.js';
 import { looks, toggleHall } from '../model/looks.js';
 import { Quiz } from '../model/quiz.js';
+import { texts } from '../texts/texts.js';
 import { drawPage } from '../view/draw_page.js';
 import { titleOf } from '../view/draw_texts.js';
 import { drawLecture } from '../view/lecture_view.js';
 import { plansWith } from '../view/lesson_plans.js';
+import { untell } from '../view/notice.js';
 import { aboutDialog } from './about_dialog.js';
 import { Address } from './address.js';
 import { Comparing } from './comparing.js';
@@ -147,6 +149,7 @@ export class Page {
   // A schedule that was made from this one.
   derive(text, move) {
     if (this.session.lesson || this.address.damaged) this.address.leave(null);
+    this.quiz.clear();
     this.session.derive(text, null, move);
     this.show();
   }
@@ -170,6 +173,7 @@ export class Page {
 
   // Another move, or another text: its answer is not shown yet, and nobody was told that it waits.
   show() {
+    if (this.reminded) untell(texts.questionWaits);
     this.answered = false;
     this.reminded = false;
     noteDone(this.session);

@@ -31,7 +31,7 @@ export class Playing {
 
   branch(moves) {
     const { session } = this.page;
-    if (!hasRoom(session)) return;
+    if (!hasRoom(session, moves.length)) return;
     this.remember('play');
     const { letters, plain } = session.textWith(moves.join('\n'));
     this.page.derive(bytesOf(letters, plain), session.move + moves.length);

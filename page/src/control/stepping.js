@@ -15,6 +15,10 @@ function scrollToLane(top, height) {
   box.scrollTop = Math.min(top, Math.max(top + height - box.clientHeight, box.scrollTop));
 }
 
+// Whether the page offers the lesson after this one.
+const isNextShown = () => Boolean(
+  document.querySelector('[data-next]')?.getClientRects().length);
+
 export class Stepping {
   constructor(page) {
     this.page = page;
@@ -48,9 +52,12 @@ export class Stepping {
 
   // There is no further move, but perhaps another lesson.
   atEnd() {
-    const next = document.querySelector('[data-next]');
-    if (next?.getClientRects().length) focusIn(document, '[data-next]');
+    if (isNextShown()) focusIn(document, '[data-next]');
     else tell(texts.lessons.noMore);
+  }
+
+  openNext() {
+    if (isNextShown()) this.page.openLesson(this.page.nextLesson.name);
   }
 
   // To the end, or in the quiz to the next question.
@@ -63,10 +70,6 @@ export class Stepping {
   // Asks for the next move, if there is one.
   askNext() {
     const { quiz, session, modes } = this.page;
-    if (quiz.result) {
-      quiz.result = null;
-      this.page.draw();
-    }
     if (!quiz.asks(session)) return false;
     modes.askFocus();
     return true;

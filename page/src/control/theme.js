@@ -2,14 +2,15 @@
 
 import { byId } from '../lib/elements.js';
 import { texts } from '../texts/texts.js';
-import { looks } from '../model/looks.js';
+import { looks, oneOf, THEMES } from '../model/looks.js';
 
 const KEY = 'lockreplay.theme';
 const root = document.documentElement;
 
+// Another page at this address may have stored it.
 function remembered() {
   try {
-    return localStorage.getItem(KEY);
+    return oneOf(THEMES, localStorage.getItem(KEY));
   } catch {
     return null;
   }
@@ -23,7 +24,7 @@ function remember(theme) {
   }
 }
 
-export function isDark() {
+function isDark() {
   const chosen = root.dataset.theme;
   return chosen ? chosen === 'dark' : matchMedia('(prefers-color-scheme: dark)').matches;
 }

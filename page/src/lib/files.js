@@ -1,8 +1,7 @@
 // Files: chosen, read, and saved.
 
-// A file's bytes; of a long one just enough to show that it is too long.
-export async function bytesOfFile(file, most) {
-  return new Uint8Array(await file.slice(0, most + 1).arrayBuffer());
+export async function bytesOfFile(file) {
+  return new Uint8Array(await file.arrayBuffer());
 }
 
 // A browser saves what a link is followed to, and chooses files for a field that is clicked: for

@@ -76,13 +76,18 @@ function wordName(word, { run, names }) {
   return owner ? `${names.short(owner.thread)}.${owner.field}` : 'tail';
 }
 
+// Who is in the queue, and in which order, is not drawn if a question asks for that.
+/** @param {View} view */
+const asks = (view) => isCovered(view, 'standing');
+
 // Who is drawn: the queue in its order, then who is in a call, then who rests, if there is
 // room.
 /** @param {View} view @param {State} state */
 function order(view, state, most) {
   const { run, move } = view;
-  const others = Array.from({ length: run.threads }, (_, thread) => thread)
-    .filter((thread) => !state.queue.includes(thread));
+  const all = Array.from({ length: run.threads }, (_, thread) => thread);
+  if (asks(view)) return { shown: all, hidden: [] };
+  const others = all.filter((thread) => !state.queue.includes(thread));
   const calling = others.filter((thread) => standingOf(run, move, thread) !== 'rest');
   const resting = others.filter((thread) => standingOf(run, move, thread) === 'rest');
   const busy = [...state.queue, ...calling];
@@ -277,7 +282,7 @@ function draw(view, state) {
   const drawn = picture(view, height, caption(view, state).text, html`${tail(view, state, layout)}
     ${layout.entries.map((entry) => (entry.folded ? foldedRecords(view, entry, width)
     : record(view, state, entry.one, entry.place, width)))}
-    ${!isCovered(view, 'memory') && links(view, state, layout)}`);
+    ${!isCovered(view, 'memory') && !asks(view) && links(view, state, layout)}`);
   return Object.assign(drawn, { note: restingNote(view, layout.hidden) });
 }
 

@@ -167,7 +167,7 @@ function strip(view, state, top) {
 /** @param {View} view @param {State} state */
 function served(view, state) {
   const thread = state.queue.find((one) => PHASES[state.phase(one)] === 'PassOn');
-  if (thread === undefined) return null;
+  if (thread === undefined || asks(view)) return null;
   const whose = texts.ownVariable(view.names.of(thread));
   return html`${ownBox(296, 40, 112, `served = ${state.phaseNumber(thread)}`)}
     <text class="note" x="352" y="84" text-anchor="middle">${whose}</text>`;

@@ -31,9 +31,8 @@ export function wheelOf(wheel, hands, tokens) {
   });
   return html`<circle class="rim" cx="${wheel.x}" cy="${wheel.y}" r="${wheel.radius}"/>${numbers}
     ${hands.map(({ value, style }) => hand(wheel, value, style))}
-    ${tokens.map(({ place, draw }, i) => {
-    const earlier = tokens.slice(0, i).filter((one) => one.place === place).length;
-    const at = spoke(wheel, place, wheel.radius + wheel.dot + 17 + 26 * earlier);
+    ${tokens.map(({ place, draw }) => {
+    const at = spoke(wheel, place, wheel.radius + wheel.dot + 17);
     return draw(at.x, at.y);
   })}`;
 }

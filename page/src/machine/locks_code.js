@@ -5,7 +5,7 @@ import { LOCK_NAMES, PHASE } from './codes.js';
 
 const LINE = /^(?<code>.*?)\s*(?:-- (?<kind>\w+) (?<phase>\w+)(?: looks at (?<words>.+))?)?$/;
 
-export function codeLine(text) {
+function codeLine(text) {
   const { code, kind = '', phase = '', words = '' } = text.match(LINE).groups;
   return { code, kind, phase: PHASE[phase], call: phase, words: words ? words.split(', ') : [] };
 }

@@ -1,6 +1,7 @@
 // The moves that may come next: for each thread its due step, or the calls that the machine would
 // accept.
 
+import { throughLine } from '../lib/bytes.js';
 import { CALLS, MOST_BYTES, MOST_MOVES, MOVES } from '../machine/codes.js';
 import { ownWords } from '../machine/locks_code.js';
 
@@ -8,9 +9,17 @@ import { ownWords } from '../machine/locks_code.js';
 
 const LONGEST_LINE = 32;
 
-// Whether a schedule with one more line stays within its limits.
-export function hasRoom({ move, run }) {
-  return move < MOST_MOVES && run.text.length + LONGEST_LINE <= MOST_BYTES;
+// Whether a schedule may have more moves than these.
+export const mayGoOn = (move, moves = 1) => move + moves <= MOST_MOVES;
+
+// Whether the schedule up to its current move, with more moves, stays within its limits. What a
+// trace says beyond its schedule does not count.
+/** @param {import('./session.js').Session} session */
+export function hasRoom(session, moves = 1) {
+  const { move, run: { played } } = session;
+  const most = MOST_BYTES - moves * LONGEST_LINE;
+  return mayGoOn(move, moves)
+    && (played.length <= most || throughLine(played, session.line()).length <= most);
 }
 
 // The moves that the machine accepts next from a thread, as words of a schedule.

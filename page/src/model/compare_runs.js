@@ -36,13 +36,21 @@ function said(run, move) {
   return [moveText(run, move), outcome, holdersText(state), queueText(state)].join(' ');
 }
 
-// The first move here after which the two differ; 0 if none does. `at` is as above.
+// The refused move after the last one; empty if there is none.
 /** @param {Run} run */
-export function firstDifference(run, other, at) {
+const refusedIn = ({ refusal }) => (refusal
+  ? [refusal.thread, refusal.word, refusal.name].join(' ') : '');
+
+// The first move here after which the two differ; 0 if none does. `at` gives for a move here how
+// many moves are made there by then, and `turns` says that only the moves made here are turns
+// there, but no refused move.
+/** @param {Run} run @param {Run} other */
+export function firstDifference(run, other, at, turns) {
   for (let move = 1; move <= run.count; move += 1) {
     const there = at(move);
     const made = there > at(move - 1);
     if (!made || said(run, move) !== said(other, there)) return move;
   }
-  return other.last > at(run.count) ? run.count + 1 : 0;
+  const goesOn = other.count > at(run.count) || (!turns && refusedIn(run) !== refusedIn(other));
+  return goesOn ? run.count + 1 : 0;
 }

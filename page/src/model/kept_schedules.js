@@ -35,7 +35,8 @@ function store(key, text) {
 // {name, place, title, size} of each, the newest first.
 export function keptSchedules() {
   try {
-    return JSON.parse(stored(LIST)) ?? [];
+    const list = JSON.parse(stored(LIST));
+    return Array.isArray(list) ? list.filter((one) => one?.name) : [];
   } catch {
     return [];
   }
@@ -64,9 +65,11 @@ export function isKept(text) {
   return keptSchedules().some((one) => has(one, coded));
 }
 
+// A text that has no room is not kept, and takes no room from others.
 export function keepSchedule(name, text, place, title) {
   const coded = toBase64(text);
   const size = coded.length;
+  if (size >= MOST_LETTERS) return;
   const same = (one) => one.name === name || has(one, coded);
   let room = MOST_LETTERS;
   const before = keptSchedules();

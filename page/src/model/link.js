@@ -57,8 +57,10 @@ export function readFragment(fragment) {
   }
   if (!parts.has('schedule')) return { wrong: texts.links.nothing };
   try {
-    // The move is the link's end.
-    return { text: fromLink(parts.get('schedule')), move, cut: !parts.has('move') };
+    // In a fragment a plus sign, which base64 may have, stands for a blank. The move is the link's
+    // end.
+    const coded = parts.get('schedule').replaceAll(' ', '+');
+    return { text: fromLink(coded), move, cut: !parts.has('move') };
   } catch {
     return { wrong: texts.links.damaged };
   }

@@ -5,8 +5,8 @@ export const PARTS = ['time', 'memory', 'code', 'now'];
 const IN_A_HALL = ['memory', 'code'];
 const IN_A_FRAME = ['memory', 'code'];
 const MOST_IN_A_HALL = 2;
-const THEMES = ['dark', 'light'];
-export const SHEETS = ['worked', 'exercise'];
+export const THEMES = ['dark', 'light'];
+const SHEETS = ['worked', 'exercise'];
 const NAMES = ['hall', 'embed', 'show', 'future', 'theme', 'sheet'];
 
 export const looks = {
@@ -14,7 +14,7 @@ export const looks = {
 };
 
 // One of these, or null.
-const oneOf = (all, asked) => (all.includes(asked) ? asked : null);
+export const oneOf = (all, asked) => (all.includes(asked) ? asked : null);
 
 // Parts in the order of the page; null if none is named.
 export function partsOf(text) {

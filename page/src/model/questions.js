@@ -11,7 +11,7 @@ export const KINDS = ['outcome', 'holders', 'queue'];
 // Longer schedules are asked for their first moves.
 const MOST_ASKED = 400;
 
-export const truthOf = {
+const truthOf = {
   outcome: (run, move) => OUTCOMES[run.records.outcome(move)],
   holders: (run, move) => holdersText(run.state(move)),
   queue: (run, move) => queueText(run.state(move)),

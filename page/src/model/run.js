@@ -12,7 +12,7 @@ import { joinedByMove, movesByThread, movesByWord } from './move_lists.js';
 import { OwnedWords } from './owned_words.js';
 import { StateAfter } from './state_after.js';
 import { firstDifference, refusalBy } from './trace_check.js';
-import { traceOf } from './trace_text.js';
+import { lineWithout, traceOf, traceWithout } from './trace_text.js';
 
 /**
  * @typedef {import('../machine/machine.js').State} State
@@ -63,9 +63,10 @@ export class Run {
     this.played = trace?.schedule ?? text;
     let answer = answerTo(this.played);
     this.known = answer.state !== null;
-    this.fault = this.known && answer.state.answer === ANSWER.fault ? faultOf(answer.state) : null;
-    if (this.fault) {
-      this.played = playablePart(this.played, this.fault);
+    this.fault = faultIn(answer);
+    // The first bytes of a text that is too long may have a fault of their own.
+    for (let { fault } = this; fault; fault = this.played.length ? faultIn(answer) : null) {
+      this.played = playablePart(this.played, fault);
       if (this.played.length) answer = answerTo(this.played);
     }
     // Without a header there is no lock to show.
@@ -122,13 +123,20 @@ export class Run {
 
   // The same run in the text without some lines of comment, which ascend.
   without(lines) {
-    const lineNow = (line) => line - placeAfter(lines, line);
+    const lineNow = lineWithout(lines);
     const answer = answerInLines(this.end, this.records, lineNow);
     const trace = this.trace && {
       ...this.trace, schedule: withoutLines(this.played, lines),
       said: this.trace.said.filter((_, at) => !lines.includes(at + 1)),
+      places: new Map([...this.trace.places].map(([line, place]) => [lineNow(line), place])),
     };
-    return new Run(this.machine, withoutLines(this.text, lines), () => answer, trace);
+    return new Run(this.machine, this.textWithout(lines), () => answer, trace);
+  }
+
+  // The text without some lines of comment, which ascend.
+  textWithout(lines) {
+    return this.trace && lines.length
+      ? traceWithout(this.text, lines) : withoutLines(this.text, lines);
   }
 
   // The same run up to a move that is refused for what the trace says of it.
@@ -173,8 +181,10 @@ export class Run {
   }
 }
 
-/** @param {State} state */
-const faultOf = (state) => ({ name: FAULTS[state.reason], line: state.line });
+// The fault of the text that the machine answered on, or null.
+/** @param {{state: State | null}} answer */
+const faultIn = ({ state }) => (state?.answer === ANSWER.fault
+  ? { name: FAULTS[state.reason], line: state.line } : null);
 
 // The refused move: what the machine said of it, and its line's two words.
 /** @param {State} state */

@@ -1,6 +1,6 @@
 // The view: one schedule, the move that is shown, and everything derived from the two.
 
-import { lettersOf, throughLine, withoutLines } from '../lib/bytes.js';
+import { lettersOf, throughLine } from '../lib/bytes.js';
 import { LOCK_NAMES } from '../machine/codes.js';
 import { awaitedLines } from '../machine/locks_code.js';
 import { wordNames } from '../machine/word_names.js';
@@ -112,7 +112,7 @@ export class Session {
     this.lesson = lesson;
     this.stale = this.boundRemarks.stale(this.run);
     // The text that is saved and linked.
-    this.held = withoutLines(text, this.stale);
+    this.held = this.run.textWithout(this.stale);
     this.remarks = remarksOf(this.held);
     this.names = new Names(this.remarks.name);
     this.loop = loopOf(this.run, this.stale);

@@ -1,7 +1,8 @@
 // A trace: a schedule whose steps may also say on which word they were and which values it had, or
 // what came of them. docs/FORMATS.md has the grammar.
 
-import { bytesOf, lettersOf } from '../lib/bytes.js';
+import { placeAfter } from '../lib/ascending.js';
+import { bytesOf, lettersOf, withoutLines } from '../lib/bytes.js';
 
 const NUMBER = '(?:0|[1-9][0-9]*)';
 const OUTCOME = '(?<outcome>moved|waits|entered|left)';
@@ -14,6 +15,7 @@ const SECTION = new RegExp(
   `^(?<move>${NUMBER} section)(?= )(?: (?<count>${NUMBER}))?(?: ${OUTCOME})?$`);
 // A comment of the recorders: where in the source the move of a line was noted.
 const PLACE = /^# line (?<line>[0-9]+) is (?<place>.+)$/;
+const LINE_OF_PLACE = /(?<=^# line )[0-9]+(?= is .)/gm;
 // Comments of the recorders after the last move, on the end of a thread or of the run.
 const ENDING = /^# (?<said>(?:thread|the) (?![0-9]+ has ended$).+)$/;
 const OPEN = /^thread [0-9]+ (?:has not ended|was stopped)$/;
@@ -81,4 +83,14 @@ export function traceOf(text) {
   const moves = lines.map((line, at) => said[at]?.move ?? line);
   return { schedule: bytesOf(moves.join('\n'), plain), said, places: placesIn(lines),
     ending: endingIn(lines) };
+}
+
+// The number of a line after some lines, which ascend, were left out.
+export const lineWithout = (lines) => (line) => line - placeAfter(lines, line);
+
+// The text of a trace without some lines, whose comments name the lines by their new numbers.
+export function traceWithout(text, lines) {
+  const { letters, plain } = lettersOf(withoutLines(text, lines));
+  const lineNow = lineWithout(lines);
+  return bytesOf(letters.replace(LINE_OF_PLACE, (line) => String(lineNow(Number(line)))), plain);
 }

@@ -3,10 +3,10 @@
 // language is a file of them, and one of the glossary's terms.
 
 import { german } from './german.js';
-import { germanTerms } from './german_terms.js';
+import { germanForms, germanTerms } from './german_terms.js';
 
 export const LANGUAGES = { de: german };
-const TERMS = { de: germanTerms };
+const TERMS = { de: { meanings: germanTerms, forms: germanForms } };
 export const LANGUAGE_NAMES = { en: 'English', de: 'Deutsch' };
 
 // What an address asks for, or null.
@@ -45,7 +45,8 @@ const lessons = {};
 // {English: text} of lessons and plans in the language that is shown, before anything is drawn.
 export function learnLessons(inLanguages) { Object.assign(lessons, inLanguages[language]); }
 
-// A lesson's text, a plan and the glossary in the language, as far as it has them.
+// A lesson's text, a plan and the glossary in the language, as far as it has them. The glossary has
+// the meaning of each term, and its other forms.
 export const translatedText = (text) => lessons[text] ?? text;
 export const translatedTerms = (terms) => TERMS[language] ?? terms;
 

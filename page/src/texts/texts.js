@@ -241,6 +241,7 @@ const english = {
     nextKindsCut: 'What is further away was not searched.',
     lock: 'lock', threads: 'threads', bits: 'bits', begin: 'Begin',
     full: `A schedule has at most ${grouped(MOST_MOVES)} moves.`,
+    long: `A schedule has at most ${grouped(MOST_BYTES)} bytes.`,
     faulty: 'The text has a fault. Correct it, or begin a new schedule.',
     noMachine: 'Playing needs a browser with 64-bit WebAssembly memory.',
   },
@@ -289,6 +290,7 @@ const english = {
   tooOld: 'This browser is too old for this page. Take Chromium from 133 or Firefox from 134 on.',
   notStored: 'Only the lessons can be shown in this browser.',
   couldNotRead: 'The file could not be read.',
+  tooLarge: (most) => `A file of more than ${grouped(most)} bytes is not opened.`,
 
   print: {
     questions: 'Questions', code: 'Code', table: 'Moves',
@@ -314,7 +316,7 @@ const english = {
     due: 'The next step is “{step}”, in line {number} of the code: “{code}”.',
     nobodyHolds: 'Nobody holds the lock.',
     holds: '{list} holds the lock{mode}.',
-    holdTogether: '{list} hold the lock{mode}.',
+    holdTogether: '{list} hold the lock and read.',
     modes: ['', '', ' and reads', ' and writes'],
     refused: 'refused', noSuch: 'no such thread', decided: 'Decided by', found: 'found',
     move: (number) => `move ${number}:`, noMove: (who) => `no move of ${who} yet`,

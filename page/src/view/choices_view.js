@@ -2,9 +2,9 @@
 
 import { html } from '../lib/markup.js';
 import { texts } from '../texts/texts.js';
-import { choicesOf, hasRoom } from '../model/choices.js';
+import { choicesOf, hasRoom, mayGoOn } from '../model/choices.js';
 import { LOCKS } from '../locks/locks.js';
-import { movingThread, standingOf } from '../locks/shapes.js';
+import { movingThread, standingIn } from '../locks/shapes.js';
 
 /** @typedef {import('../model/session.js').Session} Session */
 /** @typedef {import('../model/session.js').View} View */
@@ -14,7 +14,7 @@ const T = texts.play;
 /** @param {View} view */
 function threadRow(view, thread, choices) {
   const name = view.names.of(thread);
-  const standing = standingOf(view.run, view.move, thread);
+  const standing = standingIn(view, thread);
   const buttons = choices.map(({ word, look }) => html`<button type="button"
     class="mono ${look}" data-thread="${thread}"
     data-word="${word}" aria-label="${name}: ${word}">${word}</button>`);
@@ -23,13 +23,16 @@ function threadRow(view, thread, choices) {
     <span class="who">${name}</span><span class="choices">${buttons}</span></li>`;
 }
 
+// With `every` all moves of the lock are offered; `answered` says whether the question's answer is
+// shown.
 /** @param {Session} session */
-export function choicesView(session, every) {
+export function choicesView(session, every, answered) {
   if (session.machine.stored) return html`<p class="hint">${T.noMachine}</p>`;
   if (!session.run.hasLock) return html`<p class="hint">${T.faulty}</p>`;
-  if (!hasRoom(session)) return html`<p class="hint">${T.full}</p>`;
   const { run, move } = session;
-  const view = session.view();
+  if (!mayGoOn(move)) return html`<p class="hint">${T.full}</p>`;
+  if (!hasRoom(session)) return html`<p class="hint">${T.long}</p>`;
+  const view = session.view({ answered });
   const threads = Array.from({ length: run.threads }, (_, thread) => thread);
   const row = (thread) => threadRow(view, thread, choicesOf(session, thread, every));
   return html`<p class="hint">${move < run.last ? T.branch(move) : T.hint}</p>

@@ -36,8 +36,8 @@ export function drawPage(page, reveals) {
   return drawPictures({ page, view, state, reveals }, sizes);
 }
 
-function drawChoices({ session, playing }) {
-  show(byId('choices'), choicesView(session, playing.every));
+function drawChoices({ session, playing, answered }) {
+  show(byId('choices'), choicesView(session, playing.every, answered));
   inputOf('every').checked = playing.every;
   if (!elementOf('next-kinds', HTMLDetailsElement).open) return;
   show(byId('next-kinds-list'), nextKindsView(playing.nextKinds.after(session)));
@@ -53,7 +53,7 @@ function drawSide(page) {
     'mode-hall': looks.hall, compare: page.comparing.isOn,
   };
   for (const [id, is] of Object.entries(pressed)) byId(id).setAttribute('aria-pressed', String(is));
-  if (!session.run.hasLock) show(byId('choices'), choicesView(session, false));
+  if (!session.run.hasLock) show(byId('choices'), choicesView(session, false, false));
   for (const id of ['undo', 'undo-own']) buttonOf(id).disabled = !page.playing.undone.length;
   const advice = adviceOf(session);
   const verdict = verdictView(session, advice);

@@ -40,6 +40,8 @@ export class Editor {
     const same = this.text !== null && sameBytes(this.text, text);
     this.text = text;
     if (same) return;
+    // An edit of the text before this one is none of this one.
+    clearTimeout(this.timer);
     const large = text.length > MOST_EDITED;
     const { letters, plain } = large ? { letters: '', plain: false } : lettersOf(text);
     this.plain = plain;
@@ -58,9 +60,7 @@ export class Editor {
     this.drawGutter();
   }
 
-  // Hands on what was typed, without more delay.
   handOn() {
-    clearTimeout(this.timer);
     const letters = this.returns ? this.area.value.replaceAll(RETURN_SIGN, '\r') : this.area.value;
     this.text = bytesOf(letters, this.plain);
     this.caretAt = this.caretLine();

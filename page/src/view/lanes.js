@@ -10,7 +10,7 @@ import { spansOf, unlinkedSpans } from '../model/spans.js';
 import { fitted } from '../locks/fitting.js';
 import { lockOf } from '../locks/locks.js';
 import { fillOf, standingIn } from '../locks/shapes.js';
-import { columnX, LANE, laneMiddle, LOW_LANE, NAME_EDGES, placeOf, placeX } from './layout.js';
+import { columnX, isTall, LANE, laneMiddle, NAME_EDGES, placeOf, placeX } from './layout.js';
 import { loopArrow, loopColumn } from './loop_view.js';
 
 /** @typedef {import('../machine/machine.js').Records} Records */
@@ -79,12 +79,12 @@ function spanBars(view, layout, thread, middle) {
 }
 
 /** @param {Layout} layout */
-function unlinkedLine(layout, span, y) {
+function unlinkedLine(layout, span, y, tall) {
   const pieces = parts(layout, span);
   const lines = pieces.map(({ x, width, style }) => html`<path class="unlinked ${style}"
     d="M${x} ${y}h${width}"/>`);
   const [{ x, width, style }] = pieces.length ? pieces : [{ x: 0, width: 0, style: '' }];
-  const named = width > ROOM_FOR_UNLINKED && layout.laneHeight >= LOW_LANE;
+  const named = width > ROOM_FOR_UNLINKED && tall;
   return html`${lines}${named && html`<text class="unlinked-text ${style}" x="${x + 50}"
     y="${y + 2}">${texts.marks.unlinked}</text>`}`;
 }
@@ -93,7 +93,7 @@ function unlinkedLine(layout, span, y) {
 function unlinkedLines(view, layout, thread, middle) {
   const y = middle + Math.min(35, layout.laneHeight / 2 - 9);
   return unlinkedSpans(view.run, thread, layout.first, layout.last)
-    .map((span) => unlinkedLine(layout, span, y));
+    .map((span) => unlinkedLine(layout, span, y, isTall(view, layout)));
 }
 
 // A compare-and-swap that fails leaves the word as it found it.
@@ -131,6 +131,7 @@ function foundText(view, move) {
 }
 
 // Above the mark: the call or the kind of step. In low lanes only the current move's is written.
+// An exercise sheet has it too: the pupil fills in what came of it.
 /** @param {View} view @param {Layout} layout */
 function label(view, layout, move, at, tall) {
   const { records } = view.run;
@@ -139,7 +140,8 @@ function label(view, layout, move, at, tall) {
   const call = records.isCall(move);
   const word = MOVES[records.action(move)];
   return html`<text class="word-label ${call && 'call'} ${here && 'here'}" x="${at.x}"
-    y="${Math.max(HIGHEST, at.y - (tall ? 20 : 13))}" text-anchor="middle">${word}</text>`;
+    y="${Math.max(HIGHEST, at.y - (tall && !view.blank ? 20 : 13))}"
+    text-anchor="middle">${word}</text>`;
 }
 
 /** @param {View} view @param {Layout} layout */
@@ -154,7 +156,7 @@ function found(view, layout, move, at) {
 /** @param {View} view @param {Layout} layout */
 function moveMark(view, layout, move, middle) {
   const at = { x: rounded(columnX(layout, move)), y: middle };
-  const tall = layout.laneHeight >= LOW_LANE && layout.column > NARROW;
+  const tall = isTall(view, layout) && layout.column > NARROW;
   const word = label(view, layout, move, at, tall);
   if (view.blank) {
     return html`<g data-move="${move}" class="move"><rect class="step blank" x="${at.x - 10}"
@@ -194,7 +196,7 @@ function refusedMark(view, layout, thread, middle) {
   const shown = refusal?.thread === thread && layout.last >= last;
   if (!shown || (lastDrawn(view, layout) < last && !view.refused && !view.blank)) return null;
   const x = rounded(columnX(layout, last));
-  const tall = layout.laneHeight >= LOW_LANE;
+  const tall = isTall(view, layout) && !view.blank;
   return html`<g data-move="${last}" data-refused class="move ${future(layout, last)}">
     <title>${texts.own.line(refusal.line)}: ${refusal.thread} ${refusal.word}</title>
     <rect class="target" x="${x - layout.column / 2}" y="${middle - 24}"
@@ -212,7 +214,7 @@ function lane(view, layout, index) {
   const middle = rounded(laneMiddle(layout, index));
   const shown = { ...layout, last: lastDrawn(view, layout), asked: isCovered(view, 'standing') };
   const missing = thread >= view.run.threads;
-  const two = (missing || view.names.has(thread)) && layout.laneHeight >= LOW_LANE;
+  const two = (missing || view.names.has(thread)) && isTall(view, layout);
   const whole = view.names.of(thread);
   const name = fitted(whole, layout.gutter - NAME_EDGES.left - NAME_EDGES.right, 'lane');
   const drawn = html`<text class="lane-name" x="${NAME_EDGES.left}"

@@ -134,7 +134,14 @@ export function layOutBeside(layout, view, columns, room) {
   };
 }
 
-export const LOW_LANE = 62;
+const LOW_LANE = 62;
+// On an exercise sheet nothing is below a mark, so a lane needs less.
+const LOW_BLANK = 44;
+
+// Whether a lane has room for words above its marks and below its name.
+/** @param {View} view @param {Layout} layout */
+export const isTall = (view, layout) => (
+  layout.laneHeight >= (view.blank ? LOW_BLANK : LOW_LANE));
 
 // Where a column is; a move is in the column of its number, or in that of the move beside it.
 /** @param {Layout} layout */

@@ -14,6 +14,12 @@ export function tell(text) {
   hiding = setTimeout(() => { box.hidden = true; }, SHOWN);
 }
 
+// Takes away a notice that no longer holds.
+export function untell(text) {
+  const box = byId('notice');
+  if (box.textContent === text) box.hidden = true;
+}
+
 export async function toClipboard(text, done, otherwise) {
   try {
     await navigator.clipboard.writeText(text);

@@ -2,25 +2,29 @@
 
 import { byId, targetOf } from '../lib/elements.js';
 import { html, write } from '../lib/markup.js';
+import { translatedTerms } from '../texts/language.js';
 
-// Other forms of a term.
+// Other forms of a term, in English.
 const FORMS = {
-  holds: 'holder', words: 'word', steps: 'step', moves: 'move', polls: 'poll', linked: 'link',
+  holder: 'holds', word: 'words', step: 'steps', move: 'moves', poll: 'polls', link: 'linked',
 };
 let meanings = {};
+// By each form of a term, in small letters, the term.
+let terms = {};
 let pattern = null;
 
-// {term: meaning}, before anything is drawn.
-export function learnTerms(given) {
-  meanings = Object.fromEntries(Object.entries(given)
-    .map(([term, meaning]) => [term.toLowerCase(), meaning]));
-  const forms = Object.keys(FORMS).filter((form) => meanings[FORMS[form]]);
-  const longestFirst = [...Object.keys(meanings), ...forms]
-    .sort((one, other) => other.length - one.length);
+// {term: meaning} in English, before anything is drawn.
+export function learnTerms(english) {
+  const { meanings: given, forms } = translatedTerms({ meanings: english, forms: FORMS });
+  meanings = given;
+  const formsOf = (term) => [term, ...(forms[term]?.split(', ') ?? [])];
+  terms = Object.fromEntries(Object.keys(given)
+    .flatMap((term) => formsOf(term).map((form) => [form.toLowerCase(), term])));
+  const longestFirst = Object.keys(terms).sort((one, other) => other.length - one.length);
   pattern = new RegExp(`(?<![\\p{L}-])(${longestFirst.join('|')})(?![\\p{L}-])`, 'iu');
 }
 
-const termOf = (text) => FORMS[text.toLowerCase()] ?? text.toLowerCase();
+const termOf = (text) => terms[text.toLowerCase()];
 
 const termView = (text) => html`<span class="term" role="button" tabindex="0" data-term="${
   termOf(text)}">${text}</span>`;

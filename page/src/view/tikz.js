@@ -81,11 +81,14 @@ function nodeOf(node, style) {
   const weight = Number(style.fontWeight) > BOLD ? '\\bfseries' : '';
   const slant = style.fontStyle === 'italic' ? '\\itshape' : '';
   const text = [...node.childNodes].filter((one) => one.nodeName !== 'title')
-    .map((one) => one.textContent).join('').replace(/\s+/g, ' ');
+    .map((one) => one.textContent).join('');
+  // LaTeX leaves out blanks at the beginning, which code has as its indentation.
+  const [indent] = node.hasAttribute('xml:space') ? text.match(/^ */) : [''];
   const colour = colourOf(style.fill) ?? 'black';
   return `\\node[anchor=${ANCHORS[style.textAnchor]},inner sep=0pt,text=${colour},font=${family}`
     + `${weight}${slant}\\fontsize{${size}}{${size}}\\selectfont] at (${
-      node.getAttribute('x')},${node.getAttribute('y')}) {${texOf(text)}};`;
+      node.getAttribute('x')},${node.getAttribute('y')}) {${'~'.repeat(indent.length)}${
+      texOf(text.slice(indent.length).replace(/\s+/g, ' '))}};`;
 }
 
 // The lines of one shape or text, in the place that its groups give it.
