@@ -84,5 +84,10 @@ function openLarge(header, move, after, size) {
   show(header + (after ? move + comment : comment + move), 1);
 }
 
-// Chooses the first transition that can be reached in this time.
-const chooseIn = (time) => all('[data-next-kind]').find((one) => one.textContent === time).click();
+// Chooses the first transition that can be reached in this time, if the list is drawn: a browser
+// tells the page some time after a click that the list was opened.
+function chooseIn(time) {
+  const found = all('[data-next-kind]').find((one) => one.textContent === time);
+  found?.click();
+  return found !== undefined;
+}

@@ -198,10 +198,10 @@ def test_room_for_several_moves(page):
     before = "lock ticket threads 3\n0 acquire\n0 add\n0 read\n1 acquire\n1 add\n"
     page.js("open", [before + 65529 * "1 read\n", "play", 65534])
     page.click("#next-kinds summary")
-    page.js("chooseIn", "in 3 moves")
+    page.until("chooseIn", "in 3 moves")
     page.shown(moves=65534, place=65534)
     page.go(65533)
-    page.js("chooseIn", "in 3 moves")
+    page.until("chooseIn", "in 3 moves")
     page.shown(moves=65536, place=65536)
 
 
