@@ -32,6 +32,13 @@ function compared() {
   return [Math.min(...letters), below.top - above.top].map((one) => one / innerHeight);
 }
 
+// The words of moves that lie over their marks.
+const wordsOffMarks = () => all('#lanes [data-move], #other [data-move]').filter((one) => {
+  const [word, mark] = ['.word-label', ':is(.step, .call-mark)'].map((name) => (
+    one.querySelector(name)?.getBBox()));
+  return word && mark && word.y < mark.y + mark.height && mark.y + 4 < word.y + word.height;
+}).map((one) => plain(one.textContent));
+
 // The texts of the memory picture that are wholly in view.
 const seenOfMemory = () => all('#memory-picture text')
   .filter((one) => inside(rect(one), rect(byId('memory')))).map((one) => plain(one.textContent));

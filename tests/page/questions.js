@@ -11,7 +11,7 @@ function beside() {
     report: seen('#now .report-line'), caption: text('#memory-says'), spoken: text('#spoken'),
     label: attribute('#memory-picture svg', 'aria-label'),
     links: count('#memory-picture .link'), marks: count('#memory-picture .word.changed'),
-    found: texts('#lanes .found.here title'),
+    found: texts('#lanes .found.here title'), values: texts('#memory-picture .value'),
   };
 }
 

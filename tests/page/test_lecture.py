@@ -29,23 +29,28 @@ def played(step):
 @pytest.mark.parametrize("width, height", [(1024, 768), (1366, 768), (1920, 1080)])
 @pytest.mark.parametrize("plan", PLANS, ids=list(LESSONS))
 def test_a_plan_step_by_step(page, plan, width, height):
-    """N goes to the next step. Each step has a question on the screen, and A shows its answer."""
+    """N goes to the next step. Each step has a question on the screen, and A shows its answer, with
+    what the step plays or compares."""
     page.resize(width, height)
     begin(page, plan["lock"])
     for at, step in enumerate(plan["steps"], 1):
         shown = page.js("step")
         where = (at, shown)
-        assert shown["place"] == step["move"] + played(step) and shown["hall"], where
+        compares = bool(played(step) or step.get("compare"))
+        assert shown["place"] == step["move"] and shown["hall"], where
         assert shown["step"] == f"Step {at} of {len(plan['steps'])}" and shown["isSeen"], where
         assert "show" not in step or shown["parts"] == step["show"].split(","), where
-        assert page.text("#bar .plan-say") == step.get("say", ""), where
-        assert shown["compares"] == bool(played(step) or step.get("compare")), where
+        assert page.text("#bar .plan-say") == ("" if compares else step.get("say", "")), where
+        assert not shown["compares"], where
         if step["place"] != "hand-over, 3":
             assert shown["question"].startswith(f"Question: {step.get('ask', '')}"), where
             page.press("a")
             answered = page.js("step")
-            assert answered["answers"] == 1 and answered["isSeen"], (at, answered)
+            assert answered["place"] == step["move"] + played(step), (at, answered)
+            assert answered["compares"] == compares and answered["isSeen"], (at, answered)
+            assert answered["answers"] == 1 and answered["question"] == shown["question"], where
             assert step.get("answer", "") in answered["answer"] != "", (at, answered)
+            assert page.text("#bar .plan-say") == step.get("say", ""), where
         page.press(*"n"[:at < len(plan["steps"])])
     page.press("Escape")
     shown = page.js("step")
@@ -75,14 +80,43 @@ def test_what_a_question_asks_for_is_not_beside_it(page):
         assert page.js("step")["discs"] and answer in page.text("#memory-picture")
 
 
-def test_a_click_on_the_answer(page):
-    """Key A closes the answer to the plan's own question that was opened by a click."""
+@pytest.mark.parametrize("lock, further, place, answered", [("mcs", 3, 7, 8), ("rw-fifo", 1, 6, 6)])
+def test_a_click_on_the_answer(page, lock, further, place, answered):
+    """Key A closes the answer that was opened by a click, and with it the comparison; and opens
+    both again."""
+    begin(page, lock)
+    page.press(*"n" * further)
+    for act, there, answers in [(lambda: page.click("#current .question summary"), answered, 1),
+                                (lambda: page.press("a"), place, 0),
+                                (lambda: page.press("a"), answered, 1)]:
+        act()
+        shown = page.js("step")
+        assert [shown["place"], shown["answers"], shown["compares"]] == [
+            there, answers, bool(answers)], shown
+
+
+@pytest.mark.parametrize("lock, further, keys, place, own", [
+    ("mcs", 3, ["ArrowRight"] * 2, 8, "Bob is in the queue now."),
+    ("rw-fifo", 1, ["ArrowRight"] * 5, 10, "Nobody is inside.")], ids=["mcs", "rw-fifo"])
+def test_an_answer_elsewhere(page, lock, further, keys, place, own):
+    """A lecturer who steps on within a step meets the lesson's own questions, and an answer of
+    theirs plays and compares nothing."""
+    begin(page, lock)
+    page.press(*"n" * further, *keys, "a")
+    shown = page.js("step")
+    assert [shown["place"], shown["answers"], shown["compares"]] == [place, 1, False], shown
+    assert shown["question"].startswith(f"Question: {own}"), shown
+
+
+def test_the_question_of_a_step_and_that_of_its_lesson(page):
+    """The step that plays another move asks its own question only; without the plan the lesson's
+    is there again."""
     begin(page, "mcs")
     page.press(*"nnn")
-    for act, answers in [(lambda: page.click("#current .question summary"), 1),
-                         (lambda: page.press("a"), 0)]:
-        act()
-        assert page.js("step")["answers"] == answers
+    assert page.js("texts", "#bar .question p b") == ["Question:"]
+    page.press("Escape")
+    page.lesson("mcs-late-link", 7)
+    assert page.text("#now .question p") == "Question: Ann finds no successor. Is she alone?"
 
 
 def test_memory_of_the_last_step_of_mcs(page):
@@ -99,11 +133,10 @@ def test_a_step_that_compares(page, lock, further, width, height):
     """Letters of the memory have 2 % of the screen's height, and lanes leave room for words."""
     page.resize(width, height)
     begin(page, lock)
-    page.press(*"n" * further)
-    for _ in range(2):
-        least, between = page.js("compared")
-        assert least >= 0.0199 and between > 0.05, (least, between)
-        page.press("a")
+    page.press(*"n" * further, "a")
+    least, between = page.js("compared")
+    assert least >= 0.0199 and between > 0.05, (least, between)
+    assert page.js("wordsOffMarks") == []
 
 
 def test_the_clock(page):

@@ -173,13 +173,29 @@ def test_the_form_of_before_is_valid(page, move, question, hidden):
 
 
 @pytest.mark.parametrize("part, parts", [
-    ("sentence", ["sentence"]), ("facts", ["facts", "report"]), ("memory", ["caption"])])
+    ("sentence", ["sentence"]), ("facts", ["facts", "report"]), ("memory", ["caption"]),
+    ("values", [])])
 def test_one_part_is_hidden(page, part, parts):
     """The report's line is one of the facts, and no part hides another."""
     page.open()
     page.show(OWN.replace("hide sentence facts", f"hide {part}"), 4)
     shown = page.js("beside")
     assert [one for one in ("sentence", "facts", "report", "caption") if not shown[one]] == parts
+    assert shown["values"] == (["?"] * 4 if part == "values" else ["0", "1", "0", "1"])
+
+
+@pytest.mark.parametrize("fragment, covered, values", [
+    ("fifo-reader-waits-behind-writer&move=4", ["?", "?", "?"], ["1", "0", "1"]),
+    ("mcs-late-link&move=8", ["?"] * 5 + ["pred = ?"],
+     ["Bob", "nil", "0", "nil", "0", "pred = Ann"])], ids=["rw-fifo", "mcs"])
+def test_values_are_hidden(page, fragment, covered, values):
+    """No word, own variable or tooltip has its value until the answer is shown."""
+    page.open(f"#lesson={fragment}")
+    for wanted in (covered, values):
+        assert page.js("beside")["values"] == wanted
+        titles = page.js("texts", "#memory-picture g:has(> .value) > title")
+        assert [title.split(": ")[-1] for title in titles] == wanted
+        page.press("a")
 
 
 WAITS = "A question waits here: A shows its answer, another → goes on."

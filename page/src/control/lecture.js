@@ -60,12 +60,44 @@ export class Lecture {
 
   go(at) {
     this.at = at;
-    const { page, step: { lesson, move, show: parts, play, compare } } = this;
+    this.isPlayed = false;
+    const { page, step: { lesson, move, show: parts } } = this;
     Object.assign(looks, { hall: true, parts: partsOf(parts) });
     page.modes.set('lessons');
     page.comparing.end();
     page.openLesson(lesson, move);
-    page.goOnWith(play, compare);
+    this.ask();
+  }
+
+  // The step's own question takes the place of its lesson's.
+  ask() {
+    const { page: { session: { move, remarks } }, step } = this;
+    if (!step.play) return;
+    remarks.ask.set(move, step.ask);
+    remarks.answer.set(move, step.answer);
+    remarks.hide.set(move, []);
+    this.page.draw();
+  }
+
+  // What a step plays or compares says the answer, so it comes and goes with that. Elsewhere than
+  // at the step's place an answer is its move's own.
+  answer(isShown) {
+    const { play, compare } = this.step ?? {};
+    if (!(play || compare) || !this.isAtPlace) return;
+    if (!isShown) {
+      this.go(this.at);
+      return;
+    }
+    this.isPlayed = true;
+    this.page.goOnWith(play, compare);
+    this.ask();
+    this.page.answered = true;
+  }
+
+  get isAtPlace() {
+    const { step: { lesson, move, play }, page: { session } } = this;
+    return this.isPlayed && play ? session.move === move + play.split(',').length
+      : session.move === move && session.lesson === lesson;
   }
 
   get left() { return Math.round((this.ends - Date.now()) / SECOND); }

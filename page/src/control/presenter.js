@@ -65,7 +65,6 @@ export class Presenter {
 }
 
 function lectureRows({ step, following }) {
-  return html`<p>${step.say}</p>${step.play && html`<p>${step.ask}</p>
-    <p class="say">${step.answer}</p>`}
+  return html`<p>${step.say}</p>
     ${following && html`<p class="soft">${T.following(following.title, following.move)}</p>`}`;
 }

@@ -117,8 +117,10 @@ export class Stepping {
   }
 
   toggleAnswer() {
-    this.page.answered = !this.page.answered;
-    this.page.fit();
+    const { page } = this;
+    page.answered = !page.answered;
+    page.lecture.answer(page.answered);
+    page.fit();
   }
 
   toggleRunning() {

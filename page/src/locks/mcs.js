@@ -11,7 +11,8 @@ import { isCovered } from '../model/remarks.js';
 import { unlinkedAfter } from '../model/spans.js';
 import { firstFitting, fitted, widthOf } from './fitting.js';
 import {
-  BOX_EDGES, enteredNow, movingMark, movingThread, picture, standingIn, standingOf, useOf, wordBox,
+  BOX_EDGES, enteredNow, movingMark, movingThread, picture, standingIn, standingOf, useOf, valueIn,
+  wordBox,
 } from './shapes.js';
 
 /** @typedef {import('../machine/machine.js').AnyState} State */
@@ -142,9 +143,9 @@ function layOut(view, state) {
 /** @param {View} view @param {State} state */
 function recordField(view, y, label, word, state, width) {
   const value = valueText(word, state.word(word), view);
-  const use = useOf(view.run, view.marked, word);
+  const wide = width - FIELD.left - FIELD.right;
   return html`<text class="mono field" x="14" y="${y + 19}">${label}</text>
-    ${wordBox(FIELD.left, y, width - FIELD.left - FIELD.right, value, use)}`;
+    ${wordBox(view, word, [FIELD.left, y, wide], value)}`;
 }
 
 // A label below a record may be wider than it, up to its neighbours and the edges of the picture.
@@ -155,7 +156,7 @@ function ownVariable(view, state, thread, width) {
   const name = OWN_VARIABLE[PHASES[state.phase(thread)]];
   if (!name) return null;
   const value = view.names.short(Number(state.phaseNumber(thread)));
-  const held = `${name} = ${value}`;
+  const held = `${name} = ${valueIn(view, value)}`;
   const whose = texts.ownVariable(view.names.of(thread));
   return html`<g transform="translate(0,${RECORD.height + 12})"><title>${whose}: ${held}</title>
     <rect class="own" x=".5" width="${width - 1}" height="28" rx="8"/>
@@ -255,7 +256,7 @@ function tail(view, state, layout) {
   const wide = Math.min(widest, Math.max(TAIL_BOX.width, valueWidth(view.names)));
   const path = place && tailPath(left + wide, place.x + layout.width / 2, place.y - 4);
   return html`<text class="mono word-name strong" x="24" y="43">tail</text>
-    ${wordBox(left, 24, wide, value, useOf(view.run, view.marked, owned.tail))}
+    ${wordBox(view, owned.tail, [left, 24, wide], value)}
     ${path && !isCovered(view, 'memory') && html`<path
       class="link ${redirected(view, owned.tail)}" pathLength="1" d="${path}"/>`}`;
 }

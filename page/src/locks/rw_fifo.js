@@ -8,7 +8,7 @@ import { say } from '../texts/texts.js';
 import {
   callers, monitor, monitorEnd, readersCaption, readWrite, room, roomHeight, sectionMark,
 } from './read_write.js';
-import { picture, useOf, wordBox } from './shapes.js';
+import { picture, wordBox } from './shapes.js';
 import { handLegend, HANDS, hasWheel, wheelOf, wheelPlaced } from './wheel.js';
 
 /** @typedef {import('../machine/machine.js').AnyState} State */
@@ -41,7 +41,7 @@ function counts(view, state) {
   const wheel = wheelPlaced(view.run.bits, 104, 160, 58);
   const hands = [{ value: held(state, RELEASES), style: HANDS.inner },
     { value: held(state, ACQUIRES), style: HANDS.outer }];
-  return html`${wheelOf(wheel, hands, [])}
+  return html`${wheelOf(view, wheel, hands, [])}
     ${handLegend(x, y, 'outer', ACQUIRES)}
     ${handLegend(x, y + 20, 'inner', RELEASES)}`;
 }
@@ -64,8 +64,8 @@ function callersAt({ width }, left, below, wheelEnd, isEmpty) {
 
 /** @param {View} view @param {State} state */
 function draw(view, state) {
-  const box = (name, x, width) => wordBox(x, 40, width, String(held(state, name)),
-    useOf(view.run, view.marked, wordNamed(NAME, name)), name);
+  const box = (name, x, width) => wordBox(view, wordNamed(NAME, name), [x, 40, width],
+    String(held(state, name)), name);
   const wheel = hasWheel(view.run.bits);
   const left = wheel ? 214 : 24;
   const roomWidth = Math.min(ROOM, view.width - left - 12);

@@ -7,7 +7,7 @@ import { translated } from '../texts/language.js';
 import {
   monitor, monitorEnd, readersCaption, readWrite, room, roomHeight, sectionMark,
 } from './read_write.js';
-import { picture, useOf, wordBox } from './shapes.js';
+import { picture, wordBox } from './shapes.js';
 
 /** @typedef {import('../machine/machine.js').AnyState} State */
 /** @typedef {import('../model/session.js').View} View */
@@ -26,8 +26,8 @@ const BESIDE = 600;
 // The monitor is beside the room, or below it if the picture is narrow.
 /** @param {View} view @param {State} state */
 function draw(view, state) {
-  const box = (name, x) => wordBox(x, 40, 108, String(held(state, name)),
-    useOf(view.run, view.marked, wordNamed(NAME, name)), name);
+  const box = (name, x) => wordBox(view, wordNamed(NAME, name), [x, 40, 108],
+    String(held(state, name)), name);
   const beside = view.width >= BESIDE;
   const roomWidth = Math.min(272, beside ? view.width * 0.44 : view.width - 48);
   const inside = 92 + roomHeight(view, state, roomWidth);

@@ -64,14 +64,21 @@ export const foldedToken = (x, y, view, folded) => html`<g class="fold">
 // The parts of a word's box beside its value.
 export const BOX_EDGES = 12;
 
+// The value of a word or of a thread's own variable, unless a question asks for it.
+/** @param {View} view */
+export const valueIn = (view, value) => (isCovered(view, 'values') ? '?' : value);
+
 // A word of memory as a box: plain, read by this move, or changed by it. A name that is too long
 // for it is cut, and shown whole if one points at it.
-export function wordBox(x, y, width, value, use, label = '') {
+/** @param {View} view */
+export function wordBox(view, word, [x, y, width], value, label = '') {
+  const shown = valueIn(view, value);
+  const use = useOf(view.run, view.marked, word);
   return html`${label && html`<text class="mono word-name" x="${x}" y="${y - 7}">${label}</text>`}
-    <g><title>${value}</title>
+    <g><title>${shown}</title>
     <rect class="word ${use}" x="${x}" y="${y}" width="${width}" height="28" rx="6"/>
     <text class="mono value" x="${x + width / 2}" y="${y + 19}"
-      text-anchor="middle">${fitted(value, width - BOX_EDGES, 'word')}</text></g>`;
+      text-anchor="middle">${fitted(shown, width - BOX_EDGES, 'word')}</text></g>`;
 }
 
 // How the move used a word: 'changed', 'read' or ''.

@@ -9,7 +9,7 @@ import { isCovered } from '../model/remarks.js';
 import { translated } from '../texts/language.js';
 import { say, texts } from '../texts/texts.js';
 import { firstFitting } from './fitting.js';
-import { foldedToken, movingThread, picture, token, useOf, wordBox } from './shapes.js';
+import { foldedToken, movingThread, picture, token, valueIn, wordBox } from './shapes.js';
 import { handLegend, HANDS, hasWheel, wheelOf, wheelPlaced } from './wheel.js';
 
 /** @typedef {import('../machine/machine.js').AnyState} State */
@@ -49,8 +49,8 @@ const holdersOfTickets = (state) => state.queue.map((thread) => ({
 // Both words, beside each other or one below the other.
 /** @param {View} view @param {State} state */
 function words(view, state, x, beside, y) {
-  const box = (name, at, y) => wordBox(at, y, 112, String(held(state, name)),
-    useOf(view.run, view.marked, wordNamed(NAME, name)), name);
+  const box = (name, at, y) => wordBox(view, wordNamed(NAME, name), [at, y, 112],
+    String(held(state, name)), name);
   const second = beside ? [x + 128, y] : [x, y + 56];
   return html`${box(NEXT_TICKET, x, y)}${box(NOW_SERVING, ...second)}`;
 }
@@ -82,7 +82,7 @@ function ownVariables(view, all, left, top, inRow) {
     const y = top + OWN_ROW * Math.floor(i / inRow);
     if (folded) return foldedToken(x + 13, y + 14, view, folded.map(({ thread }) => thread));
     return html`${token(x + 13, y + 14, view, one.thread)}
-      ${ownBox(x + 36, y, 112, `${one.name} = ${one.number}`)}`;
+      ${ownBox(x + 36, y, 112, `${one.name} = ${valueIn(view, one.number)}`)}`;
   });
 }
 
@@ -118,7 +118,8 @@ function narrow(view, state) {
   const legendBeside = view.width >= LEGEND_BESIDE;
   const height = Math.max(legendBeside ? 258 : 292,
     top + 14 + OWN_ROW * Math.ceil(all.length / inRow));
-  return picture(view, height, caption(view, state).text, html`${wheelOf(wheel, hands, tokens)}
+  return picture(view, height, caption(view, state).text, html`
+    ${wheelOf(view, wheel, hands, tokens)}
     ${isSlim ? legend(x, 158) : legendBeside ? legend(x + 172, top + 14)
     : legend(middle - 62, 258)}
     ${words(view, state, x, beside, 40)}
@@ -140,7 +141,7 @@ function cell(view, { thread, number }, x, y) {
   return html`<rect class="cell ${next && 'next'}" x="${x}" y="${y}" width="${CELL - 8}"
       height="34" rx="6"/>
     <text class="mono value" x="${middle}" y="${y + 22}"
-      text-anchor="middle">${number}</text>${below}`;
+      text-anchor="middle">${valueIn(view, number)}</text>${below}`;
 }
 
 // A place for tickets that are folded.
@@ -169,14 +170,14 @@ function served(view, state) {
   const thread = state.queue.find((one) => PHASES[state.phase(one)] === 'PassOn');
   if (thread === undefined || asks(view)) return null;
   const whose = texts.ownVariable(view.names.of(thread));
-  return html`${ownBox(296, 40, 112, `served = ${state.phaseNumber(thread)}`)}
+  return html`${ownBox(296, 40, 112, `served = ${valueIn(view, state.phaseNumber(thread))}`)}
     <text class="note" x="352" y="84" text-anchor="middle">${whose}</text>`;
 }
 
 /** @param {View} view @param {State} state */
 function wide(view, state) {
-  const box = (name, x) => wordBox(x, 40, 120, String(held(state, name)),
-    useOf(view.run, view.marked, wordNamed(NAME, name)), name);
+  const box = (name, x) => wordBox(view, wordNamed(NAME, name), [x, 40, 120],
+    String(held(state, name)), name);
   const { drawn, height } = strip(view, state, 116);
   return picture(view, 140 + height, caption(view, state).text,
     html`${box(NOW_SERVING, 24)}${box(NEXT_TICKET, 160)}

@@ -2,6 +2,7 @@
 // clockwise.
 
 import { html } from '../lib/markup.js';
+import { isCovered } from '../model/remarks.js';
 
 const MOST_BITS = 5;
 
@@ -23,14 +24,16 @@ function hand(wheel, value, style) {
 }
 
 // `hands` is a list of {value, style}; `tokens` draws what is at a place, outside the rim.
-export function wheelOf(wheel, hands, tokens) {
+/** @param {import('../model/session.js').View} view */
+export function wheelOf(view, wheel, hands, tokens) {
+  const shown = isCovered(view, 'values') ? [] : hands;
   const numbers = Array.from({ length: wheel.places }, (_, place) => {
     const at = spoke(wheel, place, wheel.radius);
     return html`<g class="place"><circle cx="${at.x}" cy="${at.y}" r="${wheel.dot}"/>
       <text x="${at.x}" y="${at.y + 4.5}" text-anchor="middle">${place}</text></g>`;
   });
   return html`<circle class="rim" cx="${wheel.x}" cy="${wheel.y}" r="${wheel.radius}"/>${numbers}
-    ${hands.map(({ value, style }) => hand(wheel, value, style))}
+    ${shown.map(({ value, style }) => hand(wheel, value, style))}
     ${tokens.map(({ place, draw }) => {
     const at = spoke(wheel, place, wheel.radius + wheel.dot + 17);
     return draw(at.x, at.y);

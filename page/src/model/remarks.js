@@ -12,7 +12,7 @@ const HASH = '#'.charCodeAt(0);
 const WHOLE = /^#! (?<what>title|learn) (?<text>.+)$/;
 const REMARK = /^#! (?<what>say|ask|answer|name) (?<number>0|[1-9][0-9]{0,4}) (?<text>.+)$/;
 // The parts that a question hides until its answer; by default `memory`.
-const PARTS = ['sentence', 'facts', 'memory', 'standing'];
+const PARTS = ['sentence', 'facts', 'memory', 'values', 'standing'];
 const HIDES = /^hide (?<parts>[a-z]+(?: [a-z]+)*) : (?<asked>.+)$/;
 const UNSAID = ['memory'];
 // Without a title it is the beginning of the first comment.

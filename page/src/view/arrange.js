@@ -25,7 +25,7 @@ const LANES = {
 };
 const COMPARED = 0.17;
 // In a hall a few have room for their words, and more are as low as can be.
-const COMPARED_LANE = { height: 26, foot: 6, most: 5, tallest: 37, few: 96 };
+const COMPARED_LANE = { height: 26, foot: 6, most: 5, tallest: 48, few: 108 };
 // Above memory on a projector, and above another part.
 const ABOVE = { memory: 0.2, other: 0.24 };
 const LOW = { wide: { height: 800, share: 0.26 }, medium: { height: 600, share: 0.2 } };

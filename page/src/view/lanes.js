@@ -24,8 +24,10 @@ const ROOM_FOR_UNLINKED = 170;
 const NARROW = 34;
 // How far the value below a mark may reach over its column.
 const FOUND_ROOM = 1.15;
-// Letters above a mark stay within the picture.
+// Letters above a mark stay within the picture, and off the mark. Else they are below it.
 const HIGHEST = 14;
+const NEAREST = 10;
+const BELOW = 21;
 const LOOKS = ['read', 'swap', 'add', 'section'];
 
 const rounded = (number) => Math.round(number * 10) / 10;
@@ -130,6 +132,11 @@ function foundText(view, move) {
   return LOOKS.includes(word) ? lockOf(view.run).mark(view, move) : '';
 }
 
+function labelY(middle, tall) {
+  const above = Math.max(HIGHEST, middle - (tall ? 20 : 13));
+  return above <= middle - NEAREST ? above : middle + BELOW;
+}
+
 // Above the mark: the call or the kind of step. In low lanes only the current move's is written.
 // An exercise sheet has it too: the pupil fills in what came of it.
 /** @param {View} view @param {Layout} layout */
@@ -140,8 +147,7 @@ function label(view, layout, move, at, tall) {
   const call = records.isCall(move);
   const word = MOVES[records.action(move)];
   return html`<text class="word-label ${call && 'call'} ${here && 'here'}" x="${at.x}"
-    y="${Math.max(HIGHEST, at.y - (tall && !view.blank ? 20 : 13))}"
-    text-anchor="middle">${word}</text>`;
+    y="${labelY(at.y, tall && !view.blank)}" text-anchor="middle">${word}</text>`;
 }
 
 /** @param {View} view @param {Layout} layout */
@@ -202,7 +208,7 @@ function refusedMark(view, layout, thread, middle) {
     <rect class="target" x="${x - layout.column / 2}" y="${middle - 24}"
       width="${layout.column}" height="48"/>
     <path class="refused-mark" d="M${x - 9} ${middle - 9}l18 18m0 -18l-18 18"/>
-    <text class="word-label refused-word" x="${x}" y="${middle - (tall ? 20 : 13)}"
+    <text class="word-label refused-word" x="${x}" y="${labelY(middle, tall)}"
       text-anchor="middle">${refusal.word}</text>
     ${tall && html`<text class="found fails" x="${x}" y="${middle + 27}"
       text-anchor="middle">${texts.refused.refused}</text>`}</g>`;
@@ -285,13 +291,13 @@ function hereColumn(layout, y, height) {
 }
 
 // A line before the column of the first move that differs from the compared run. The lanes of two
-// runs may be too low for its sign above their words.
+// runs may be too low for its sign above their words, and their columns too narrow.
 /** @param {View} view @param {Layout} layout */
 function differentColumn(view, layout) {
   const { different } = view;
   if (!different || different < layout.origin || different > layout.end) return null;
   const x = rounded(placeX(layout, different - 0.5));
-  const signed = layout.laneHeight >= LANE.lowest;
+  const signed = layout.laneHeight >= LANE.lowest && layout.column > NARROW;
   return html`<path class="different" data-different="${different}"
     d="M${x} ${signed ? 20 : 4}V${layout.height}"/>${signed && html`<text class="different-sign"
     x="${x}" y="14" text-anchor="middle">≠</text>`}`;

@@ -24,12 +24,8 @@ export function drawClock({ clock }) {
   if (box) write(box, clock);
 }
 
-// A plan's own question above the parts, beside that of the lesson.
-export function lectureView({ lecture, answered }) {
-  if (!lecture.isOn) return null;
-  const { say, ask, answer, play } = lecture.step;
-  return html`${say && html`<p class="plan-say">${say}</p>`}
-    ${play && html`<div class="question"><p><b>${texts.question}</b> ${ask}</p>
-      <details ${answered && 'open'}><summary data-answer="plan">${texts.showAnswer}</summary>
-      <p>${answer}</p></details></div>`}`;
+// The step's sentence above the parts: that on a comparison comes with it.
+export function lectureView({ lecture: { isOn, step }, comparing }) {
+  return isOn && step.say && (comparing.isOn || !step.compare)
+    && html`<p class="plan-say">${step.say}</p>`;
 }
