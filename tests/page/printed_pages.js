@@ -80,3 +80,35 @@ function bodyOnPaper() {
   stylePaper();
   return [rect(document.body).height, styleOf('body').borderBottomWidth];
 }
+
+// Where the parts of a sheet are that are printed: left, right, top, and height. Paper has no bar
+// for scrolling.
+function onSheet(selectors) {
+  stylePaper();
+  document.documentElement.style.scrollbarWidth = 'none';
+  return Object.fromEntries(selectors.map((one) => [one, all(one)
+    .filter((node) => node.checkVisibility()).map((node) => {
+      const { left, right, top, height } = rect(node);
+      return [left, right, top, height].map(Math.round);
+    })]));
+}
+
+// Which of these parts are not cut where a sheet ends, and which begin a sheet.
+const kept = (selectors, side, value) => selectors.filter((one) => count(one)
+  && styleOf(one)[side] === value);
+const keptWhole = (selectors) => kept(selectors, 'breakInside', 'avoid');
+const onNewSheets = (selectors) => kept(selectors, 'breakBefore', 'page');
+
+// The words at the marks of a strip that touch the word before them, and those that are cut.
+function wordsOnWords() {
+  stylePaper();
+  const words = all('#paper .strip .move text').filter((one) => one.textContent);
+  const boxes = words.map((one) => ({ ...boxOf(one), word: one.lastChild.textContent }))
+    .sort((one, other) => one.top - other.top || one.left - other.left);
+  return [boxes.filter(({ left, top }, at) => at > 0 && top === boxes[at - 1].top
+    && left < boxes[at - 1].right), boxes.filter(({ word }) => word.endsWith('…'))]
+    .map((those) => those.map(({ word }) => word));
+}
+
+const underlined = (selectors) => selectors.map((one) => (
+  parseFloat(styleOf(`#paper ${one}`).borderBottomWidth) > 0));

@@ -259,3 +259,80 @@ def test_a_link_asks_for_a_sheet(page):
     page.js("stubPrint")
     page.press("Enter")
     assert page.js("printed") == "exercise"
+
+
+# By hand, in pixels: a sheet is 1040 wide, and a millimetre 3.78.
+WORKED = {
+    # The numbers of the moves, and two lanes of 78.
+    ".strip svg": [[0, 1040, 30], [0, 1040, 156]],
+    # Memory has 1.6 parts of the width and the code one, 8 mm apart.
+    ".figure > div": [[0, 621], [652, 1040]], ".figure > div > svg": [[0, 621]],
+    "table": [[0, 1040]], "caption": [[0, 1040]]}
+# Two parts for the name and one for the date; two memories and the code; the table, which has 1.15
+# parts, and the questions, 9 mm apart.
+EXERCISE = {
+    ".strip svg": [[0, 1040, 25], [0, 1040, 84]], ".name-line span": [[0, 673], [703, 1040]],
+    ".figure > div > svg": [[0, 327], [357, 683]], ".answers > *": [[0, 538], [572, 1040]]}
+UNSEEN = ".tools, footer, #work, #bar, #notice, dialog, #paper button"
+
+
+@cases("sheet, wanted", {"worked": ("worked", WORKED), "exercise": ("exercise", EXERCISE)})
+def test_where_parts_are_on_a_sheet(page, sheet, wanted):
+    """Each part is as wide as its place, below the one before it, and nothing else is printed."""
+    page.resize(1040, 700)
+    page.open(LATE_LINK)
+    page.js("print", sheet)
+    page.press("?")
+    parts = page.js("onSheet", [*(f"#paper {one}" for one in wanted), "#paper > *", UNSEEN])
+    assert parts.pop(UNSEEN) == []
+    shown = parts.pop("#paper > *")
+    assert all(one[2] + one[3] <= other[2] for one, other in zip(shown, shown[1:])), shown
+    assert shown[0][2] > 43 and {tuple(one[:2]) for one in shown} == {(0, 1040)}, shown
+    for part, places in wanted.items():
+        found = parts[f"#paper {part}"]
+        assert [[*one[:2], one[3]][:len(places[0])] for one in found] == places, part
+        assert part == ".strip svg" or len({top for _, _, top, _ in found}) == 1, part
+    whole = [".strip", ".figure", ".asked", "#paper tr"]
+    assert page.js("keptWhole", whole) == whole
+    begins = ["#paper table", ".answers"]
+    assert page.js("onNewSheets", begins) == [begins[sheet == "exercise"]]
+
+
+def test_room_to_write(page):
+    """Two lines of 7 mm are below each question, and a row of the table has 5.7 mm for an answer,
+    in columns as wide as each other."""
+    page.resize(1040, 700)
+    page.open(LATE_LINK)
+    page.js("print", "exercise")
+    lines, rows = page.js("onSheet", ["#paper p.blank", "#paper .blanks td:nth-child(n + 4)"]
+                          ).values()
+    assert [height for *_, height in lines] == [26] * 10
+    assert len(rows) == 3 * 16 and all(height >= 21 for *_, height in rows), rows
+    assert {right - left for left, right, *_ in rows} <= {102, 103}
+    assert page.js("underlined", ["p.blank", ".name-line span"]) == [True, True]
+
+
+# The longest word of a step, again and again: of few threads and of many.
+POLLS = "0 wlock\n0 section\n1 rlock\n" + "1 section\n" * 28
+
+
+@pytest.mark.parametrize("threads", [2, 6])
+@pytest.mark.parametrize("sheet", ["worked", "exercise"])
+def test_no_word_runs_into_the_next(page, sheet, threads):
+    page.resize(1600, 900)
+    page.open(LATE_LINK)
+    page.show(f"lock rw-fifo threads {threads}\n{POLLS}")
+    page.js("print", sheet)
+    assert page.js("wordsOnWords") == [[], []]
+
+
+def test_a_fault_on_paper(page):
+    """The button that mends a line is not printed, and the lines around it are, to the left."""
+    page.open(LATE_LINK)
+    page.show("lock ticket threads 2\n0 aquire\n1 acquire\n")
+    page.js("drawPaper")
+    assert page.js("count", "#paper [data-mend]") == 1
+    parts = page.js("onSheet", ["#paper button", "#paper .text-around", "#paper .wrong-part"])
+    assert parts["#paper button"] == []
+    [[left, right, *_]], [[edge, end, *_]] = list(parts.values())[1:]
+    assert edge < left < right < end / 2

@@ -11,6 +11,21 @@ QUESTIONS = [(path.stem, int(move), parts.split()) for path in sorted(EXAMPLES.g
 assert len(QUESTIONS) >= 35
 
 
+def remark(name, word, move):
+    """The question or the answer at a move of a lesson, which may have several lines."""
+    text = (EXAMPLES / f"{name}.schedule").read_text("latin-1")
+    return " ".join(re.findall(rf"^#! {word} {move} (?:hide [a-z ]+? : )?(.+)$", text, re.MULTILINE))
+
+
+def test_each_question_has_its_answer(page):
+    page.open()
+    for name, move, _ in QUESTIONS:
+        page.lesson(name, move)
+        page.press("a")
+        assert page.js("texts", "#now .question p") == [
+            f"Question: {remark(name, 'ask', move)}", remark(name, "answer", move)], (name, move)
+
+
 def test_each_part_comes_with_the_answer(page):
     page.open()
     for name, move, parts in QUESTIONS:

@@ -45,8 +45,12 @@ def test_without_colour(page):
     "writes": ("1 wlock\n1 section\n0 rlock\n" + "0 section\n" * 3, "writes")})
 def test_a_word_in_a_bar(page, moves, word):
     page.open()
-    page.show(f"lock rw-simple threads 2\n{moves}", 6)
-    assert page.js("wordsInBars") == [[word, True]]
+    page.show(f"lock rw-simple threads 2\n{moves}")
+    for move in (3, 4, 5, 6):
+        page.go(move)
+        assert page.js("wordsInBars") == [[word, True]], move
+    page.go(2)
+    assert page.js("wordsInBars") == [], "it has no room yet"
 
 
 # The states in which threads stand so, and the grounds of their bars, discs, pills and heads, by

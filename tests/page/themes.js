@@ -76,13 +76,9 @@ function heads(letters) {
   });
 }
 
-// Each word in a bar of the lanes, and whether it is in the middle of its height and within it.
-const wordsInBars = () => all('#lanes .span-text').map((word) => {
-  const [kind, { top, bottom, left, right }] = [word.classList[1], rect(word)];
-  const bar = rect(all(`#lanes .span.${kind}`).find((one) => (
-    rect(one).left < left && rect(one).right > right && Math.abs(rect(one).top - top) < 20)));
-  return [word.textContent, Math.abs(top + bottom - bar.top - bar.bottom) < 8];
-});
+// Each word in a bar of the lanes, and whether it is in the middle of the bar up to the shown move.
+const wordsInBars = () => all('#lanes .span-text').map((word) => [word.textContent,
+  all(`#lanes .span.${word.classList[1]}:not(.future)`).some((bar) => isIn(word, bar, 2, 4))]);
 
 // The names of threads as they are drawn, and whole, as in their titles.
 function namesDrawn(letters) {

@@ -1,5 +1,6 @@
 // How many moves are printed, and how: never more than twelve sheets, each strip on one of them.
 
+import { lockOf } from '../locks/locks.js';
 import { gutterOf, lanesOf } from './layout.js';
 
 /** @typedef {import('../model/session.js').View} View */
@@ -11,6 +12,8 @@ const FEW = { threads: 5, width: 1040, column: 56, lane: 78, name: 'few' };
 const MANY = { width: 1600, column: 35, lane: 78, lowest: 12, name: 'many' };
 // On an exercise sheet a strip has all moves if it can, so that memory has room below it.
 const BLANK = { width: 1240, least: 34, most: 70, lane: 50, name: 'few' };
+// How much smaller the letters of many threads are.
+const SMALLER = 0.84;
 const SHAPE = 188 / 275;
 const HEAD = 30;
 // What a sheet has beside strips, the first one the title.
@@ -21,15 +24,22 @@ const ROWS = 19;
 const OTHER_SHEETS = 2;
 const MOST_MOVES = 400;
 
+// Each column has room for the longest word of a step.
 function blankStrip({ names, run }) {
-  const { width, least, most, lane, name } = BLANK;
+  const { width, most, lane, name } = BLANK;
+  const least = lockOf(run).leastColumn ?? BLANK.least;
   const fitting = Math.floor((width - gutterOf(names, width) - 20) / Math.max(1, run.last));
   return { width, column: Math.min(most, Math.max(least, fitting)), lane, name };
 }
 
 /** @param {View} view */
+function manyStrip({ run }) {
+  return { ...MANY, column: Math.max(MANY.column, SMALLER * (lockOf(run).leastColumn ?? 0)) };
+}
+
+/** @param {View} view */
 function kindOfStrip(view, lanes) {
-  if (lanes.length > FEW.threads) return MANY;
+  if (lanes.length > FEW.threads) return manyStrip(view);
   return view.blank ? blankStrip(view) : FEW;
 }
 
