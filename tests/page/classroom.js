@@ -40,13 +40,15 @@ function cut() {
     || one.lastChild.textContent.endsWith('…')).map((one) => one.textContent);
 }
 
+// The name and the text of the file with the answers.
 async function saved(name) {
   let blob;
+  let file;
   byId('quiz-name').value = name;
   URL.createObjectURL = (one) => { blob = one; return 'data:,'; };
-  HTMLAnchorElement.prototype.click = () => {};
+  HTMLAnchorElement.prototype.click = function click() { file = this.download; };
   click('[data-save-quiz]');
-  return blob.text();
+  return [file, await blob.text()];
 }
 
 const today = () => new Date().toISOString().slice(0, 10);

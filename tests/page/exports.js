@@ -4,13 +4,19 @@
 async function take(what) {
   const taken = {};
   const caught = new Promise((done) => {
-    URL.createObjectURL = (blob) => { blob.arrayBuffer().then(done); return 'data:,'; };
+    URL.createObjectURL = (blob) => {
+      blob.arrayBuffer().then(done);
+      window.typeTaken = blob.type;
+      return 'data:,';
+    };
   });
   HTMLAnchorElement.prototype.click = function click() { taken.name = this.download; };
   click(`[data-take=${what}]`);
   const letters = lettersOf(new Uint8Array(await caught));
   return [taken.name, letters];
 }
+
+const typeTaken = () => window.typeTaken;
 
 function copied(what) {
   let text;

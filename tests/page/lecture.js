@@ -57,11 +57,13 @@ function keepWindows() {
   window.everOpened = new Set();
   window.open = (...asked) => {
     window.opened = open.apply(window, asked);
+    window.askedFor = asked;
     window.everOpened.add(window.opened);
     return window.opened;
   };
 }
 
+const askedFor = () => window.askedFor;
 const countOfWindows = () => window.everOpened.size;
 
 const presented = () => window.opened && plain(window.opened.document.body.textContent);

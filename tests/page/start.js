@@ -21,6 +21,7 @@ const stored = (name) => localStorage.getItem(name);
 // Whether each picture of a card is as wide as the card.
 const pictures = () => all('#lessons .live')
   .map((one) => Math.abs(rect(one.querySelector('svg')).width - rect(one).width) < 2);
+const unitsOfPictures = () => all('#lessons .live svg').map((one) => one.viewBox.baseVal.width);
 const refusals = () => [count('.refusals [data-lesson]'), document.querySelector('.refusals').open];
 const ways = () => all('[data-way]').map((one) => one.dataset.way);
 const chosen = () => document.activeElement.dataset.lesson ?? null;
@@ -71,6 +72,17 @@ function hasten() {
   const { setInterval } = window;
   window.setInterval = (act, wait) => setInterval(act, wait / 10);
 }
+
+// Before the page's script: keeps the act of the last clock, which is then done by hand.
+function stopClock() {
+  window.setInterval = (act) => { window.turn = act; };
+}
+
+// What the picture of a card says after each of some turns of its clock.
+const turns = (lock, times) => Array.from({ length: times }, () => {
+  window.turn();
+  return attribute(`[data-live=${lock}] svg`, 'aria-label');
+});
 
 // Each marked word in a part, with the term that explains it.
 const terms = (part) => all(`${part} .term`).map((one) => [one.textContent, one.dataset.term]);

@@ -70,8 +70,8 @@ def test_the_button_that_plays(page):
     """Its name says what a press does, so it is not read as pressed too."""
     page.open("#lesson=mcs-late-link&move=0")
     for name, sign in [("Play the moves one after another", "go"), ("Pause", "stop")] * 2:
-        assert [page.js("attribute", "#run", one) for one in ["aria-label", "aria-pressed"]] == [
-            name, None]
+        assert [page.js("attribute", "#run", one) for one in [
+            "aria-label", "title", "aria-pressed"]] == [name, name, None]
         assert page.js("signOfRun") == [sign]
         page.press("Space")
     assert not page.js("isRunning")

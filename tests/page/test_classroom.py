@@ -57,6 +57,9 @@ def test_a_name_is_asked_for_once(page):
     page.js("focus", "#quiz-name")
     page.press(*"Ada", "Tab")
     page.js("blur")
+    page.js("leave")
+    page.reload()
+    assert page.js("value", "#quiz-name") == "Ada", "before any further move"
     page.press("End")
     page.js("answer", "-")
     assert page.js("value", "#quiz-name") == "Ada"
@@ -80,11 +83,12 @@ def test_another_language_keeps_the_answers(page):
 
 
 def test_the_answers_for_the_teacher(page):
-    """The saved answers have the name, the minute and the link."""
+    """The saved answers have the name, the minute and the link, in a file that has its own name."""
     page.open(f"{LATE_LINK}&move=0")
     page.press("q", "End")
     page.js("answer", "-")
-    text = page.js("saved", "Ada Lovelace")
+    name, text = page.js("saved", " Ada Lovelace ")
+    assert name == "quiz.txt"
     assert "# Name: Ada Lovelace\n" in text and LATE_LINK in text, text
     assert page.js("today") in text
     assert re.search(r"(?m)^# \d{4}-\d\d-\d\dT\d\d:\d\d file:", text), text

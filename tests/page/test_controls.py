@@ -45,6 +45,7 @@ def test_a_dialog_opens_and_closes(page, key, button, dialog, focused):
             click_beside(page)
         page.becomes([], "opened")
         page.becomes("body", "focused")
+        assert page.js("count", "#lesson-list *") == 0, "its pictures are none of the page's"
         assert page.shown() == before, way
         page.press("ArrowRight", "ArrowLeft", "Space")
         assert page.js("isRunning"), way
@@ -154,6 +155,8 @@ def test_what_there_is_of_a_text_without_a_lock(page):
         "There is nothing to compare with. Branch off first, in Play or by an edit.")
     page.press("Escape", "g")
     assert page.text("#choices") == "The text has a fault. Correct it, or begin a new schedule."
+    page.press("y")
+    assert page.text("#why-title") == "Why each line is there: Ticket lock"
 
 
 @cases("selector, acts, leaves", {

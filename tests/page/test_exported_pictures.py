@@ -129,13 +129,17 @@ def test_nothing_is_outside(page, lesson, move, what, parts, moves):
 
 
 def test_which_moves_are_offered(page):
-    """The dialog offers the shown move with the three before it, or the first three moves."""
+    """The dialog offers the shown move with the three before it, or the first three moves, if there
+    are as many."""
     page.open(LATE_LINK)
     for move, offered in [(0, ["0", "3"]), (1, ["0", "3"]), (9, ["6", "9"])]:
         page.go(move)
         page.press("t")
         assert [page.js("value", f"#take-{end}") for end in ("from", "to")] == offered, move
         page.press("Escape")
+    page.show("lock ticket threads 1\n0 acquire\n")
+    page.js("click", "#show-take")
+    assert page.js("value", "#take-to") == "1"
 
 
 @pytest.mark.parametrize("lesson, first, last", [

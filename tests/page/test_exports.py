@@ -60,15 +60,20 @@ def test_the_report_and_the_schedule(page, what, name):
     assert page.js("take", what) == [name, (EXAMPLES / f"mcs-late-link.{what}").read_text("ascii")]
 
 
-@pytest.mark.parametrize("what, name", [
-    ("tikz", "mcs-late-link-9.tex"), ("strip", "mcs-late-link-9.strip.svg"),
-    ("animated", "mcs-late-link-9.moves.png")])
-def test_names_of_files(page, what, name):
-    """A file has the names of the lesson and of the move, and a schedule of one's own has one."""
+@pytest.mark.parametrize("what, name, kind", [
+    ("svg", "mcs-late-link-9.svg", "image/svg+xml"), ("png", "mcs-late-link-9.png", "image/png"),
+    ("tikz", "mcs-late-link-9.tex", "text/plain"),
+    ("strip", "mcs-late-link-9.strip.svg", "image/svg+xml"),
+    ("animated", "mcs-late-link-9.moves.png", "image/png"),
+    ("report", "mcs-late-link-9.report", "text/plain")])
+def test_names_of_files(page, what, name, kind):
+    """A file has the names of the lesson and of the move, and a schedule of one's own has one. It
+    is of its kind, and the dialog is closed."""
     page.open(LATE_LINK)
     page.press("t")
     assert page.js("take", what)[0] == name
-    assert page.js("count", ".unseen") == 0
+    assert page.js("typeTaken") == kind
+    assert page.js("count", ".unseen, #take[open]") == 0
     page.show("lock ticket threads 1\n0 acquire\n", 1)
     assert page.js("take", what)[0] == name.replace("mcs-late-link-9", "schedule-1")
 
@@ -189,6 +194,12 @@ def test_who_it_is(page):
     assert "cas(tail, me, nil), or else:" in said and "Lesson plans" in said
     for name in ["PROOF.md", "GUIDE.md"]:
         assert f"docs/{name}" in said and (TOP / "docs" / name).exists()
+    proved, plans, source, licence, browsers, languages = page.js("texts", "#about p")
+    assert proved.startswith("This page runs the machine of lockreplay itself, compiled to WebAss")
+    assert plans == "Lesson plans for teachers" and licence == "Licence: Apache-2.0 OR MIT."
+    assert source.startswith("The source is in the repository of lockreplay: page/src, ")
+    assert browsers.startswith("It needs 64-bit WebAssembly memory: ")
+    assert languages == "Language: English Deutsch"
 
 
 def test_what_the_page_has_of_itself(page):

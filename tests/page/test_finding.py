@@ -167,6 +167,30 @@ def test_the_example_in_the_box(page):
     assert page.shown()["lesson"] is None
 
 
+@each_lock
+def test_lines_of_the_kinds(page, lock):
+    """The example is that of the kind in the middle. Lines of a kind stay, for one to go on from
+    there, if lines of one's own are chosen again."""
+    page.open(HAND_OVER)
+    page.press("m")
+    middle = str(len(rows_of("kinds.txt", lock)) // 2)
+    lines = page.js("fill", [["lock", lock], ["kind", middle]])
+    assert lines == page.js("attribute", "#find-sketch", "placeholder") != ""
+    assert page.js("fill", [["kind", ""]]) == lines
+    assert page.js("text", "#find-kind option") == "as the lines below say"
+
+
+def test_without_the_machine(page):
+    """Nothing is looked for, and the dialog says why."""
+    page.before("withoutMachine")
+    page.open(HAND_OVER)
+    page.press("m")
+    assert "needs a browser with 64-bit" in page.text("#find-answer")
+    assert page.js("count", "#find-search:disabled") == 1 and page.js("kinds") == []
+    page.press("Escape")
+    page.shown(lesson="ticket-hand-over", place=3)
+
+
 NONE_OF_3 = "No run of 3 threads, each of which takes the lock at most once, has these lines: all"
 NONE_OF_2 = ("No run of 2 threads, each of which takes the lock at most 2 times, has these lines: "
              "all")
@@ -224,9 +248,11 @@ def test_it_says_that_it_searches(page):
 
 
 def test_what_is_not_decided(page):
+    """The page has memory for 2^23 cells. A state of an MCS lock has 19 words, 9 cells, and 2 for
+    each thread: 46 cells for nine threads, so there is room for 182,361 states."""
     page.open(HAND_OVER)
     ask(page, lock="mcs", threads="9", rounds="9", sketch=BOTH_LOCKED)
-    page.until("answerBegins", "Not decided: ")
+    page.until("answerBegins", "Not decided: 182,362 states were found")
     page.press("Escape")
     ask(page, lock="ticket", threads="5", rounds="9", sketch="* write waits")
     page.until("answerBegins", "Not decided: 250,001 states were found")

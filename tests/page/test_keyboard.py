@@ -34,13 +34,14 @@ def test_moving(page):
 
 
 def test_zoom(page):
-    """+ and = make the columns wider, and - makes them narrower, both up to a bound."""
+    """+ and = make the columns wider by a quarter, and - makes them narrower, up to bounds."""
     page.open(f"{LATE_LINK}8")
     widths = [page.js("columnWidth")]
     for key in "+=--":
         page.press(key)
         widths.append(page.js("columnWidth"))
     assert widths[0] < widths[1] < widths[2] and widths[2:] == widths[2::-1], widths
+    assert abs(widths[1] - 1.25 * widths[0]) <= 1 and abs(widths[2] - 1.25 * widths[1]) <= 1, widths
     for key, bound in [("+", min(120, 2.5 * widths[0])), ("-", 0.4 * widths[0])]:
         page.press(*key * 12)
         assert abs(page.js("columnWidth") - bound) <= 1, (key, widths)

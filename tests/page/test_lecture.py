@@ -331,6 +331,7 @@ def test_the_style_of_the_second_window(page):
         assert page.js("stylesThere") == 1
         assert page.js("windowThere") == ["lockreplay: for the presenter", "presenter", True]
     assert page.js("countOfWindows") == 1
+    assert page.js("askedFor") == ["", "lockreplay-presenter", "width=820,height=640"]
     page.js("closeThere")
 
 

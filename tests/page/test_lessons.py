@@ -93,6 +93,7 @@ def test_a_browser_that_is_too_old(page, language, said):
     url = f"{PAGE.as_uri()}?old#lang={language}"
     page.ask("browsingContext.navigate", url=url, wait="complete")
     page.until("text", "#damaged")
+    assert page.js("attribute", "html", "lang") == language
     assert page.text("body").startswith(said) and page.js("count", "button") == 0
     page.no_longer("withoutUnpacking")
     page.open(f"#lang={language}")

@@ -20,6 +20,7 @@ def test_the_menu_closes(page, width, height):
             page.click(away)
         else:
             page.press("Escape")
+            assert page.js("focused") == "menu"
         assert not page.js("isMenu"), away
         assert page.js("attribute", "#menu", "aria-expanded") == "false"
 
@@ -136,13 +137,13 @@ def test_a_finger(page):
 
 
 @cases("swipe, place", {
-    "two fingers": ((-120, 2), 10), "short": ((-40,), 10), "long enough": ((-60,), 11),
-    "steep": ((-120, 1, "lanes", 80), 10),
-    "steep up": ((120, 1, "lanes", -80), 10), "slanted": ((-120, 1, "lanes", 40), 11),
+    "two fingers": ((-120, 2), 10), "short": ((-48,), 10), "long enough": ((-49,), 11),
+    "steep": ((-120, 1, "lanes", 60), 10),
+    "steep up": ((120, 1, "lanes", -60), 10), "slanted": ((-120, 1, "lanes", 59), 11),
     "beside the lanes": ((120, 1, "now"), 9)})
 def test_which_swipe_steps(page, swipe, place):
-    """One finger makes a step that moves far enough, and at least twice as far across as down. Two
-    fingers zoom the page."""
+    """One finger makes a step that moves by more than 48, and more than twice as far across as
+    down. Two fingers zoom the page."""
     page.resize(390, 844)
     page.open("#lesson=mcs-late-link&move=10")
     page.js("swipe", *swipe)

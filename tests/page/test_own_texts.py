@@ -132,9 +132,11 @@ def test_numbers_while_one_types(page):
 def test_returns_within_a_line(page):
     """The button removes carriage returns at the ends of lines, and no other byte."""
     page.open()
-    page.show("# a\rb\r\nlock ticket threads 1\r\n0 acquire\r\n")
-    page.js("click", "#verdict [data-returns]")
-    assert page.shown(moves=1)["text"] == "# a\rb\nlock ticket threads 1\n0 acquire\n"
+    for begin, end in [("# a\rb\r\n", "\r\n"), ("# a\rb\r\r\n", "\r")]:
+        page.show(f"{begin}lock ticket threads 1\r\n0 acquire{end}")
+        page.js("click", "#verdict [data-returns]")
+        assert page.shown(moves=1, place=0)["text"] == (
+            f"# a\rb\nlock ticket threads 1\n0 acquire{end[1:]}")
 
 
 def test_the_line_of_a_refused_move(page):

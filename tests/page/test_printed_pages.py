@@ -187,7 +187,7 @@ def test_memory_on_paper(page, lesson, moves):
 def test_an_exercise_sheet(page):
     """An exercise sheet has the moves of threads, and blanks for the outcomes and the answers."""
     page.open(LATE_LINK)
-    assert page.js("print", "exercise") == "exercise"
+    assert page.js("print", "exercise") == "exercise" and page.js("count", "#sheets[open]") == 0
     rows, said = page.js("rows"), page.js("words", "#paper")
     assert len(rows) == 16 and rows[8] == ["9", "Ann (0)", "cas", "", "", ""]
     # Each question has two lines to write on.
@@ -258,7 +258,7 @@ def test_a_link_asks_for_a_sheet(page):
     assert page.js("offered") == "exercise"
     page.js("stubPrint")
     page.press("Enter")
-    assert page.js("printed") == "exercise"
+    assert page.js("printed") == "exercise" and page.js("count", "dialog[open]") == 0
 
 
 # By hand, in pixels: a sheet is 1040 wide, and a millimetre 3.78.

@@ -336,6 +336,19 @@ def test_chance_earns_nothing(page, outcome, threads):
     assert right <= wrong and right + wrong >= 100, score
 
 
+def test_a_step_back_from_a_question(page):
+    """While it is asked for a move, a step back leads to the move before, and a step forward to the
+    field again."""
+    page.open("#lesson=ticket-hand-over&move=0")
+    page.press("q", "ArrowRight")
+    assert page.js("question")["place"] == 1 and page.js("focused") == "input"
+    page.js("blur")
+    page.press("ArrowLeft")
+    assert page.shown()["place"] == 0 and page.js("count", "#quiz-form") == 0
+    page.press("ArrowRight")
+    assert page.js("question")["place"] == 1 and page.js("focused") == "input"
+
+
 @pytest.mark.parametrize("look, box", [("", "#now"), ("&hall", "#current")])
 def test_what_there_is_to_do(page, look, box):
     """The quiz says before the first question how to get to it, and after the last that none is

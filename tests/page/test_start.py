@@ -42,6 +42,35 @@ def test_without_a_link(page):
         assert part in one, said
 
 
+def remark(name, what):
+    """What a lesson says of itself, as one text."""
+    text = (EXAMPLES / f"{name}.schedule").read_text("latin-1")
+    return " ".join(re.findall(rf"^#! {what} (.+)$", text, re.MULTILINE))
+
+
+WHY = "Each step is changed in turn, and a shortest run shows what goes wrong."
+
+
+def test_what_a_card_says(page):
+    """A card has its lock's name, and of each lesson its number, its title and what one learns. The
+    last line leads to why each line of the lock is there."""
+    page.open()
+    assert page.js("texts", "#lessons .lock-card h3") == [
+        "Ticket lock", "MCS queue lock", "Simple read-write lock", "FIFO read-write lock"]
+    for card in page.js("cards"):
+        names = [name for name, _ in card["lessons"]]
+        part = f"#lessons [data-lock={card['lock']}] li"
+        assert page.js("texts", f"{part} .number") == [
+            *map(str, range(1, len(names) + 1)), "Y"]
+        assert page.js("texts", f"{part} b") == [
+            *(remark(name, "title") for name in names), "Why each line is there"]
+        assert page.js("texts", f"{part} .learn") == [*(remark(name, "learn") for name in names),
+                                                      WHY]
+    assert page.js("texts", "#lessons .ways b") == ["Your own", "Play", "Find a moment", "Teach"]
+    assert page.js("texts", "#lessons .refusals summary") == [
+        "What is refused: wrong moves, and texts that are no schedules"]
+
+
 def test_how_long_each_lesson_takes(page):
     """A card counts ten seconds for a move, also for a refused one, and thirty for a question."""
     page.open()
@@ -177,6 +206,7 @@ def test_what_was_kept_is_near_the_top(page):
     assert page.js("texts", "#lessons [data-kept]") == [
         "Mine at move 1", "Your own schedule at move 0"]
     assert page.js("count", "#lessons .kept details") == 0
+    assert page.text("#lessons .kept h3") == "Kept in this browser, the last 100 at most"
     page.press("Escape")
     for number in range(12):
         page.show(f"#! title of {number}\nlock mcs threads 2\n")
@@ -303,9 +333,25 @@ def test_a_card_plays_again(page):
         page.becomes(said, "attribute", "[data-live=ticket] svg", "aria-label")
 
 
+def test_what_a_card_plays(page):
+    """With each turn of its clock a card shows the memory after the next move, from the one that it
+    showed, and after the last move that before the first one."""
+    page.before("stopClock")
+    page.open()
+    for lock, (name, move) in PICTURED.items():
+        replay = Replay((EXAMPLES / f"{name}.schedule").read_bytes())
+        page.js("atCard", lock, "focusin")
+        last = len(replay.moves)
+        moves = [*range(move + 1, last + 1), 0, 1, 2]
+        assert page.js("turns", lock, len(moves)) == [
+            replay.caption(replay.states[at]) for at in moves], lock
+
+
 @pytest.mark.parametrize("width", [390, 1440])
 def test_how_wide_pictures_are(page, width):
-    """The picture of a card is as wide as the card, on a phone too."""
+    """The picture of a card is as wide as the card, on a phone too. It has room for 560 units, so
+    its letters are smaller than in a lesson."""
     page.resize(width, 844)
     page.open()
     assert page.js("pictures") == [True] * 4
+    assert page.js("unitsOfPictures") == [560] * 4
