@@ -48,7 +48,7 @@ function counts(view, state) {
 
 // The widths of the words, of the room, and of the callers, which are beside both, beside the room
 // or below it.
-const WORDS = 382;
+const WORDS = 358;
 const ROOM = 250;
 const CALLERS = 280;
 const GAP = 24;
@@ -75,7 +75,7 @@ function draw(view, state) {
   const [x, y] = callersAt(view, left, below, wheelEnd, isEmpty);
   const height = Math.max(wheelEnd || 180, below, monitorEnd(view, state, y));
   return picture(view, height, caption(view, state).text,
-    html`${box(ACQUIRES, 24, 116)}${box(RELEASES, 156, 116)}${box(FLAG, 288, 70)}
+    html`${box(ACQUIRES, 24, 108)}${box(RELEASES, 144, 108)}${box(FLAG, 264, 70)}
       ${wheel && counts(view, state)}${room(view, state, left, 92, roomWidth)}
       ${monitor(view, state, x, y)}`);
 }
@@ -91,7 +91,7 @@ function caption(view, state) {
 }
 
 /** @param {View} view */
-const leastWidth = (view) => (hasWheel(view.run.bits) ? 494 : 380);
+const leastWidth = (view) => (hasWheel(view.run.bits) ? 494 : WORDS);
 
 export const rwFifo = {
   ...readWrite, name: NAME, title: T.title, lesson: 'fifo',
