@@ -40,6 +40,12 @@ def ran(*words, **how):
     return subprocess.run([str(word) for word in words], **how)
 
 
+def answer(*words, **how):
+    """What a command answers: (standard output, standard error, status)."""
+    done = ran(*words, **how)
+    return done.stdout, done.stderr, done.returncode
+
+
 def output(*words, **how):
     """The text that a command writes to both outputs. A status other than 0 comes before it."""
     done = ran(*words, **{"stderr": subprocess.STDOUT, **how})

@@ -6,8 +6,7 @@ import shutil
 import subprocess
 
 from mistakes import PATCHES
-from recorders import HERE, SOURCES, plant
-from tree import TOP
+from recorders import HERE, copied
 
 LOCKS = ("mcs", "ticket", "rw_fifo")
 EXPLORED = ("3", "1", "2")  # threads, rounds and preemptions
@@ -83,14 +82,10 @@ def write(found):
 
 def build(lock, name, mode, library, folder, *flags):
     """Builds a copy of the lock with the mistake, on the driver of planted mistakes."""
-    copy = folder / SOURCES.relative_to(TOP)
-    shutil.copytree(SOURCES, copy)
-    (folder / "record").symlink_to(TOP / "record")
-    if name != "none":
-        plant(PATCHES / "c" / lock / f"{name}.patch", folder)
-    shutil.copy(HERE / "planted_driver.h", copy / "driver.h")
-    shutil.copy(HERE / "stuck.h", copy)
+    source = copied(folder, lock, None if name == "none" else name)
+    shutil.copy(HERE / "planted_driver.h", source.with_name("driver.h"))
+    shutil.copy(HERE / "stuck.h", source.parent)
     subprocess.run(["gcc", "-std=c11", "-O1", "-w", "-pthread", *MODES[mode], *flags,
-                    "-o", folder / "program", copy / f"{lock}.c",
+                    "-o", folder / "program", source,
                     *([] if mode in REAL_MODES else [library])], check=True)
     return folder / "program"

@@ -8,7 +8,7 @@ import shutil
 import subprocess
 from pathlib import Path
 
-from mistakes import IN_RUST
+from mistakes import IN_RUST, PATCHES
 from tree import EXAMPLES, TOP, environment, output, ran
 
 HERE = Path(__file__).parent
@@ -52,6 +52,16 @@ def plant(patch, folder):
     return [folder / name for name in names]
 
 
+def copied(folder, example, mistake=None):
+    """Copies the examples in C beside the header, plants a mistake in one, and returns its path."""
+    copy = folder / SOURCES.relative_to(TOP)
+    shutil.copytree(SOURCES, copy)
+    (folder / "record").symlink_to(TOP / "record")
+    if mistake:
+        apply(PATCHES / "c" / example / f"{mistake}.patch", folder)
+    return copy / f"{example}.c"
+
+
 def language(compiler, standard="17"):
     return ["-x", "c++", f"-std=c++{standard}"] if "++" in compiler else ["-std=c11"]
 
@@ -61,6 +71,14 @@ def compile_c(compiler, source, target, *flags, library=None, standard="17"):
     done = ran(compiler, *language(compiler, standard), *WARNINGS, "-O2", "-pthread", *flags, "-o",
                target, source, *(["-x", "none", library] if library else []))
     return done.stderr + (f"status {done.returncode}" if done.returncode else "")
+
+
+def cargo(*words, folder, target, tool="cargo", **more):
+    """Runs Debian's cargo, the oldest that the crate supports, offline."""
+    return ran(f"/usr/bin/{tool}", *words, "--offline", cwd=folder, timeout=600, env=environment(
+        PATH="/usr/bin:/bin", RUSTC="/usr/bin/rustc", RUSTDOC="/usr/bin/rustdoc",
+        CARGO_HOME=str(target.parent / "cargo"), CARGO_INCREMENTAL="0",
+        CARGO_TARGET_DIR=str(target), **more))
 
 
 class Recorder:
@@ -93,12 +111,7 @@ class InC(Recorder):
         if mistake is None:
             return SOURCES / f"{example}.c"
         folder = self.folder / str(mistake)
-
-        def copy():
-            shutil.copytree(SOURCES, folder / SOURCES.relative_to(TOP))
-            (folder / "record").symlink_to(TOP / "record")
-            plant(mistake.patch, folder)
-        once(folder / "planted", copy)
+        once(folder / "planted", lambda: copied(folder, example, mistake.name))
         return folder / SOURCES.relative_to(TOP) / f"{example}.c"
 
     def command(self, example, mode, mistake=None):
@@ -137,16 +150,11 @@ class InRust(Recorder):
         return self.folder / "crate"
 
     def cargo(self, *words, tool="cargo", crate=None, level="3"):
-        """The output of Debian's cargo, the oldest that the crate supports; empty if all is well.
-        Cargo runs offline, and a warning is an error."""
-        flags = "-D warnings"
-        crate = crate or self.crate
-        done = ran(f"/usr/bin/{tool}", *words, "--offline", "--locked", cwd=crate, timeout=600,
-                   env=environment(PATH="/usr/bin:/bin", RUSTC="/usr/bin/rustc", RUSTFLAGS=flags,
-                                   RUSTDOCFLAGS=flags, CARGO_HOME=str(self.folder / "cargo"),
-                                   CARGO_INCREMENTAL="0", CARGO_PROFILE_DEV_DEBUG="0",
-                                   CARGO_PROFILE_RELEASE_OPT_LEVEL=level,
-                                   CARGO_TARGET_DIR=str(self.folder / f"{crate.name}-target")))
+        """The output of cargo, which is empty if all is well. A warning is an error."""
+        flags, crate = "-D warnings", crate or self.crate
+        done = cargo(*words, "--locked", folder=crate, target=self.folder / f"{crate.name}-target",
+                     tool=tool, RUSTFLAGS=flags, RUSTDOCFLAGS=flags, CARGO_PROFILE_DEV_DEBUG="0",
+                     CARGO_PROFILE_RELEASE_OPT_LEVEL=level)
         return "" if done.returncode == 0 else (done.stdout + done.stderr)[-2000:]
 
     def built(self, *more):

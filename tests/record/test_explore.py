@@ -6,15 +6,14 @@ some run has to be refused or to hang with the expected number of preemptions, a
 Examples can also check their own runs, and then refuse the same runs.
 """
 import re
-import shutil
 from collections import Counter
 
 import pytest
 
 from explored_runs import runs_of
-from mistakes import IN_C, IN_RUST, PATCHES
-from recorders import HERE, RECORDERS, SOURCES, plant, words_of
-from tree import TOP, ran
+from mistakes import IN_C, IN_RUST
+from recorders import HERE, RECORDERS, SOURCES, copied, words_of
+from tree import ran
 
 pytestmark = pytest.mark.slow
 
@@ -157,13 +156,8 @@ def test_operation_that_is_not_seen(built, tmp_path, old, line):
 @pytest.fixture
 def planted(built, tmp_path):
     """Builds an example in C, with or without a mistake, in the mode EXPLORE."""
-    def build(example, name, *flags):
-        shutil.copytree(SOURCES, tmp_path / SOURCES.relative_to(TOP))
-        (tmp_path / "record").symlink_to(TOP / "record")
-        if name:
-            plant(PATCHES / "c" / example / f"{name}.patch", tmp_path)
-        return built(tmp_path / SOURCES.relative_to(TOP) / f"{example}.c", "EXPLORE", *flags)
-    return build
+    return lambda example, name, *flags: built(
+        copied(tmp_path, example, name), "EXPLORE", *flags)
 
 
 @pytest.mark.parametrize("flags, is_refused", [([], True), (["-DLR_SPURIOUS=0"], False)], ids=str)

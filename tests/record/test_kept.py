@@ -6,6 +6,7 @@ from pathlib import Path
 
 import pytest
 
+from recorders import cargo
 from tree import PIPE, TOP, environment, ran
 
 pytestmark = pytest.mark.slow
@@ -74,8 +75,7 @@ def keeper(tmp_path_factory):
     (folder / "Cargo.toml").write_text(
         '[package]\nname = "keeper"\nversion = "0.1.0"\nedition = "2021"\n\n[dependencies]\n'
         f'lockreplay-record = {{ path = "{TOP / "record/rust"}" }}\n')
-    made = ran("/usr/bin/cargo", "build", "--offline", cwd=folder, timeout=600, env=environment(
-        PATH="/usr/bin:/bin", RUSTC="/usr/bin/rustc", CARGO_HOME=str(folder / "cargo")))
+    made = cargo("build", folder=folder, target=folder / "target")
     assert made.returncode == 0, made.stderr
     return folder / "target" / "debug" / "keeper"
 

@@ -4,13 +4,11 @@ The tables of this file have the expected messages. atomics.c and atomics.cc che
 each atomic operation, in C and in C++.
 """
 import re
-import shutil
 
 import pytest
 
-from mistakes import PATCHES
-from recorders import (COMPILERS, HEAD, HERE, IN, SOURCES, STANDARDS, WARNINGS, compile_c,
-                       language, plant, words_of)
+from recorders import (COMPILERS, HEAD, HERE, IN, SOURCES, STANDARDS, WARNINGS, compile_c, copied,
+                       language, words_of)
 from tree import EXAMPLES, TOP, ran
 
 pytestmark = pytest.mark.slow
@@ -328,12 +326,9 @@ def test_places_of_a_long_run(recorder, tmp_path, rounds, places):
 @pytest.mark.parametrize("mode, has_race", [("VALUES", True), ("SEED", False)])
 def test_data_race(tmp_path, mode, has_race):
     """ThreadSanitizer sees a data race if threads run freely, and none if one runs at a time."""
-    folder = tmp_path / SOURCES.relative_to(TOP)
-    shutil.copytree(SOURCES, folder)
-    (tmp_path / "record").symlink_to(TOP / "record")
-    plant(PATCHES / "c" / "rw_fifo" / "counted-outside-before.patch", tmp_path)
+    source = copied(tmp_path, "rw_fifo", "counted-outside-before")
     assert ran("gcc", "-std=c11", "-O1", "-w", "-g", "-fsanitize=thread", "-pthread",
-               f"-DLR_MODE={mode}", "-o", tmp_path / "it", folder / "rw_fifo.c").stderr == ""
+               f"-DLR_MODE={mode}", "-o", tmp_path / "it", source).stderr == ""
     said = ran(tmp_path / "it", 4, 200, 1, tmp_path, 5).stderr
     assert ("ThreadSanitizer: data race" in said) == has_race
 

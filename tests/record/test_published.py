@@ -9,8 +9,8 @@ import re
 import pytest
 
 from locktrace import NO_WORD, Answer, Step
-from mistakes import IN_RUST, PATCHES
-from recorders import HERE, InRust, SOURCES, compile_c, once, plant
+from mistakes import IN_RUST
+from recorders import HERE, InRust, SOURCES, compile_c, copied, once
 from tree import TOP, output, ran
 
 pytestmark = pytest.mark.slow
@@ -18,7 +18,8 @@ pytestmark = pytest.mark.slow
 CHECK = TOP / "record" / "locktrace.c"
 READ, WRITE, SWAP, CAS, ADD, SECTION = range(16, 22)
 MOVED, WAITS, ENTERED, LEFT = range(1, 5)
-# An example in C, its mistake, (threads, rounds, preemptions), the fault and the message after it.
+# An example in C, its mistake or a text with the one in its place, (threads, rounds, preemptions),
+# the fault and the message after it.
 IN_C = [
     ("mcs", "link-before-locked", (2, 1, 1), "OtherWord",
      "the published lock's step is on 'locked of 0'"),
@@ -38,19 +39,16 @@ IN_C = [
      r"waits: see its read at ticket\.c:\d+"),
     ("ticket", "serves-twice", (2, 1, 0), "NoCall",
      r"the published lock's call ended with its write at ticket\.c:\d+"),
-]
-# The same with a text of an example that is replaced by another.
-BY_TEXT = [
-    ("mcs", "LR_SWAP(tail, LR_RECORD(lock->records, before))", "LR_SWAP(tail, before)", (2, 1, 1),
+    ("mcs", ("LR_SWAP(tail, LR_RECORD(lock->records, before))", "LR_SWAP(tail, before)"), (2, 1, 1),
      "FoundOther", "the published lock has 2: a pointer is noted as LR_RECORD gives it"),
-    ("rw_simple", "++lock->monitor.sections", "1", (1, 1, 0), "CountNotAbove",
+    ("rw_simple", ("++lock->monitor.sections", "1"), (1, 1, 0), "CountNotAbove",
      "a section before it has 1"),
-    ("ticket", '#define LOCK "ticket"', '#define LOCK "mcs"', (1, 1, 0), "WrongLock",
+    ("ticket", ('#define LOCK "ticket"', '#define LOCK "mcs"'), (1, 1, 0), "WrongLock",
      "the published lock's next step is 'write next left 0'"),
     # Nothing comes before the thread's first move, or before the run's first section.
-    ("ticket", "LR_CALL(acquire)", "if (lr_thread() == 0) LR_CALL(acquire)", (2, 1, 0), "NoCall",
+    ("ticket", ("LR_CALL(acquire)", "if (lr_thread() == 0) LR_CALL(acquire)"), (2, 1, 0), "NoCall",
      ""),
-    ("rw_simple", "++lock->monitor.sections", "0", (1, 1, 0), "CountNotAbove", ""),
+    ("rw_simple", ("++lock->monitor.sections", "0"), (1, 1, 0), "CountNotAbove", ""),
 ]
 # A lock, what its two threads note, the fault and the message.
 TAKE = "LR_CALL(acquire); LR_WRITE(next, 0); LR_SWAP(tail, thread); "
@@ -118,19 +116,26 @@ def compiled(shared):
 
 @pytest.fixture
 def searched(compiled, tmp_path):
-    """Changes an example in C, explores its runs, and returns the message."""
-    def search(example, counts, change, check=None):
-        copy = tmp_path / SOURCES.relative_to(TOP)
-        output("cp", "-R", "--parents", SOURCES.relative_to(TOP), tmp_path, cwd=TOP)
-        (tmp_path / "record").symlink_to(TOP / "record")
-        change(copy / f"{example}.c")
-        assert compile_c("gcc", copy / f"{example}.c", tmp_path / "it", "-DLR_MODE=EXPLORE",
+    """Explores the runs of a lock in C with the check, and returns the message of a refusal."""
+    def search(source, counts, *flags, check=None):
+        assert compile_c("gcc", source, tmp_path / "it", "-DLR_MODE=EXPLORE", *flags,
                          "-Wno-unused-function",
                          library=check or compiled(["-c"], "check.o")) == ""
         done = ran(tmp_path / "it", *counts, tmp_path / "logs")
-        assert done.returncode == 1
+        assert done.returncode == 1, done.stdout
         return done.stdout
     return search
+
+
+def changed(folder, example, change):
+    """A copy of an example in C with a mistake, by its name or as a text in place of another."""
+    if isinstance(change, str):
+        return copied(folder, example, change)
+    source = copied(folder, example)
+    text = source.read_text()
+    assert change[0] in text
+    source.write_text(text.replace(*change))
+    return source
 
 
 def is_said(said, fault, more):
@@ -140,42 +145,28 @@ def is_said(said, fault, more):
                      re.MULTILINE)
 
 
-@pytest.mark.parametrize("example, name, counts, fault, more", IN_C)
-def test_in_c(searched, tmp_path, example, name, counts, fault, more):
-    said = searched(example, counts,
-                    lambda _: plant(PATCHES / "c" / example / f"{name}.patch", tmp_path))
+@pytest.mark.parametrize("example, change, counts, fault, more", IN_C)
+def test_in_c(searched, tmp_path, example, change, counts, fault, more):
+    said = searched(changed(tmp_path, example, change), counts)
     assert is_said(said, fault, more), said
 
 
 # With 2, a thread reads its grant while the other one has written its own `locked` since.
-@pytest.mark.parametrize("old, new, rounds, due", [
-    ("LR_READ(locked, locked)", "LR_READ(locked, locked ? 1 : 9)", 2, 0),
-    ("LR_READ(locked, locked)", "LR_READ(locked, locked ? 9 : 0)", 1, 1),
-    ("LR_SWAP(tail, LR_RECORD(lock->records, before))", "LR_SWAP(tail, before ? 9 : 0)", 1, 2)])
-def test_value_by_the_library(searched, library, old, new, rounds, due):
+@pytest.mark.parametrize("change, rounds, due", [
+    (("LR_READ(locked, locked)", "LR_READ(locked, locked ? 1 : 9)"), 2, 0),
+    (("LR_READ(locked, locked)", "LR_READ(locked, locked ? 9 : 0)"), 1, 1),
+    (("LR_SWAP(tail, LR_RECORD(lock->records, before))", "LR_SWAP(tail, before ? 9 : 0)"), 1, 2)])
+def test_value_by_the_library(searched, library, tmp_path, change, rounds, due):
     """The library does not write the step in place of a refused one. Its value is what the steps
     before it left in the word."""
-    said = searched("mcs", (2, rounds, 1), lambda source: source.write_text(
-        source.read_text().replace(old, new)), library)
+    said = searched(changed(tmp_path, "mcs", change), (2, rounds, 1), check=library)
     assert is_said(said, "FoundOther", f"the published lock has {due}"), said
 
 
-@pytest.mark.parametrize("example, old, new, counts, fault, more", BY_TEXT)
-def test_in_c_by_text(searched, example, old, new, counts, fault, more):
-    def change(source):
-        assert old in source.read_text()
-        source.write_text(source.read_text().replace(old, new))
-    said = searched(example, counts, change)
-    assert is_said(said, fault, more), said
-
-
 @pytest.mark.parametrize("lock, notes, fault, more", BY_NOTES)
-def test_in_c_by_notes(compiled, tmp_path, lock, notes, fault, more):
-    assert compile_c("gcc", HERE / "notes.c", tmp_path / "it", "-DLR_MODE=EXPLORE",
-                     f'-DLOCK="{lock}"', f"-DNOTES={notes}",
-                     library=compiled(["-c"], "check.o")) == ""
-    done = ran(tmp_path / "it", 2, 1, 0, tmp_path / "logs")
-    assert done.returncode == 1 and is_said(done.stdout, fault, more), done.stdout
+def test_in_c_by_notes(searched, lock, notes, fault, more):
+    said = searched(HERE / "notes.c", (2, 1, 0), f'-DLOCK="{lock}"', f"-DNOTES={notes}")
+    assert is_said(said, fault, more), said
 
 
 @pytest.mark.parametrize("name", OF_RUST)

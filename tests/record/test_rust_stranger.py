@@ -9,7 +9,8 @@ import tarfile
 
 import pytest
 
-from tree import TOP, VERSION, environment, output, ran
+from recorders import cargo
+from tree import TOP, VERSION, output
 
 pytestmark = [pytest.mark.slow, pytest.mark.xdist_group("cargo")]
 
@@ -34,12 +35,8 @@ MISTAKES = {
 }
 
 
-def cargo(*words, folder):
-    """Runs Debian's cargo, the oldest that the crate supports."""
-    return ran("/usr/bin/cargo", *words, "--offline", cwd=folder, timeout=600, env=environment(
-        PATH="/usr/bin:/bin", RUSTC="/usr/bin/rustc", RUSTFLAGS="-D warnings",
-        RUSTDOC="/usr/bin/rustdoc", CARGO_HOME=str(folder.parent / "cargo"),
-        CARGO_INCREMENTAL="0", CARGO_TARGET_DIR=str(folder.parent / "target")))
+def made(*words, folder):
+    return cargo(*words, folder=folder, target=folder.parent / "target", RUSTFLAGS="-D warnings")
 
 
 @pytest.fixture(scope="module")
@@ -47,8 +44,8 @@ def package(tmp_path_factory):
     """Packs the crate, and returns the folder of the unpacked package."""
     folder = tmp_path_factory.mktemp("package")
     output(TOP / "packaging" / "crate.sh", folder / "crate")
-    made = cargo("package", "--no-verify", "--allow-dirty", folder=folder / "crate")
-    assert made.returncode == 0, made.stderr
+    done = made("package", "--no-verify", "--allow-dirty", folder=folder / "crate")
+    assert done.returncode == 0, done.stderr
     name = f"lockreplay-record-{VERSION}"
     with tarfile.open(folder / "target" / "package" / f"{name}.crate") as archive:
         archive.extractall(folder)
@@ -67,13 +64,13 @@ def test_crate_alone(tmp_path):
     """A copy of the crate's folder has no check, and its build says what to do."""
     crate = tmp_path / "lockreplay-record"
     shutil.copytree(CRATE, crate, ignore=shutil.ignore_patterns("target"))
-    done = cargo("build", "--features", "check", folder=crate)
+    done = made("build", "--features", "check", folder=crate)
     assert done.returncode != 0
     assert ("locktrace.c, which is not here: copy record/locktrace.c of the repository beside the "
             "Cargo.toml of lockreplay-record, or take the package that packaging/crate.sh writes"
             ) in done.stderr
     shutil.copy(TOP / "record" / "locktrace.c", crate)
-    assert cargo("build", "--features", "check", folder=crate).returncode == 0
+    assert made("build", "--features", "check", folder=crate).returncode == 0
 
 
 @pytest.fixture
@@ -86,7 +83,7 @@ def tested(package):
         (crate / "Cargo.toml").write_text(
             manifest + TOML.replace('"lockreplay-record"', f'"../{package.name}"'))
         (crate / "src" / "lib.rs").write_text(f"{lock}\n#[cfg(test)]\n{TEST}")
-        done = cargo("test", folder=crate)
+        done = made("test", folder=crate)
         return done.returncode, done.stdout + done.stderr
     return run
 
