@@ -44,148 +44,77 @@ static lr_run *one_thread(const char *lock, unsigned bits, size_t moves)
     return run;
 }
 
+/* Makes notes in a run of one thread, and compares the lines of its log after the header. */
+#define HAS_LINES(name, lock, bits, moves, due, ...)                                               \
+    do {                                                                                           \
+        lr_run *run = one_thread(lock, bits, moves);                                               \
+        __VA_ARGS__;                                                                               \
+        lr_end(lr_log_of(run, 0));                                                                 \
+        check_log(name, run, "lock " lock " threads 1 bits " #bits " thread 0\n" due);             \
+    } while (0)
+
 static void every_note(void)
 {
-    lr_run *run = one_thread("mcs", 64, 100);
-    lr_log *log = lr_log_of(run, 0);
     int records[3] = {0, 0, 0}, *none = NULL;
-    LR_CALL(acquire);
-    LR_WRITE(next, 0);
-    LR_SWAP(tail, LR_RECORD(records, none));
-    LR_CALL(release);
-    LR_READ(next, LR_RECORD(records, &records[2]));
-    LR_CAS(tail, 2);
-    LR_CAS(tail, 0);
-    LR_JOIN();
-    LR_ADD(next_ticket, 65535);
-    LR_READ(now_serving, UINT64_MAX);
-    LR_READ_OF(locked, 2, 1);
-    LR_WRITE_OF(next, 63, 1);
-    LR_WRITE_OF(next, 64, 1);
-    LR_WRITE_OF(next, -1, 1);
-    LR_SWITCH();
-    lr_end(log);
-    check_log("every note", run,
-              "lock mcs threads 1 bits 64 thread 0\n"
+    HAS_LINES("every note", "mcs", 64, 100,
               "acquire\nwrite next left 0\nswap tail found 0\nrelease\nread next found 3\n"
               "cas tail done\ncas tail failed\nadd next_ticket found 65535\n"
               "read now_serving found 18446744073709551615\nread locked of 2 found 1\n"
               "write next of 63 left 1\nwrite next of 255 left 1\nwrite next of 255 left 1\n"
-              "dropped 0\n");
-}
-
-static void a_counter_has_its_width(void)
-{
-    lr_run *run = one_thread("ticket", 8, 100);
-    unsigned char served = 255;
-    LR_CALL(release);
-    LR_READ(now_serving, served);
-    LR_WRITE(now_serving, served + 1);
-    LR_READ(now_serving, -1);
-    LR_READ(next, 256);
-    lr_end(lr_log_of(run, 0));
-    check_log("a counter of 8 bits", run,
-              "lock ticket threads 1 bits 8 thread 0\n"
-              "release\nread now_serving found 255\nwrite now_serving left 0\n"
-              "read now_serving found 255\nread next found 256\ndropped 0\n");
+              "dropped 0\n",
+              LR_CALL(acquire), LR_WRITE(next, 0), LR_SWAP(tail, LR_RECORD(records, none)),
+              LR_CALL(release), LR_READ(next, LR_RECORD(records, &records[2])), LR_CAS(tail, 2),
+              LR_CAS(tail, 0), LR_JOIN(), LR_ADD(next_ticket, 65535),
+              LR_READ(now_serving, UINT64_MAX), LR_READ_OF(locked, 2, 1), LR_WRITE_OF(next, 63, 1),
+              LR_WRITE_OF(next, 64, 1), LR_WRITE_OF(next, -1, 1), LR_SWITCH());
 }
 
 static void every_section(void)
 {
-    lr_run *run = one_thread("rw-fifo", 8, 100);
-    lr_log *log = lr_log_of(run, 0);
     uint64_t sections = 0;
     int waited = 0;
-    LR_CALL(wlock);
-    LR_SECTION(++sections, moved);
-    LR_SECTION(++sections, waits);
-    LR_LOCK(waited = 4);
-    check("the mutex is taken", waited == 4);
-    LR_WAIT(&waited, waited = 2, waited = 1, waited = 3);
-    check("what waits is done", waited == 1);
-    LR_SIGNAL(&waited, waited = 5);
-    check("what signals is done", waited == 5);
-    LR_BROADCAST(&waited, waited = 6);
-    check("what broadcasts is done", waited == 6);
-    LR_UNLOCK(waited = 7);
-    check("the mutex is given back", waited == 7);
-    LR_SECTION(++sections, waits);
-    LR_SECTION(++sections, entered);
-    LR_CALL(wunlock);
-    LR_SECTION(++sections, left);
-    LR_CALL(rlock);
-    LR_CALL(runlock);
-    LR_CALL(downgrade);
-    lr_end(log);
-    check_log("every section", run,
-              "lock rw-fifo threads 1 bits 8 thread 0\n"
+    HAS_LINES("every section", "rw-fifo", 8, 100,
               "wlock\nsection 1 moved\nsection 2 waits\nsection 3 waits\nsection 4 entered\n"
-              "wunlock\n"
-              "section 5 left\nrlock\nrunlock\ndowngrade\ndropped 0\n");
+              "wunlock\nsection 5 left\nrlock\nrunlock\ndowngrade\ndropped 0\n",
+              LR_CALL(wlock), LR_SECTION(++sections, moved), LR_SECTION(++sections, waits),
+              LR_LOCK(waited = 4), check("the mutex is taken", waited == 4),
+              LR_WAIT(&waited, waited = 2, waited = 1, waited = 3),
+              check("what waits is done", waited == 1), LR_SIGNAL(&waited, waited = 5),
+              check("what signals is done", waited == 5), LR_BROADCAST(&waited, waited = 6),
+              check("what broadcasts is done", waited == 6), LR_UNLOCK(waited = 7),
+              check("the mutex is given back", waited == 7), LR_SECTION(++sections, waits),
+              LR_SECTION(++sections, entered), LR_CALL(wunlock), LR_SECTION(++sections, left),
+              LR_CALL(rlock), LR_CALL(runlock), LR_CALL(downgrade));
 }
 
-static void the_third_equal_look_is_left_out(void)
+static void lines_of_some_notes(void)
 {
-    lr_run *run = one_thread("ticket", 4, 100);
-    lr_log *log = lr_log_of(run, 0);
-    LR_READ(now_serving, 1);
-    LR_READ(now_serving, 1);
-    LR_READ(now_serving, 1);
-    LR_READ(now_serving, 1);
-    LR_READ(now_serving, 2);
-    LR_READ(now_serving, 1);
-    LR_WRITE(now_serving, 2);
-    LR_WRITE(now_serving, 2);
-    LR_WRITE(now_serving, 2);
-    lr_end(log);
-    check_log("failed polls", run,
-              "lock ticket threads 1 bits 4 thread 0\n"
+    unsigned char served = 255;
+    HAS_LINES("a counter of 8 bits has its width", "ticket", 8, 100,
+              "release\nread now_serving found 255\nwrite now_serving left 0\n"
+              "read now_serving found 255\nread next found 256\ndropped 0\n",
+              LR_CALL(release), LR_READ(now_serving, served), LR_WRITE(now_serving, served + 1),
+              LR_READ(now_serving, -1), LR_READ(next, 256));
+    HAS_LINES("the third equal look is left out", "ticket", 4, 100,
               "read now_serving found 1\nread now_serving found 1\n"
               "read now_serving found 2\nread now_serving found 1\n"
               "write now_serving left 2\nwrite now_serving left 2\nwrite now_serving left 2\n"
-              "dropped 0\n");
-}
-
-static void a_third_wait_is_left_out(void)
-{
-    lr_run *run = one_thread("rw-simple", 64, 100);
-    lr_log *log = lr_log_of(run, 0);
-    LR_CALL(rlock);
-    LR_SECTION(1, waits);
-    LR_SECTION(2, waits);
-    LR_SECTION(3, waits);
-    LR_SECTION(4, entered);
-    lr_end(log);
-    check_log("sections that wait", run,
-              "lock rw-simple threads 1 bits 64 thread 0\n"
-              "rlock\nsection 1 waits\nsection 2 waits\nsection 4 entered\ndropped 0\n");
-}
-
-static void a_full_log_counts_what_it_drops(void)
-{
-    lr_run *run = one_thread("ticket", 64, 2);
-    lr_log *log = lr_log_of(run, 0);
-    LR_CALL(acquire);
-    LR_ADD(next_ticket, 0);
-    LR_READ(now_serving, 7);
-    LR_READ(now_serving, 7);
-    LR_READ(now_serving, 7);
-    LR_READ(now_serving, 0);
-    lr_end(log);
-    check_log("a full log", run,
-              "lock ticket threads 1 bits 64 thread 0\n"
-              "acquire\nadd next_ticket found 0\ndropped 3\n");
-}
-
-static void a_full_log_leaves_out_what_any_log_does(void)
-{
-    lr_run *run = one_thread("ticket", 64, 2);
-    for (int look = 0; look < 4; look++) LR_READ(now_serving, 7);
-    LR_READ(now_serving, 0);
-    lr_end(lr_log_of(run, 0));
-    check_log("polls of a full log", run,
-              "lock ticket threads 1 bits 64 thread 0\n"
-              "read now_serving found 7\nread now_serving found 7\ndropped 1\n");
+              "dropped 0\n",
+              LR_READ(now_serving, 1), LR_READ(now_serving, 1), LR_READ(now_serving, 1),
+              LR_READ(now_serving, 1), LR_READ(now_serving, 2), LR_READ(now_serving, 1),
+              LR_WRITE(now_serving, 2), LR_WRITE(now_serving, 2), LR_WRITE(now_serving, 2));
+    HAS_LINES("a third wait is left out", "rw-simple", 64, 100,
+              "rlock\nsection 1 waits\nsection 2 waits\nsection 4 entered\ndropped 0\n",
+              LR_CALL(rlock), LR_SECTION(1, waits), LR_SECTION(2, waits), LR_SECTION(3, waits),
+              LR_SECTION(4, entered));
+    HAS_LINES("a full log counts what it drops", "ticket", 64, 2,
+              "acquire\nadd next_ticket found 0\ndropped 3\n", LR_CALL(acquire),
+              LR_ADD(next_ticket, 0), LR_READ(now_serving, 7), LR_READ(now_serving, 7),
+              LR_READ(now_serving, 7), LR_READ(now_serving, 0));
+    HAS_LINES("a full log leaves out what any log does", "ticket", 64, 2,
+              "read now_serving found 7\nread now_serving found 7\ndropped 1\n",
+              LR_READ(now_serving, 7), LR_READ(now_serving, 7), LR_READ(now_serving, 7),
+              LR_READ(now_serving, 7), LR_READ(now_serving, 0));
 }
 
 /* Writes a text into a file of the directory, or tells whether the file is there. */
@@ -337,12 +266,8 @@ int main(int count, char **words)
     if (count != 2) return 2;
     directory = words[1];
     every_note();
-    a_counter_has_its_width();
     every_section();
-    the_third_equal_look_is_left_out();
-    a_third_wait_is_left_out();
-    a_full_log_counts_what_it_drops();
-    a_full_log_leaves_out_what_any_log_does();
+    lines_of_some_notes();
     what_an_earlier_run_left_is_taken_away();
     notes_go_with_their_run();
     two_runs_have_two_numbers();

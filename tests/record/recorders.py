@@ -25,6 +25,11 @@ KEPT = ("lockreplay_record: the program ended before its run was saved: "
         "its moves until then are in the folder ")
 
 
+def refusal(said, output="", status=3):
+    """The answer of a program that does not record or follow anything, or cannot save it."""
+    return output, f"lockreplay_record: {said}\n", status
+
+
 def once(path, make):
     """Makes a file once: the first worker calls `make`, and the others wait for it."""
     path.parent.mkdir(parents=True, exist_ok=True)

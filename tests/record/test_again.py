@@ -4,8 +4,8 @@ import signal
 
 import pytest
 
-from recorders import HERE, compile_c
-from tree import TOP, ran
+from recorders import HERE, compile_c, refusal
+from tree import TOP, answer, ran
 
 pytestmark = pytest.mark.slow
 
@@ -24,8 +24,8 @@ def test_crash_again(noting, tmp_path, notes, threads, way):
     assert ran(program, threads, 1, 1, tmp_path / "logs").returncode == -signal.SIGABRT
     text = (tmp_path / "logs" / "run.trace").read_text()
     assert text.endswith(f"\n{way}# the program ended before its run was saved\n"), text
-    again = ran(program, threads, 1, "again", tmp_path / "logs" / "run.trace")
-    assert (again.stdout, again.stderr, again.returncode) == ("", "", -signal.SIGABRT)
+    assert answer(program, threads, 1, "again", tmp_path / "logs" / "run.trace") == (
+        "", "", -signal.SIGABRT)
 
 
 @pytest.mark.parametrize("stores, is_kept", [(6, True), (7, True), (8, False)])
@@ -38,9 +38,8 @@ def test_room_for_the_choices_of_a_crash(noting, tmp_path, stores, is_kept):
     trace = tmp_path / "logs" / "run.trace"
     assert (f"\n# way{' 0' * (stores + 1)}\n" in trace.read_text()) == is_kept
     assert ("\n# way" in trace.read_text()) == is_kept
-    again = ran(program, 2, 1, "again", trace)
-    said = "" if is_kept else f"lockreplay_record: {trace}: {NO_WAY}\n"
-    assert (again.stderr, again.returncode) == (said, -signal.SIGABRT if is_kept else 3)
+    assert answer(program, 2, 1, "again", trace) == (
+        ("", "", -signal.SIGABRT) if is_kept else refusal(f"{trace}: {NO_WAY}"))
 
 
 @pytest.mark.parametrize("text", [
@@ -49,17 +48,15 @@ def test_room_for_the_choices_of_a_crash(noting, tmp_path, stores, is_kept):
 def test_no_way(noting, tmp_path, text):
     """A file without choices, or with one of a thread that no run has, is not made again."""
     (tmp_path / "it.trace").write_text(text)
-    done = ran(noting("ticket", "(void)0"), 2, 1, "again", "it.trace", cwd=tmp_path)
-    assert done.stderr == f"lockreplay_record: it.trace: {NO_WAY}\n"
-    assert (done.stdout, done.returncode) == ("", 3)
+    assert answer(noting("ticket", "(void)0"), 2, 1, "again", "it.trace", cwd=tmp_path) == refusal(
+        f"it.trace: {NO_WAY}")
 
 
 def test_choice_of_a_thread_that_cannot_go_on(noting, tmp_path):
     """The run of a way of another driver is refused."""
     (tmp_path / "it.trace").write_text("# line 1 is the way 1\n# way 63\n# turns 9\n")
-    done = ran(noting("ticket", "(void)0"), 2, 1, "again", "it.trace", cwd=tmp_path)
-    assert done.stdout == "the driver does not do the same after the same turns\n"
-    assert (done.stderr, done.returncode) == ("", 1)
+    assert answer(noting("ticket", "(void)0"), 2, 1, "again", "it.trace", cwd=tmp_path) == (
+        "the driver does not do the same after the same turns\n", "", 1)
 
 
 @pytest.mark.parametrize("mode, most", [("EXPLORE", 1000), ("SEED", 20000)])
@@ -97,8 +94,7 @@ def test_memory_of_a_search(built, tmp_path, flags):
     """A search gives back all memory, also if it ends early."""
     (tmp_path / "it.c").write_text(SEARCHES)
     program = built(tmp_path / "it.c", "EXPLORE", *flags, "-fsanitize=address")
-    done = ran(program, tmp_path / "logs", tmp_path / "logs" / "run.trace")
-    assert (done.stdout, done.stderr, done.returncode) == ("", "", 0)
+    assert answer(program, tmp_path / "logs", tmp_path / "logs" / "run.trace") == ("", "", 0)
 
 
 @pytest.mark.parametrize("mode", ["VALUES", "SEED", "EXPLORE"])

@@ -7,8 +7,8 @@ import signal
 
 import pytest
 
-from recorders import KEPT, SOURCES
-from tree import ran
+from recorders import KEPT, SOURCES, refusal
+from tree import answer, ran
 
 pytestmark = pytest.mark.slow
 
@@ -44,8 +44,7 @@ def test_slow_run(ended):
     """A run may take longer than the time limit, which holds for each move."""
     program, logs = ended("SEED", "struct timespec ms = {0, 200000000}; nanosleep(&ms, NULL)",
                           "-D_GNU_SOURCE")
-    done = ran(program, 3, 40000, 1, logs, 1)
-    assert (done.stderr, done.returncode) == ("", 0)
+    assert answer(program, 3, 40000, 1, logs, 1)[1:] == ("", 0)
 
 
 def test_all_threads_end_without_a_record(ended):
@@ -53,16 +52,14 @@ def test_all_threads_end_without_a_record(ended):
     program, logs = ended("OFF", "struct timespec ms = {0, 300000000}; nanosleep(&ms, NULL); "
                           'printf("done\\n")', "-D_GNU_SOURCE", "-include", "stdio.h",
                           "-include", "time.h")
-    done = ran(program, 2, 4, 1, logs)
-    assert (done.stdout, done.stderr, done.returncode) == ("done\n", "", 0)
+    assert answer(program, 2, 4, 1, logs) == ("done\n", "", 0)
 
 
 def test_pause(ended):
     """By itself a program waits for a minute, so a pause of two seconds ends no run."""
     program, logs = ended("SEED", "struct timespec s = {2, 0}; nanosleep(&s, NULL)",
                           "-D_GNU_SOURCE")
-    done = ran(program, 2, 9, 1, logs)
-    assert (done.stderr, done.returncode) == ("", 0)
+    assert answer(program, 2, 9, 1, logs)[1:] == ("", 0)
 
 
 def test_run_that_hangs(ended):
@@ -158,18 +155,16 @@ def test_full_log_of_a_thread_that_goes_on(ended):
 def test_no_room_on_the_disk(ended):
     """The program removes a file that it cannot write to the end."""
     program, logs = ended("SEED", "(void)0")
-    done = ran("sh", "-c", f"trap '' XFSZ; ulimit -f 4; exec {program} 3 400 1 {logs}")
-    assert done.stderr == f"lockreplay_record: {logs}/thread-0.log: File too large\n"
-    assert done.returncode == 3 and list(logs.iterdir()) == []
+    assert answer("sh", "-c", f"trap '' XFSZ; ulimit -f 4; exec {program} 3 400 1 {logs}")[1:] == (
+        refusal(f"{logs}/thread-0.log: File too large")[1:])
+    assert list(logs.iterdir()) == []
 
 
 def test_log_that_cannot_be_made(ended):
     """The message names the file, and why the system refuses it."""
     program, logs = ended("SEED", "(void)0")
     (logs / "thread-1.log.part").mkdir(parents=True)
-    done = ran(program, 3, 9, 1, logs)
-    assert done.stderr == f"lockreplay_record: {logs}/thread-1.log: Is a directory\n"
-    assert done.returncode == 3
+    assert answer(program, 3, 9, 1, logs) == refusal(f"{logs}/thread-1.log: Is a directory")
 
 
 @pytest.mark.parametrize("mode", ["VALUES", "SEED", "EXPLORE"])
@@ -179,9 +174,7 @@ def test_log_that_cannot_be_made(ended):
     ("/no/such/folder", "/no/such/folder: No such file or directory")])
 def test_wrong_folder(ended, mode, folder, said):
     """The program reports a folder that it cannot use before the first run begins."""
-    done = ran(ended(mode, "(void)0")[0], 2, 1, 1, folder)
-    assert (done.stdout, done.stderr) == ("", f"lockreplay_record: {said}\n")
-    assert done.returncode == 3
+    assert answer(ended(mode, "(void)0")[0], 2, 1, 1, folder) == refusal(said)
 
 
 def test_thread_that_goes_on_after_its_run_was_given_up(ended, refusing):
@@ -220,10 +213,9 @@ def test_no_thread(built, refusing, tmp_path, mode, words):
 def test_no_memory(ended, mode):
     """Nothing is left in the folder, where free threads would have had their notes."""
     program, logs = ended(mode, "(void)0")
-    done = ran("sh", "-c", f"ulimit -v 100000; exec {program} 2 40000 1 {logs}")
-    assert done.stderr == ("lockreplay_record: no memory for 5120000 moves of each of 2 threads: "
-                           "Cannot allocate memory\n")
-    assert done.returncode == 3 and list(logs.iterdir()) == []
+    assert answer("sh", "-c", f"ulimit -v 100000; exec {program} 2 40000 1 {logs}") == refusal(
+        "no memory for 5120000 moves of each of 2 threads: Cannot allocate memory")
+    assert list(logs.iterdir()) == []
 
 
 def test_no_memory_for_a_saved_run(built, refusing, tmp_path):
@@ -231,9 +223,9 @@ def test_no_memory_for_a_saved_run(built, refusing, tmp_path):
     refuses = refusing("realloc(old, size) _Generic(old, struct lr_way *: NULL, "
                        "default: realloc(old, size))", "struct lr_way;")
     (tmp_path / "way").write_text("# way 1\n")
-    done = ran(built(SOURCES / "mcs.c", "EXPLORE", *refuses), 2, 1, "again", "way", cwd=tmp_path)
-    assert done.stderr == "lockreplay_record: way: Cannot allocate memory\n"
-    assert (done.stdout, done.returncode) == ("", 3)
+    program = built(SOURCES / "mcs.c", "EXPLORE", *refuses)
+    assert answer(program, 2, 1, "again", "way", cwd=tmp_path) == refusal(
+        "way: Cannot allocate memory")
 
 
 def test_wrong_schedule_among_others(ended, tmp_path):

@@ -12,8 +12,8 @@ import pytest
 
 from explored_runs import runs_of
 from mistakes import IN_C, IN_RUST
-from recorders import HERE, RECORDERS, SOURCES, copied, words_of
-from tree import ran
+from recorders import HERE, RECORDERS, SOURCES, copied, refusal, words_of
+from tree import answer, ran
 
 pytestmark = pytest.mark.slow
 
@@ -112,8 +112,7 @@ def test_search_in_c(recorder, tmp_path, example, name, counts, said):
 @pytest.mark.parametrize("recorder", ["c"], indirect=True)
 def test_most_runs(recorder, tmp_path, most, said):
     """A search makes at most as many runs as it is told."""
-    done = ran(*recorder.command("ticket", "EXPLORE"), 2, 1, 2, tmp_path, most)
-    assert (done.stdout, done.returncode) == (said, 0)
+    assert answer(*recorder.command("ticket", "EXPLORE"), 2, 1, 2, tmp_path, most) == (said, "", 0)
 
 
 @pytest.mark.parametrize("compiler", ["gcc", "clang"])
@@ -193,10 +192,9 @@ def test_no_memory(built, refusing, tmp_path, compiler, kept):
     "realloc(old, size) _Generic(old, unsigned *: NULL, default: realloc(old, size))"])
 def test_no_memory_for_the_other_runs(built, refusing, tmp_path, refused):
     program = built(HERE / "unnoted.c", "EXPLORE", *refusing(refused), "-DSET(n)=(void)n")
-    done = ran(program, 2, 1, 1, tmp_path / "logs")
-    said = "1 run with up to 0 preemptions, all of them accepted, and there are more\n"
-    assert (done.stdout, done.stderr, done.returncode) == (
-        said, "lockreplay_record: no memory for the other runs\n", 3)
+    assert answer(program, 2, 1, 1, tmp_path / "logs") == refusal(
+        "no memory for the other runs",
+        "1 run with up to 0 preemptions, all of them accepted, and there are more\n")
 
 
 def test_room_of_a_search(planted, tmp_path):
@@ -229,9 +227,8 @@ def test_again_without_a_trace(recorder, tmp_path):
             (2, "no.trace", f"{tmp_path}/no.trace: No such file or directory"),
             (16, "a.trace", "16 threads and counters of 4 bits: there have to be fewer threads than"
                             " values")):
-        done = ran(*recorder.command("ticket", "EXPLORE"), threads, 1, "again", tmp_path / name)
-        assert done.stderr == f"lockreplay_record: {said}\n"
-        assert (done.stdout, done.returncode) == ("", 3)
+        assert answer(*recorder.command("ticket", "EXPLORE"), threads, 1, "again",
+                      tmp_path / name) == refusal(said)
 
 
 @pytest.mark.parametrize("example, name, rounds, choices", [

@@ -4,11 +4,12 @@ test_modes.py has what a schedule says, and test_conform.py the schedules of tou
 """
 import pytest
 
-from recorders import SOURCES
-from tree import ran
+from recorders import SOURCES, refusal
+from tree import answer
 
 pytestmark = pytest.mark.slow
 
+NOTHING = "0 schedules of 0 moves, 0 not followed\n"
 ONE = "lock ticket threads 1 bits 4\n0 acquire\n0 add\n0 read\n"
 
 
@@ -22,28 +23,25 @@ def program(built, tmp_path):
 def test_driver_without_calls(noting, tmp_path):
     """The driver of notes.c, like that of the guide, makes only whole rounds."""
     (tmp_path / "one.schedule").write_text("lock ticket threads 1\n0 acquire\n")
-    done = ran(noting("ticket", "LR_CALL(acquire)", mode="FOLLOW"), ".", "logs", cwd=tmp_path)
-    assert done.stderr == ("lockreplay_record: FOLLOW makes calls by the driver's last function, "
-                           "`call`, which is NULL\n")
-    assert (done.stdout, done.returncode) == ("", 2)
+    program = noting("ticket", "LR_CALL(acquire)", mode="FOLLOW")
+    assert answer(program, ".", "logs", cwd=tmp_path) == refusal(
+        "FOLLOW makes calls by the driver's last function, `call`, which is NULL", status=2)
 
 
 def test_no_schedule(program, tmp_path):
     """Nothing was followed, so nothing is said to be right. A trace is no schedule by its name."""
     (tmp_path / "tour" / "one.trace").write_text(ONE)
     (tmp_path / "tour" / ".schedule").write_text(ONE)
-    done = ran(program, "tour", "logs", cwd=tmp_path)
-    assert done.stderr == "lockreplay_record: tour: no file there is named *.schedule\n"
-    assert (done.stdout, done.returncode) == ("0 schedules of 0 moves, 0 not followed\n", 3)
+    assert answer(program, "tour", "logs", cwd=tmp_path) == refusal(
+        "tour: no file there is named *.schedule", NOTHING)
 
 
 def test_folder_of_traces_is_made(program, tmp_path):
     for name in "ab":
         (tmp_path / "tour" / f"{name}.schedule").write_text(ONE)
-    done = ran(program, "tour", "logs", cwd=tmp_path)
-    assert (done.stdout, done.stderr) == ("2 schedules of 6 moves, 0 not followed\n", "")
+    assert answer(program, "tour", "logs", cwd=tmp_path) == (
+        "2 schedules of 6 moves, 0 not followed\n", "", 0)
     assert sorted(path.name for path in (tmp_path / "logs").iterdir()) == ["a.trace", "b.trace"]
-    assert done.returncode == 0
 
 
 @pytest.mark.parametrize("folders, said", [
@@ -54,6 +52,4 @@ def test_folder_of_traces_is_made(program, tmp_path):
 def test_wrong_folder(program, tmp_path, folders, said):
     """The one message is about the folder that cannot be used."""
     (tmp_path / "tour" / "one.schedule").write_text(ONE)
-    done = ran(program, *folders, cwd=tmp_path)
-    assert done.stderr == f"lockreplay_record: {said}\n"
-    assert (done.stdout, done.returncode) == ("0 schedules of 0 moves, 0 not followed\n", 3)
+    assert answer(program, *folders, cwd=tmp_path) == refusal(said, NOTHING)

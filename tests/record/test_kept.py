@@ -7,7 +7,7 @@ from pathlib import Path
 import pytest
 
 from recorders import cargo
-from tree import PIPE, TOP, environment, ran
+from tree import PIPE, TOP, answer, environment, ran
 
 pytestmark = pytest.mark.slow
 
@@ -103,8 +103,7 @@ def test_killed_in_rust(keeper, ordered, tmp_path, how, sign):
 @pytest.mark.xdist_group("cargo")
 def test_kept_to_the_end_in_rust(keeper, ordered, tmp_path):
     """A run that ends well leaves whole logs, and nothing else."""
-    done = ran(keeper, tmp_path / "logs", "20", "end")
-    assert (done.stderr, done.returncode) == ("", 0)
+    assert answer(keeper, tmp_path / "logs", "20", "end")[1:] == ("", 0)
     assert [len(moves) >= 20 * 6 for moves in ordered(tmp_path / "logs")] == [True, True]
     for thread in range(THREADS):
         assert (tmp_path / "logs" / f"thread-{thread}.log").read_text().endswith("\ndropped 0\n")

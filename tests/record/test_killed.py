@@ -12,7 +12,7 @@ from pathlib import Path
 import pytest
 
 from recorders import KEPT
-from tree import PIPE, ran
+from tree import PIPE, answer, ran
 
 pytestmark = pytest.mark.slow
 
@@ -53,8 +53,7 @@ def killed(program, logs):
 
 
 def recover(program, logs):
-    done = ran(program, "recover", logs)
-    return done.stderr, done.returncode
+    return answer(program, "recover", logs)[1:]
 
 
 def test_killed(ended, ordered):
@@ -159,8 +158,7 @@ def test_child_goes_on(ended, ordered, tmp_path):
             assert len(set(holders(logs / "run.notes"))) == 2
             process.kill()
             process.wait()
-            done = ran("timeout", "60", program, "recover", logs)
-            assert (done.stderr, done.returncode) == ("", 0)
+            assert answer("timeout", "60", program, "recover", logs)[1:] == ("", 0)
         finally:
             os.kill(int((tmp_path / "child").read_text()), signal.SIGKILL)
         assert process.communicate()[1] == f"{KEPT}{logs}\n"
@@ -187,8 +185,7 @@ def test_logs_that_cannot_be_made(ended, ordered, body, status, acquires, least)
     inner = logs / "thread-1.log.part" / "inner"
     inner.mkdir(parents=True)
     said = f"lockreplay_record: {logs}/thread-1.log: Is a directory\n"
-    done = ran(program, THREADS, ROUNDS, 1, logs)
-    assert (done.stderr, done.returncode) == (said, status)
+    assert answer(program, THREADS, ROUNDS, 1, logs)[1:] == (said, status)
     assert recover(program, logs) == (
         f"{said}lockreplay_record: {logs}/run.notes: Is a directory\n", 3)
     inner.rmdir()
@@ -254,6 +251,5 @@ def test_full_disk(ended):
 def test_in_memory(ended):
     """With LR_MAPPED=0 a run keeps its notes in memory, and saves its logs at the end."""
     program, logs = ended("VALUES", "(void)0", "-DLR_MAPPED=0")
-    done = ran(program, 3, 400, 1, logs)
-    assert (done.stderr, done.returncode) == ("", 0)
+    assert answer(program, 3, 400, 1, logs)[1:] == ("", 0)
     assert len(list(logs.iterdir())) == 3

@@ -9,7 +9,7 @@ import pytest
 
 from recorders import (COMPILERS, HEAD, HERE, IN, SOURCES, STANDARDS, WARNINGS, compile_c, copied,
                        language, words_of)
-from tree import EXAMPLES, TOP, ran
+from tree import EXAMPLES, TOP, answer, ran
 
 pytestmark = pytest.mark.slow
 
@@ -125,8 +125,7 @@ NO_MODE = ("lockreplay_record: built without LR_MODE, so nothing is recorded. Be
 def test_nothing_is_recorded(tmp_path, flags, said):
     """A program without a mode runs its lock, and warns that it records nothing."""
     assert compile_c("gcc", SOURCES / "ticket.c", tmp_path / "it", *flags) == ""
-    done = ran(tmp_path / "it", 2, 3, 1, tmp_path / "logs")
-    assert (done.stdout, done.stderr, done.returncode) == ("", said, 0)
+    assert answer(tmp_path / "it", 2, 3, 1, tmp_path / "logs") == ("", said, 0)
     assert not (tmp_path / "logs").exists()
 
 
@@ -168,10 +167,9 @@ def test_words_of_a_search(recorder, tmp_path, words):
     """A search of no thread, or of more than 64, of no round or of no run, and a word that is no
     number, are refused as other wrong words are."""
     [program] = recorder.command("rw_fifo", "EXPLORE")
-    done = ran(program, *words, cwd=tmp_path)
-    assert (done.stdout, done.returncode) == ("", 2)
-    assert done.stderr == (f"usage: {program} THREADS ROUNDS PREEMPTIONS FOLDER [RUNS]\n"
-                           f"       {program} THREADS ROUNDS again TRACE\n")
+    assert answer(program, *words, cwd=tmp_path) == (
+        "", f"usage: {program} THREADS ROUNDS PREEMPTIONS FOLDER [RUNS]\n"
+        f"       {program} THREADS ROUNDS again TRACE\n", 2)
 
 
 @pytest.mark.parametrize("mode", ["OFF", "VALUES", "SEED"])
@@ -222,8 +220,7 @@ def test_trace_of_a_schedule(built, tmp_path, lesson):
     """Without LR_CHECK the program saves each trace, which has the moves of the lesson."""
     text = (EXAMPLES / f"{lesson}.schedule").read_text()
     (tmp_path / "it.schedule").write_text(text)
-    done = ran(built(SOURCES / "mcs.c", "FOLLOW"), tmp_path, tmp_path)
-    assert (done.stderr, done.returncode) == ("", 0)
+    assert answer(built(SOURCES / "mcs.c", "FOLLOW"), tmp_path, tmp_path)[1:] == ("", 0)
     assert words_of((tmp_path / "it.trace").read_text()) == words_of(text)
 
 
@@ -236,10 +233,9 @@ def test_no_memory_for_schedules(built, refusing, tmp_path, refused, said):
     for number in range(3):
         (tmp_path / f"{number}.schedule").write_text("lock ticket threads 1 bits 4\n0 acquire\n")
     program = built(SOURCES / "ticket.c", "FOLLOW", *refusing(refused))
-    done = ran(program, tmp_path, tmp_path)
-    assert done.stdout == "0 schedules of 0 moves, 0 not followed\n"
-    assert done.stderr == "".join(f"lockreplay_record: {it.format(tmp_path)}\n" for it in said)
-    assert done.returncode == 3
+    assert answer(program, tmp_path, tmp_path) == (
+        "0 schedules of 0 moves, 0 not followed\n",
+        "".join(f"lockreplay_record: {it.format(tmp_path)}\n" for it in said), 3)
 
 
 # A write lock whose holder lets others go first inside of the monitor, and signals.
@@ -339,5 +335,4 @@ def test_data_race(tmp_path, mode, has_race):
     for standard in (STANDARDS if "++" in compiler else ["11"])])
 def test_atomics(built, compiler, standard, mode):
     source = HERE / f"atomics.{'cc' if '++' in compiler else 'c'}"
-    done = ran(built(source, mode, compiler=compiler, standard=standard))
-    assert (done.stdout, done.returncode) == ("", 0)
+    assert answer(built(source, mode, compiler=compiler, standard=standard))[::2] == ("", 0)

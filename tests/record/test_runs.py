@@ -10,7 +10,7 @@ import pytest
 from mistakes import IN_C, IN_RUST
 from recorders import RECORDERS, SOURCES, compile_c, once, schedule_of
 from signs import moves_of
-from tree import ran
+from tree import answer
 
 pytestmark = pytest.mark.slow
 
@@ -72,8 +72,7 @@ def prioritized(shared, library):
 @pytest.mark.parametrize("example", RECORDERS["c"].examples)
 def test_right_lock_in_c_by_priorities(prioritized, tmp_path, example, seed):
     """Whoever has the greatest priority waits for others, and is passed over meanwhile."""
-    done = ran(prioritized(example), 3, 9, seed, tmp_path)
-    assert (done.stderr, done.returncode) == ("", 0)
+    assert answer(prioritized(example), 3, 9, seed, tmp_path)[1:] == ("", 0)
 
 
 @pytest.mark.parametrize("recorder, example", EXAMPLES, indirect=["recorder"])

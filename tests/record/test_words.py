@@ -6,8 +6,8 @@ import re
 
 import pytest
 
-from recorders import HEAD, HERE, IN, SOURCES, compile_c, once
-from tree import ran
+from recorders import HEAD, HERE, IN, SOURCES, compile_c, once, refusal
+from tree import answer, ran
 
 pytestmark = pytest.mark.slow
 
@@ -22,9 +22,8 @@ def test_functions_of_a_run(built, tmp_path, compiler, mode, files):
     logs = tmp_path / "logs"
     program = built(HERE / "functions.c", mode, compiler=compiler)
     for words in ([logs], []):
-        done = ran(program, *words, cwd=tmp_path)
-        assert done.stdout == "0 are missing\n3 and 3 rounds\nsaid '', saved 0\nrecovered 0\n"
-        assert (done.stderr, done.returncode) == ("", 0)
+        assert answer(program, *words, cwd=tmp_path) == (
+            "0 are missing\n3 and 3 rounds\nsaid '', saved 0\nrecovered 0\n", "", 0)
     assert (sorted(path.name for path in logs.iterdir()) if logs.exists() else None) == files
 
 
@@ -262,9 +261,8 @@ def test_progress(built, work, threads):
     """Neither the end of a thread nor LR_SWITCH is a turn in vain."""
     body = (f'run = lr_open("mcs", {threads}, 64, 9, 1, NULL); start({work}, {threads}); '
             "return (int)lr_await(run, 20);")
-    done = ran(built(HERE / "calls.c", "SEED", "-DLR_PATIENCE=9", "-Wno-unused",
-                     f"-DBODY={body}"))
-    assert (done.stderr, done.returncode) == ("", 0)
+    assert answer(built(HERE / "calls.c", "SEED", "-DLR_PATIENCE=9", "-Wno-unused",
+                        f"-DBODY={body}"))[1:] == ("", 0)
 
 
 @pytest.mark.parametrize("flags, mean", [
@@ -292,9 +290,8 @@ def test_many_schedules(recorder, tmp_path):
     for number in range(40):
         (tmp_path / f"{number}.schedule").write_text(HEAD + IN)
     [program] = recorder.command("mcs", "FOLLOW")
-    done = ran("sh", "-c", f"ulimit -n 20; exec {program} {tmp_path} {tmp_path}")
-    assert done.stdout == "40 schedules of 120 moves, 0 not followed\n"
-    assert (done.stderr, done.returncode) == ("", 0)
+    assert answer("sh", "-c", f"ulimit -n 20; exec {program} {tmp_path} {tmp_path}") == (
+        "40 schedules of 120 moves, 0 not followed\n", "", 0)
 
 
 @pytest.mark.parametrize("recorder", ["c"], indirect=True)
@@ -350,26 +347,17 @@ def test_path_that_is_too_long(built, tmp_path, mode):
     folder = "./" * 2043 + "logs"
     program = built(SOURCES / "ticket.c", mode)
     for words in [(2, 1, 1, folder), *([("recover", folder)] if mode == "VALUES" else [])]:
-        done = ran(program, *words, cwd=tmp_path)
-        assert done.stderr == f"lockreplay_record: {folder}: File name too long\n"
-        assert (done.stdout, done.returncode) == ("", 3)
+        assert answer(program, *words, cwd=tmp_path) == refusal(f"{folder}: File name too long")
 
 
-@pytest.mark.parametrize("mode", ["VALUES", "SEED", "EXPLORE"])
-@pytest.mark.parametrize("name", ["run.trace", "thread-1.log", "thread-63.log"])
+@pytest.mark.parametrize("mode, name", [("VALUES", "run.notes"), *(
+    (mode, name) for mode in ("VALUES", "SEED", "EXPLORE")
+    for name in ("run.trace", "thread-1.log", "thread-63.log"))])
 def test_file_that_cannot_be_removed(built, tmp_path, mode, name):
     """What an earlier run left must not pass for the run's own."""
     (tmp_path / "logs" / name / "inner").mkdir(parents=True)
-    done = ran(built(SOURCES / "ticket.c", mode), 2, 1, 1, "logs", cwd=tmp_path)
-    assert done.stderr == f"lockreplay_record: logs/{name}: Directory not empty\n"
-    assert (done.stdout, done.returncode) == ("", 3)
-
-
-def test_notes_that_cannot_be_removed(built, tmp_path):
-    (tmp_path / "logs" / "run.notes" / "inner").mkdir(parents=True)
-    done = ran(built(SOURCES / "ticket.c", "VALUES"), 2, 1, 1, "logs", cwd=tmp_path)
-    assert done.stderr == "lockreplay_record: logs/run.notes: Directory not empty\n"
-    assert (done.stdout, done.returncode) == ("", 3)
+    assert answer(built(SOURCES / "ticket.c", mode), 2, 1, 1, "logs", cwd=tmp_path) == refusal(
+        f"logs/{name}: Directory not empty")
 
 
 @pytest.mark.parametrize("refused", ["calloc(count, size)", "realloc(old, size)"])
@@ -377,5 +365,5 @@ def test_no_memory_for_the_check(built, refusing, tmp_path, refused):
     """A run that could not be checked is not accepted."""
     program = built(SOURCES / "ticket.c", "SEED", "-DLR_CHECK", "-Wno-unused",
                     *refusing(f"{refused} NULL"))
-    done = ran(program, 2, 3, 1, tmp_path / "logs")
-    assert (done.stderr, done.returncode) == ("lockreplay_record: no memory for the check\n", 3)
+    assert answer(program, 2, 3, 1, tmp_path / "logs")[1:] == refusal(
+        "no memory for the check")[1:]
