@@ -9,79 +9,69 @@ static lr_run *run;
 static int condition, woken;
 static unsigned waited;
 
-static void *again(void *log)
-{
-    lr_begin((lr_log *)log);
-    return NULL;
-}
+/* The threads of a run do the work with which `start` began it. */
+static void (*work)(lr_log *log);
 
-static void *comes_and_goes(void *log)
-{
-    lr_begin((lr_log *)log);
-    lr_end((lr_log *)log);
-    return NULL;
-}
-
-static void twice(lr_log *log)
-{
-    pthread_t first, second;
-    pthread_create(&first, NULL, again, log);
-    pthread_create(&second, NULL, again, log);
-    lr_await(run, 20);
-}
-
-static void *comes(void *log)
-{
-    lr_begin((lr_log *)log);
-    woken = 1;
-    return NULL;
-}
-
-static void *keeps_its_turn(void *log)
-{
-    lr_begin((lr_log *)log);
-    for (;;) sem_wait(&((lr_log *)log)->turn.comes);
-    return NULL;
-}
-
-static void *switches_for_ever(void *log)
-{
-    lr_begin((lr_log *)log);
-    for (;;) LR_SWITCH();
-    return NULL;
-}
-
-static void *waits_for_ever(void *log)
-{
-    lr_begin((lr_log *)log);
-    LR_WAIT(&condition, (void)0, (void)0, (void)0);
-    lr_end((lr_log *)log);
-    return NULL;
-}
-
-static void *polls_for_ever(void *log)
-{
-    lr_begin((lr_log *)log);
-    for (;;) LR_READ(now_serving, 1);
-    return NULL;
-}
-
-/* Thread 0 polls until thread 1 has polled four times. */
-static void *opens_after_polls(void *of)
+static void *in_a_run(void *of)
 {
     lr_log *log = (lr_log *)of;
     lr_begin(log);
-    while (log->thread == 0 && !woken) LR_READ(now_serving, 1);
-    for (int poll = 0; log->thread == 1 && poll < 4; poll++) LR_READ(now_serving, 2);
-    woken |= log->thread == 1;
+    work(log);
     lr_end(log);
     return NULL;
 }
 
-static void *wakes_one(void *of)
+static void start(void (*begun)(lr_log *log), unsigned threads)
 {
-    lr_log *log = (lr_log *)of;
-    lr_begin(log);
+    pthread_t id;
+    work = begun;
+    for (unsigned t = 0; t < threads; t++) pthread_create(&id, NULL, in_a_run, lr_log_of(run, t));
+}
+
+static void comes_and_goes(lr_log *log) { (void)log; }
+
+static void twice(lr_log *log)
+{
+    pthread_t first, second;
+    work = comes_and_goes;
+    pthread_create(&first, NULL, in_a_run, log);
+    pthread_create(&second, NULL, in_a_run, log);
+    lr_await(run, 20);
+}
+
+static void comes(lr_log *log) { (void)log, woken = 1; }
+
+static void keeps_its_turn(lr_log *log)
+{
+    for (;;) sem_wait(&log->turn.comes);
+}
+
+static void switches_for_ever(lr_log *log)
+{
+    for ((void)log;;) LR_SWITCH();
+}
+
+static void waits_for_ever(lr_log *log)
+{
+    (void)log;
+    LR_WAIT(&condition, (void)0, (void)0, (void)0);
+}
+
+static void polls_for_ever(lr_log *log)
+{
+    for ((void)log;;) LR_READ(now_serving, 1);
+}
+
+/* Thread 0 polls until thread 1 has polled four times. */
+static void opens_after_polls(lr_log *log)
+{
+    while (log->thread == 0 && !woken) LR_READ(now_serving, 1);
+    for (int poll = 0; log->thread == 1 && poll < 4; poll++) LR_READ(now_serving, 2);
+    woken |= log->thread == 1;
+}
+
+static void wakes_one(lr_log *log)
+{
     if (log->thread == 0) {
         while (!run->parked) LR_SWITCH();
         LR_SIGNAL(&woken, (void)0); /* another condition: it wakes nobody */
@@ -92,36 +82,25 @@ static void *wakes_one(void *of)
         LR_WAIT(&condition, (void)0, (void)0, (void)0);
         if (!woken) _Exit(9);
     }
-    lr_end(log);
-    return NULL;
 }
 
-static void *polls_without_a_note(void *of)
+static void polls_without_a_note(lr_log *log)
 {
-    lr_log *log = (lr_log *)of;
-    lr_begin(log);
     if (log->thread == 1) LR_CALL(acquire);
     for (;;) (void)__atomic_load_n(&woken, __ATOMIC_SEQ_CST);
-    return NULL;
 }
 
 /* Thread 1 waits. Thread 0 only lets it go first. */
-static void *signals_nothing(void *of)
+static void signals_nothing(lr_log *log)
 {
-    lr_log *log = (lr_log *)of;
-    lr_begin(log);
     for (int turn = 0; log->thread == 0 && turn < 1000; turn++) LR_SWITCH();
     if (log->thread == 1) LR_WAIT(&condition, (void)0, (void)0, (void)0);
-    lr_end(log);
-    return NULL;
 }
 
 /* Two threads wait. Then thread 2 wakes one of them or, if `woken` is set, both; with 2 it then
    waits itself. */
-static void *waits_or_wakes(void *of)
+static void waits_or_wakes(lr_log *log)
 {
-    lr_log *log = (lr_log *)of;
-    lr_begin(log);
     while (log->thread == 2 && run->parked != 3) LR_SWITCH();
     if (log->thread < 2)
         LR_WAIT(&condition, (void)0, (void)0, (void)0);
@@ -130,14 +109,6 @@ static void *waits_or_wakes(void *of)
     else
         LR_SIGNAL(&condition, (void)0);
     if (woken == 2 && log->thread == 2) LR_WAIT(&condition, (void)0, (void)0, (void)0);
-    lr_end(log);
-    return NULL;
-}
-
-static void start(void *(*work)(void *), unsigned threads)
-{
-    pthread_t id;
-    for (unsigned t = 0; t < threads; t++) pthread_create(&id, NULL, work, lr_log_of(run, t));
 }
 
 /* In strict C11 a signal's handler is gone after its first signal, and not every header is whole. */
@@ -192,17 +163,13 @@ static void wakes(unsigned seeds)
 }
 
 /* Thread 1 waits, and nobody signals. Thread 0 lets it go first until it is awake. */
-static void *counts_turns(void *of)
+static void counts_turns(lr_log *log)
 {
-    lr_log *log = (lr_log *)of;
-    lr_begin(log);
     if (log->thread == 1) {
         LR_WAIT(&condition, (void)0, (void)0, (void)0);
         woken = 1;
     }
     for (; !woken; LR_SWITCH()) waited += run->parked != 0;
-    lr_end(log);
-    return NULL;
 }
 
 /* Prints how many turns thread 1 waits, the sum for so many even seeds. */
@@ -219,10 +186,8 @@ static void wakes_for_nothing(unsigned seeds)
 
 /* Two threads wait, and nobody signals. Thread 2 prints whether one of them still waits when it
    first sees that another one does not. */
-static void *sees_who_waits(void *of)
+static void sees_who_waits(lr_log *log)
 {
-    lr_log *log = (lr_log *)of;
-    lr_begin(log);
     if (log->thread < 2) {
         do LR_WAIT(&condition, (void)0, (void)0, (void)0);
         while (!woken);
@@ -233,8 +198,6 @@ static void *sees_who_waits(void *of)
         printf("%d\n", run->parked != 0);
     }
     LR_BROADCAST(&condition, (void)0);
-    lr_end(log);
-    return NULL;
 }
 
 static void wakes_one_for_nothing(unsigned seeds)
