@@ -19,43 +19,22 @@ set -l locks ticket mcs rw-simple rw-fifo
 function __locktrace_kinds
     echo all
     # generated: kinds
-    echo 'acquire: called'
-    echo 'acquire: cleared its next'
-    echo 'acquire: entered without waiting'
-    echo 'acquire: joined the queue'
-    echo 'acquire: set its locked'
-    echo 'acquire: linked itself'
-    echo 'acquire: poll of a missing grant'
-    echo 'acquire: entered after waiting'
-    echo 'release: called'
-    echo 'release: found no link'
-    echo 'release: found a link'
-    echo 'release: successful compare-and-swap'
-    echo 'release: failed compare-and-swap'
-    echo 'release: poll of a missing link'
-    echo 'release: found a late link'
-    echo 'release: granted the lock'
-    echo 'rlock: called'
-    echo 'rlock: entered'
-    echo 'rlock: poll with a writer'
-    echo 'runlock: called'
-    echo 'runlock: left'
-    echo 'wlock: called'
-    echo 'wlock: entered without waiting'
-    echo 'wlock: poll of a taken lock'
-    echo 'wunlock: called'
-    echo 'wunlock: left'
-    echo 'downgrade: called'
-    echo 'downgrade: entered'
-    echo 'wlock: announced itself'
-    echo 'wlock: poll with readers inside'
-    echo 'wlock: entered after the readers'
-    echo 'wlock: entered'
-    echo 'acquire: took a ticket'
-    echo 'acquire: entered'
-    echo 'acquire: poll before its turn'
-    echo 'release: read the ticket served'
-    echo 'release: served the next ticket'
+    echo 'acquire: called'; echo 'acquire: cleared its next';
+    echo 'acquire: entered without waiting'; echo 'acquire: joined the queue';
+    echo 'acquire: set its locked'; echo 'acquire: linked itself';
+    echo 'acquire: poll of a missing grant'; echo 'acquire: entered after waiting';
+    echo 'release: called'; echo 'release: found no link'; echo 'release: found a link';
+    echo 'release: successful compare-and-swap'; echo 'release: failed compare-and-swap';
+    echo 'release: poll of a missing link'; echo 'release: found a late link';
+    echo 'release: granted the lock'; echo 'rlock: called'; echo 'rlock: entered';
+    echo 'rlock: poll with a writer'; echo 'runlock: called'; echo 'runlock: left';
+    echo 'wlock: called'; echo 'wlock: entered without waiting';
+    echo 'wlock: poll of a taken lock'; echo 'wunlock: called'; echo 'wunlock: left';
+    echo 'downgrade: called'; echo 'downgrade: entered'; echo 'wlock: announced itself';
+    echo 'wlock: poll with readers inside'; echo 'wlock: entered after the readers';
+    echo 'wlock: entered'; echo 'acquire: took a ticket'; echo 'acquire: entered';
+    echo 'acquire: poll before its turn'; echo 'release: read the ticket served';
+    echo 'release: served the next ticket';
     # end
 end
 

@@ -6,95 +6,45 @@ itself, since it may work although no shell finds it.
 """
 import os
 import pty
+import re
 import select
 import signal
 import time
 
 import pytest
 
-CASES = [
-    ("lockreplay rep", "lockreplay replay "),
-    ("lockreplay b", "lockreplay batch "),
-    ("lockreplay he", "lockreplay help "),
-    ("lockreplay --h", "lockreplay --help "),
-    ("lockreplay x", "lockreplay x"),
-    ("lockreplay replay --h", "lockreplay replay --help "),
-    ("lockreplay replay hand", "lockreplay replay hand"),
-    ("lockreplay replay < hand", "lockreplay replay < handed-on.schedule "),
-    ("lockreplay replay --w", "lockreplay replay --w"),
-    ("lockreplay batch --w", "lockreplay batch --workers "),
-    ("lockreplay batch --h", "lockreplay batch --help "),
-    ("lockreplay batch hand", "lockreplay batch handed-on.schedule "),
-    ("lockreplay batch --workers 2 hand", "lockreplay batch --workers 2 handed-on.schedule "),
-    ("lockreplay batch --workers 2 --w", "lockreplay batch --workers 2 --w"),
-    ("lockreplay batch --workers 2 --h", "lockreplay batch --workers 2 --help "),
-    ("lockreplay batch --workers 2 a.schedule hand",
-     "lockreplay batch --workers 2 a.schedule handed-on.schedule "),
-    ("lockreplay batch handed-on.schedule --w", "lockreplay batch handed-on.schedule --workers "),
-    ("lockreplay help b", "lockreplay help batch "),
-    ("lockreplay help rep", "lockreplay help replay "),
-    *((f"lockreplay batch --workers {n}", f"lockreplay batch --workers {n} ") for n in range(1, 9)),
-    *((f"lockreplay batch --workers {n}", f"lockreplay batch --workers {n}") for n in (0, 9, 10)),
-    ("locktrace ch", "locktrace check "),
-    ("locktrace sch", "locktrace schedule "),
-    ("locktrace --v", "locktrace --version "),
-    ("locktrace check --su", "locktrace check --summary "),
-    ("locktrace check --format j", "locktrace check --format json "),
-    ("locktrace check --color ne", "locktrace check --color never "),
-    ("locktrace check --qu", "locktrace check --quiet "),
-    ("locktrace check --pa", "locktrace check --page "),
-    ("locktrace check --page hand", "locktrace check --page handed-on.schedule "),
-    ("locktrace check --fr", "locktrace check --from "),
-    ("locktrace check --from hand", "locktrace check --from handed-on.schedule "),
-    ("locktrace check hand", "locktrace check handed-on.schedule "),
-    ("locktrace check --summary a.schedule hand",
-     "locktrace check --summary a.schedule handed-on.schedule "),
-    ("locktrace explain --mo", "locktrace explain --moves "),
-    ("locktrace explain hand", "locktrace explain handed-on.schedule "),
-    ("locktrace order --format j", "locktrace order --format json "),
-    ("locktrace order --qu", "locktrace order --quiet "),
-    ("locktrace order hand", "locktrace order handed-on.schedule "),
-    ("locktrace help ord", "locktrace help order "),
-    ("locktrace fi", "locktrace find "),
-    ("locktrace find rw-s", "locktrace find rw-simple "),
-    ("locktrace find hand", "locktrace find handed-on.schedule "),
-    ("locktrace find --ro", "locktrace find --rounds "),
-    ("locktrace find --rounds a", "locktrace find --rounds any "),
-    ("locktrace space --rounds a", "locktrace space --rounds any "),
-    ("locktrace tour --rounds a", "locktrace tour --rounds a"),
-    ("locktrace tou", "locktrace tour "),
-    ("locktrace tour rw-f", "locktrace tour rw-fifo "),
-    ("locktrace tour --li", "locktrace tour --limit "),
-    ("locktrace space m", "locktrace space mcs "),
-    ("locktrace space --format j", "locktrace space --format json "),
-    ("locktrace space --format d", "locktrace space --format dot "),
-    ("locktrace find --rounds 2 rw-s", "locktrace find --rounds 2 rw-simple "),
-    ("locktrace find --limit 9 hand", "locktrace find --limit 9 handed-on.schedule "),
-    ("locktrace tour -o runs rw-f", "locktrace tour -o runs rw-fifo "),
-    ("locktrace tour -o runs rw-fifo --li", "locktrace tour -o runs rw-fifo --limit "),
-    ("locktrace space --format json tick", "locktrace space --format json ticket "),
-    ("locktrace space --bits 2 --rounds 1 mc", "locktrace space --bits 2 --rounds 1 mcs "),
-    ("locktrace space mcs rw-s", "locktrace space mcs rw-s"),
-    ("locktrace space --format ta", "locktrace space --format ta"),
-    ("locktrace cover --format ta", "locktrace cover --format ta"),
-    ("locktrace check --format d", "locktrace check --format d"),
-    *((f"locktrace {command} --fo", f"locktrace {command} --fo")
-      for command in ("explain", "schedule", "find", "tour")),
-    *((f"locktrace {command} --format j", f"locktrace {command} --format j")
-      for command in ("explain", "schedule", "find", "tour")),
-    ("locktrace cover --re", "locktrace cover --require "),
-    ("locktrace cover --require al", "locktrace cover --require all "),
-    ("locktrace cover --require downgrade:\\ e",
-     "locktrace cover --require downgrade:\\ entered "),
-    ("locktrace cover --require acquire:\\ j",
-     "locktrace cover --require acquire:\\ joined\\ the\\ queue "),
-    ("locktrace cover --require 'wlock: an",
-     "locktrace cover --require 'wlock: announced itself' "),
-    ("locktrace find mcs 2 '* cas' --li", "locktrace find mcs 2 '* cas' --limit "),
-    ("locktrace cover --require all hand", "locktrace cover --require all handed-on.schedule "),
-    ("locktrace cover hand", "locktrace cover handed-on.schedule "),
-    ("locktrace help sp", "locktrace help space "),
-]
+# What is typed up to `|`, after these words, and what Tab adds to it; `_` is a blank at the end.
+TABS = r"""
+    lockreplay: rep|lay_; b|atch_; he|lp_; --h|elp_; x|
+    lockreplay replay: --h|elp_; hand|; < hand|ed-on.schedule_; --w|
+    lockreplay batch: --w|orkers_; --h|elp_; hand|ed-on.schedule_;
+        --workers 2 hand|ed-on.schedule_; --workers 2 --w|; --workers 2 --h|elp_;
+        --workers 2 a.schedule hand|ed-on.schedule_; handed-on.schedule --w|orkers_; --workers 1|_;
+        --workers 2|_; --workers 3|_; --workers 4|_; --workers 5|_; --workers 6|_; --workers 7|_;
+        --workers 8|_; --workers 0|; --workers 9|; --workers 10|
+    lockreplay help: b|atch_; rep|lay_
+    locktrace: ch|eck_; sch|edule_; --v|ersion_; fi|nd_; tou|r_
+    locktrace check: --su|mmary_; --format j|son_; --color ne|ver_; --qu|iet_; --pa|ge_;
+        --page hand|ed-on.schedule_; --fr|om_; --from hand|ed-on.schedule_; hand|ed-on.schedule_;
+        --summary a.schedule hand|ed-on.schedule_; --format d|
+    locktrace explain: --mo|ves_; hand|ed-on.schedule_; --fo|; --format j|
+    locktrace order: --format j|son_; --qu|iet_; hand|ed-on.schedule_
+    locktrace help: ord|er_; sp|ace_
+    locktrace find: rw-s|imple_; hand|ed-on.schedule_; --ro|unds_; --rounds a|ny_;
+        --rounds 2 rw-s|imple_; --limit 9 hand|ed-on.schedule_; --fo|; --format j|;
+        mcs 2 '* cas' --li|mit_
+    locktrace space: --rounds a|ny_; m|cs_; --format j|son_; --format d|ot_;
+        --format json tick|et_; --bits 2 --rounds 1 mc|s_; mcs rw-s|; --format ta|
+    locktrace tour: --rounds a|; rw-f|ifo_; --li|mit_; -o runs rw-f|ifo_;
+        -o runs rw-fifo --li|mit_; --fo|; --format j|
+    locktrace cover: --format ta|; --re|quire_; --require al|l_; --require downgrade:\ e|ntered_;
+        --require acquire:\ j|oined\ the\ queue_; --require 'wlock: an|nounced itself'_;
+        --require all hand|ed-on.schedule_; hand|ed-on.schedule_
+    locktrace schedule: --fo|; --format j|
+"""
+CASES = [(f"{words} {typed}", f"{words} {typed}{added.replace('_', ' ')}")
+         for words, tabs in re.findall(r"(?m)^    (\w[\w ]*): (.*(?:\n {8}.*)*)", TABS)
+         for typed, added in (tab.split("|") for tab in re.split(r";\s+", tabs))]
 
 # The command of each shell, and the lines that it gets first. They bind Control-T to a function
 # that writes the current line to a file.

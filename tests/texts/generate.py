@@ -137,7 +137,7 @@ REGIONS = {
     "packaging/completions/locktrace.zsh": (
         ("locks", "local -a locks=({all: })"), ("kinds", "'{word}'")),
     "packaging/completions/locktrace.fish": (
-        ("locks", "set -l locks {all: }"), ("kinds", "echo '{word}'\n")),
+        ("locks", "set -l locks {all: }"), ("kinds", "echo '{word}';")),
 }
 
 
