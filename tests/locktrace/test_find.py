@@ -99,6 +99,10 @@ NO_FACTS = ["is ", "is hold", "is hold 2", "is hold 0 1", "is 0 at", "is 2 at Id
             "is queue 0,", "is queue 0,1, -", "is queue 0, 1"]
 NO_FACT = ("not facts of this lock: 'hold T', 'queue T,..', 'T at PHASE' or 'WORD V', with ', ' "
            "between them (BadFact)\n")
+# A lock, a line that no sketch of it can have, and the message.
+REFUSED = [*(("mcs", line, f"no run has this line: {why}\n") for line, why in NEVER),
+           *(("mcs", line, f"{LINE}\n{said}") for line, said in FAULTS),
+           *(("ticket", line, NO_FACT) for line in NO_FACTS)]
 
 # The message for a `not` in the last line.
 OPEN_NOT = "'not' holds up to the next line, and there is none (NoNextLine)\n"
@@ -128,37 +132,18 @@ def test_usage(tracer, words):
     assert (output, status) == ("", 2) and error.startswith("error:")
 
 
-@pytest.mark.parametrize("line, why", NEVER)
-def test_line_that_no_run_has(tracer, line, why):
+@pytest.mark.parametrize("lock, line, said", REFUSED)
+def test_line_that_is_refused(tracer, lock, line, said):
     """Arguments and texts with the line get the message, before any search."""
-    said = f"no run has this line: {why}\n"
-    assert tracer.run("find", "mcs", "2", "* cas", line) == (
+    assert tracer.run("find", lock, "2", "* release", line) == (
         "", f"locktrace: '{line}': {said}", 2)
-    assert tracer.run("find", "-", stdin=f"lock mcs threads 2\n\n{line}\n") == (
+    assert tracer.run("find", "-", stdin=f"lock {lock} threads 2\n\n{line}\n") == (
         "", f"-:3: {said}", 4)
 
 
 @pytest.mark.parametrize("words, said", NO_LOCKS, ids=str)
 def test_no_lock(tracer, words, said):
     assert tracer.run("space", *words) == ("", f"locktrace: {said}", 2)
-
-
-@pytest.mark.parametrize("line, said", FAULTS)
-def test_line_that_is_none(tracer, line, said):
-    """Arguments and texts with the line get the message."""
-    assert tracer.run("find", "mcs", "2", "* cas", line) == (
-        "", f"locktrace: '{line}': {LINE}\n{said}", 2)
-    assert tracer.run("find", "-", stdin=f"lock mcs threads 2\n\n{line}\n") == (
-        "", f"-:3: {LINE}\n{said}", 4)
-
-
-@pytest.mark.parametrize("line", NO_FACTS)
-def test_no_fact(tracer, line):
-    """Arguments and texts with the line get the message, before any search."""
-    assert tracer.run("find", "ticket", "2", "0 add", line) == (
-        "", f"locktrace: '{line}': {NO_FACT}", 2)
-    assert tracer.run("find", "-", stdin=f"lock ticket threads 2\n\n{line}\n") == (
-        "", f"-:3: {NO_FACT}", 4)
 
 
 SEARCHED = re.compile(r"; a search of ([\d,]+) states? found it:\n")
@@ -259,23 +244,23 @@ def test_any_rounds_of_a_text(tracer):
     assert len(search_rows.moves_of(output)) == 15
 
 
-@pytest.mark.parametrize("lock", ["ticket", "rw-fifo"])
-def test_space_without_end(tracer, lock):
-    """In wide words the counters grow without end, so the message proposes --bits 3, the narrowest
-    words for four threads."""
-    output, error, status = tracer.run("find", lock, "4", "--rounds", "any", "--limit", "9",
-                                       "0 release" if lock == "ticket" else "0 runlock")
-    assert (output, status) == ("", 3)
-    assert re.fullmatch(r"locktrace: not decided: the search stopped at \d\d states; in wide words "
-                        r"the counts have no end, and narrow ones \(--bits 3\) make the space "
-                        r"finite\n", error)
+WIDE = (r"; in wide words the counts have no end, and narrow ones \(--bits {}\) make the space "
+        "finite")
 
 
-def test_limit(tracer):
-    output, error, status = tracer.run("find", "mcs", "3", "--limit", "100", "0 cas done", "0 swap")
+@pytest.mark.parametrize("words, states, more", [
+    ("mcs 3 --limit 100 '0 cas done' '0 swap'", r"1\d\d", r" \(--limit allows more\)"),
+    # The narrowest words for four threads have three bits; words have at least two.
+    ("ticket 4 --rounds any --limit 9 '0 release'", r"\d\d", WIDE.format(3)),
+    ("rw-fifo 4 --rounds any --limit 9 '0 runlock'", r"\d\d", WIDE.format(3)),
+    ("ticket 2 --limit 50 again", "51", WIDE.format(2)),
+    ("ticket 1 --rounds any --limit 3 '0 release'", "4", WIDE.format(2))])
+def test_not_decided(tracer, words, states, more):
+    """In wide words the counters grow without end, so the message proposes narrow ones."""
+    output, error, status = tracer.run("find", *shlex.split(words))
     assert (output, status) == ("", 3)
-    assert re.fullmatch(r"locktrace: not decided: the search stopped at 1\d\d states "
-                        r"\(--limit allows more\)\n", error)
+    assert re.fullmatch(
+        f"locktrace: not decided: the search stopped at {states} states{more}\n", error)
 
 
 @pytest.mark.parametrize("sketch", list(search_rows.sketches()), ids=str)
@@ -387,12 +372,3 @@ def test_a_bar_after_again_needs_no_next_line(tracer):
     assert status == 0 and "\n1 " not in output
     assert tracer.run("find", "mcs", "2", "again", "not 3 swap")[1:] == (
         "locktrace: 'not 3 swap': no run has this line: no such thread (NoSuchThread)\n", 2)
-
-
-@pytest.mark.parametrize("words, states", [
-    ("2 --limit 50 again", 51), ("1 --rounds any --limit 3 '0 release'", 4)])
-def test_an_endless_space(tracer, words, states):
-    """Wide counters only grow, so a search goes on to its limit. Words have at least two bits."""
-    assert tracer.run("find", "ticket", *shlex.split(words)) == (
-        "", f"locktrace: not decided: the search stopped at {states} states; in wide words the "
-        "counts have no end, and narrow ones (--bits 2) make the space finite\n", 3)
