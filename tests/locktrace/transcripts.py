@@ -5,7 +5,8 @@ A file of rows has lines that begin with `@`, and the lines after them:
     @row NAME              a row begins, with no files
     @file NAME LINE        a file of the row: LINE and those after it, where `; ` ends a line too
     @run WORDS => STATUS   a run of the program with these arguments, which ends with this status
-    @out, @err             the standard output and standard error of the run, empty if left out
+    @out LINE, @err LINE   the standard output and standard error of the run, empty if left out:
+                           LINE, if it is there, and the lines after it
 
 A line that begins with `//` before the first file or run of a row is a comment. `\\e` is the byte
 27. The files of a row, and those that its runs write, are there until the row ends.
@@ -56,7 +57,7 @@ def rows_in(path):
             rows[-1].runs.append(Run(rest))
             lines = None
         elif word in ("@out", "@err"):
-            lines = rows[-1].runs[-1].lines[word]
+            lines = rows[-1].runs[-1].lines[word] = [rest] if rest else []
         elif lines is not None:
             lines.append(line)
         elif not line.startswith("//"):
