@@ -1,29 +1,20 @@
-"""Compares the words of the catalogue with files that `make generate` does not fill: sentences,
-lists that explain each word, and crates, whose proofs depend on their text.
+"""Compares the words of the catalogue with files that `make generate` does not fill: messages, and
+lists that explain each word or stand in a crate.
 """
-from catalogue import (ANSWERS, CALLS, DIFFERS, FAULTS, HOLDERS, LOCKS, MESSAGES, MOVES, OF,
-                       OF_TEXTS, OUTCOMES, PARTS, PLACES, REFUSED, RELEASE, RESULTS, STEPS, VERSION,
-                       between, found, read)
+from catalogue import (ANSWERS, DIFFERS, FAULTS, HOLDERS, MESSAGES, MOVES, OF, OF_TEXTS, OUTCOMES,
+                       PARTS, PLACES, REFUSED, RELEASE, RESULTS, STEPS, VERSION, between, found,
+                       read)
 
 RUST, PAGE, MAN = "record/rust/src", "page/src", "packaging/man"
 DUE, C = "crates/lk_trace/src/due.rt", "crates/lk_trace_c/src/numbers.rt"
 LIMIT = 1_000_000  # the states that a search goes through if no number is given
 
-
-def either(words):
-    *others, last = words.values()
-    return f"{', '.join(others)} or {last}"
-
-
 # Texts that these files must contain, wherever their lines break.
 SAID = {
-    "record/src/lockreplay_record.h": [f"call) {either(CALLS)}", f"The lock is {either(LOCKS)};"],
     "record/rust/Cargo.lock": [f'name = "lockreplay-record" version = "{VERSION}"'],
-    "crates/locktrace/src/*.rt": [f'VERSION: &str = "{VERSION}";', f'"{either(LOCKS)}"',
-                                  f"LIMIT: u64 = {LIMIT:_};", f"{LIMIT:,} if it is not given"],
+    "crates/locktrace/src/*.rt": [f'VERSION: &str = "{VERSION}";', f"LIMIT: u64 = {LIMIT:_};",
+                                  f"{LIMIT:,} if it is not given"],
     f"{MAN}/locktrace.1": [f"Without it {LIMIT:,}."],
-    "crates/lk_lines/src/unreadable.rt": [f'"{either(LOCKS)}"', f"({', '.join(STEPS.values())})"],
-    DUE: [f'"{either(OUTCOMES)}"', f"a word ({either(PLACES)})"],
     C: [f'"{name}: {text}"' for name, text in MESSAGES.items() if name != "NoHeader"],
     f"{PAGE}/machine/codes.js": [
         f"FIRST_STEP = {MOVES[STEPS['Read']]};",

@@ -5,7 +5,8 @@
     tests/texts/generate.py --check    says what differs, and ends with 1 if something does
 
 A region is between two comments of the file's language, `generated: LISTS` and `end`. Nobody edits
-it by hand. by_hand.py compares words that people write in several places.
+it by hand. sentences.py fills places without such comments, and by_hand.py compares words that
+people write in several places.
 """
 import re
 import sys
@@ -13,6 +14,7 @@ from textwrap import fill, indent
 
 import by_hand
 import plans
+import sentences
 from catalogue import (BITS, CALLS, DAY, DIFFERS, EXPECTED, FAULTS, LIMITS, LOCK_CODES, LOCKS,
                        MOVES, NO_WORD, OF_TEXTS, OUTCOMES, PARTS, PHASES, PLACES, REFUSED,
                        RESULTS, STEPS, TOP, TRANSITIONS, VERSION, calls_of, found, read)
@@ -179,7 +181,8 @@ def faults_in(path, is_check):
 
 def faults(is_check):
     """The faults of all files."""
-    return [*(it for path in REGIONS for it in faults_in(path, is_check)), *by_hand.faults()]
+    return [*(it for path in REGIONS for it in faults_in(path, is_check)),
+            *sentences.faults(is_check), *by_hand.faults()]
 
 
 if __name__ == "__main__":

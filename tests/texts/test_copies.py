@@ -12,6 +12,7 @@ import pytest
 
 import by_hand
 import generate
+import sentences
 from catalogue import CALLS, LOCKS, code_of, found, read
 
 SPECS = "crates/lk_locks/specs"
@@ -52,6 +53,11 @@ def words_written(lock):
 @pytest.mark.parametrize("path", generate.REGIONS)
 def test_regions(path):
     assert generate.faults_in(path, is_check=True) == []
+
+
+@pytest.mark.parametrize("sentence", sentences.SENTENCES)
+def test_sentence(sentence):
+    assert sentences.faults_at(sentence, is_check=True) == []
 
 
 def test_copies_by_hand():
