@@ -92,8 +92,9 @@ def finish(app, _):
 
 
 def setup(app):
-    # The languages of docs/LOCKS.md are those of its locks.
-    for lock in ("ticket", "mcs", "rw-simple", "rw-fifo"):
-        app.add_lexer(lock, TextLexer)
+    # Each block of a lock's code names the lock as its language.
+    text = (TOP / "docs" / "LOCKS.md").read_text(encoding="utf-8")
+    for language in set(re.findall(r"^```([\w-]+)$", text, re.MULTILINE)) - {"console"}:
+        app.add_lexer(language, TextLexer)
     app.connect("source-read", read)
     app.connect("build-finished", finish)

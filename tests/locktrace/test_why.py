@@ -4,7 +4,8 @@ import re
 
 import pytest
 
-from changed_locks import AS_IT_IS, CHANGES, Searched, signs
+from changed_locks import AS_IT_IS, Searched, signs
+from locks import LOCKS
 from tree import TOP, ran
 
 VERDICT = re.compile(r"(?P<illegal>[\d,]+) moves?, and thread \d .+"
@@ -26,13 +27,13 @@ def parts_of(output):
 
 
 @pytest.mark.parametrize("threads", [2, 3])
-@pytest.mark.parametrize("lock", CHANGES)
+@pytest.mark.parametrize("lock", LOCKS)
 def test_verdicts(tracer, lock, threads):
     output, *more = tracer.run("why", lock, threads)
     heading, verdicts = parts_of(output)
     assert more == ["", 0]
     assert heading == f"{lock}, {threads} threads with {ROUNDS} rounds each"
-    assert list(verdicts) == [AS_IT_IS, *CHANGES[lock]]
+    assert list(verdicts) == [AS_IT_IS, *LOCKS[lock].changes]
     assert {change: read(text) for change, text in verdicts.items()} \
         == {change: Searched(lock, threads, ROUNDS, change).verdict() for change in verdicts}
 
@@ -75,8 +76,8 @@ def followed(lock, moves, effects):
     return state
 
 
-@pytest.mark.parametrize("lock, change", [(lock, change) for lock, changes in CHANGES.items()
-                                          for change in [AS_IT_IS, *changes]])
+@pytest.mark.parametrize("lock, change", [(name, change) for name, lock in LOCKS.items()
+                                          for change in [AS_IT_IS, *lock.changes]])
 def test_run(tracer, lockreplay, lock, change):
     """A run has as many moves as its verdict says, and does the harm that the verdict names. It may
     differ from the run that the search finds. It is a schedule of the changed lock, and of no
@@ -105,11 +106,11 @@ def test_four_threads_are_the_most(tracer):
                              "stopped at 5 states\n")
 
 
-@pytest.mark.parametrize("lock", CHANGES)
+@pytest.mark.parametrize("lock", LOCKS)
 def test_what_the_page_has(tracer, lock):
     kept = (TOP / "page" / "why" / f"{lock}.txt").read_text()
     assert tracer.run("why", lock, "--runs") == (kept, "", 0)
 
 
 def test_the_page_has_each_lock():
-    assert {path.stem for path in (TOP / "page" / "why").iterdir()} == {*CHANGES}
+    assert {path.stem for path in (TOP / "page" / "why").iterdir()} == {*LOCKS}

@@ -8,7 +8,8 @@ import pytest
 import search_rows
 from changed_locks import Searched
 from endless import Endless
-from spaces import PHASES, Space, ending, measured, searched
+from locks import LOCKS
+from spaces import Space, ending, measured, searched
 
 
 @pytest.mark.parametrize("row, counts, kinds", list(search_rows.spaces()), ids=str)
@@ -36,7 +37,7 @@ def test_all_calls_can_end(row, _, __):
     assert ending(space) == set(range(len(space)))
 
 
-@pytest.mark.parametrize("lock", PHASES)
+@pytest.mark.parametrize("lock", LOCKS)
 def test_kinds(lock):
     assert Space(lock, 2, 1).kinds() == search_rows.kinds(lock)
 

@@ -1,16 +1,14 @@
-// Tests in Node the facts that the page reads off a lock's code, names and records: the moves of
-// each lock, the names of threads, the first difference of two runs, the activities of threads, the
-// write that ended each wait, the captions of memory, the wraps of counts, and the answers of the
-// quiz. The values were made by hand, from docs/LOCKS.md and reports.
+// Tests in Node the facts that the page reads off a lock's code, names and records: the names of
+// threads, the first difference of two runs, the activities of threads, the write that ended each
+// wait, the captions of memory, the wraps of counts, and the answers of the quiz. The values were
+// made by hand, from docs/LOCKS.md and reports.
 //
 //     node tests/page/model.mjs MODULE.wasm
 
 import assert from 'node:assert/strict';
 import { readFileSync } from 'node:fs';
 import { LOCK_NAMES } from '../../page/src/machine/codes.js';
-import {
-  awaitedLines, codeOf, linesOf, ownWords, wordsOf,
-} from '../../page/src/machine/locks_code.js';
+import { awaitedLines, codeOf, linesOf, wordsOf } from '../../page/src/machine/locks_code.js';
 import { learnWords } from '../../page/src/machine/word_names.js';
 import { arrowsBetween, arrowsOf } from '../../page/src/model/arrows.js';
 import { firstDifference } from '../../page/src/model/compare_runs.js';
@@ -39,16 +37,6 @@ const ARROWS = {
 
 const document = readFileSync(new URL('../../docs/LOCKS.md', import.meta.url), 'utf8');
 const [lines, words] = [linesOf(codeOf(document)), wordsOf(document)];
-
-const READ_WRITE = ['rlock', 'section', 'runlock', 'wlock', 'wunlock', 'downgrade'];
-const MOVES = {
-  ticket: ['acquire', 'add', 'read', 'release', 'write'],
-  mcs: ['acquire', 'write', 'swap', 'read', 'release', 'cas'],
-  'rw-simple': READ_WRITE, 'rw-fifo': READ_WRITE,
-};
-LOCK_NAMES.forEach((name, lock) => {
-  assert.deepEqual(ownWords(lines[lock]).sort(), [...MOVES[name]].sort(), name);
-});
 
 // A mark is a name's first letter, or the number if other names begin with it.
 const names = new Names(new Map([[0, 'Ann'], [1, 'bert'], [2, 'Bob'], [9, 'Tom']]));

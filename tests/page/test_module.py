@@ -1,7 +1,10 @@
 """Runs the page's module in Node, without the page. The head of each script says what it tests."""
+import json
+
 import pytest
 
-from tree import TESTS, ran
+from locks import LOCKS
+from tree import TESTS, output, ran
 
 
 @pytest.mark.parametrize("script", ["module", "bytes", "moments", "known", "lib", "model",
@@ -9,3 +12,9 @@ from tree import TESTS, ran
 def test_in_node(module, script):
     done = ran("node", TESTS / "page" / f"{script}.mjs", module)
     assert done.returncode == 0, done.stderr
+
+
+def test_own_words():
+    """The calls and kinds of step of each lock are those of the oracle."""
+    assert json.loads(output("node", TESTS / "page" / "own_words.mjs")) \
+        == {name: sorted({*lock.calls, *lock.steps}) for name, lock in LOCKS.items()}

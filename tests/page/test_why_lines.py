@@ -4,7 +4,8 @@ import re
 
 import pytest
 
-from told_changes import LOCKS, STUCK, listing, stops, told
+from locks import LOCKS
+from told_changes import STUCK, listing, stops, told
 from tree import cases
 
 NOTHING = "Nothing was changed here: this line has no step."

@@ -2,7 +2,8 @@
 and the sequential object after each move, and the moment of harm."""
 import pytest
 
-from told_changes import LOCKS, STUCK, stops, told
+from locks import LOCKS
+from told_changes import STUCK, stops, told
 from tree import cases
 
 LATE_LINK = "#lesson=mcs-late-link&move="

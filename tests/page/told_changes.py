@@ -7,7 +7,6 @@ import re
 
 from tree import TOP
 
-LOCKS = ["ticket", "mcs", "rw-simple", "rw-fifo"]
 DOCUMENT = (TOP / "docs" / "LOCKS.md").read_text()
 LINE = re.compile(r"(?P<code>.*?)\s*(?:-- (?P<kind>\w+) (?P<phase>\w+).*)?")
 CHANGE = re.compile(r"(?P<step>\w+), if (?P<how>[^:]+): (?P<verdict>.+)")

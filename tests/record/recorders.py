@@ -15,7 +15,6 @@ HERE = Path(__file__).parent
 SOURCES = EXAMPLES / "recording"
 WARNINGS = ["-Wall", "-Wextra", "-Wpedantic", "-Werror"]
 COMPILERS = ["gcc", "g++", "clang", "clang++"]
-IN_C_PLUS_PLUS = ["rw_simple", "rw_fifo"]
 STANDARDS = ["14", "17", "20"]  # of C++
 CHECKED = ["FOLLOW", "EXPLORE"]  # modes in which a program checks its runs
 # A schedule in which the first of two threads takes an MCS lock.
@@ -133,7 +132,7 @@ class InC(Recorder):
 
 class InRust(Recorder):
     name, seeded = "rust", "seed"
-    examples = ["ticket", "mcs", "rw_simple", "rw_fifo"]
+    examples = sorted(path.stem for path in (TOP / "record" / "rust" / "examples").glob("*.rs"))
     runs = {"seed": (3, 100, range(1, 51)), "wakes": (3, 100, range(5)),
             "ordered": (4, 500, range(3)), "free": (4, 5000, range(3)),
             "noise": (4, 500, range(5)), "pct": (3, 100, range(1, 21))}
@@ -187,6 +186,9 @@ def example_of(mistake):
 
 
 RECORDERS = {"c": InC, "rust": InRust}
+# The examples that are C++ too: the others use the atomics of C, or a library that does.
+IN_C_PLUS_PLUS = [name for name in InC.examples if not re.search(
+    r"#include <(stdatomic|ck_pr)\.h>", (SOURCES / f"{name}.c").read_text())]
 
 
 class Judge:

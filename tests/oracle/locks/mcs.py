@@ -36,5 +36,25 @@ def release(me):
     yield write(("locked", owner(after)), 0)
 
 
+PHASES = {"acquire": ["ClearNext", "SwapTail", "SetLocked", "LinkTo", "AwaitGrant", "McsInside"],
+          "release": ["ReadNext", "CasTail", "AwaitLink", "Grant"]}
+CHANGES = [
+    "ClearNext, if its write is left out",
+    "ClearNext, if the step after it comes first",
+    "SwapTail, if its write is left out",
+    "SwapTail, if it is a load and then a store",
+    "SetLocked, if its write is left out",
+    "SetLocked, if the step after it comes first",
+    "LinkTo, if its write is left out",
+    "AwaitGrant, if it finds 0, whatever is there",
+    "ReadNext, if it finds 0, whatever is there",
+    "CasTail, if its write is left out",
+    "CasTail, if it is a load and then a store",
+    "CasTail, if it finds the thread's own, whatever is there",
+    "CasTail, if it finds 0, whatever is there",
+    "AwaitLink, if the release returns in its place",
+    "Grant, if its write is left out",
+]
 LOCK = Lock("mcs", (acquire, release), {"read", "write", "swap", "cas"},
-            words=("tail",), record=("next", "locked"), is_holder_in_line=True)
+            words=("tail",), record=("next", "locked"), is_holder_in_line=True,
+            phases=PHASES, kept={"SetLocked": 1, "LinkTo": 1, "Grant": -1}, changes=CHANGES)

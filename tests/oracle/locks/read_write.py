@@ -6,6 +6,26 @@ by which a writer becomes a reader in one section, is this project's own.
 """
 from locks.steps import section
 
+PHASES = {
+    "rlock": ["TryRead", "Reading"], "runlock": ["LeaveRead"],
+    "wlock": ["TryWrite", "AwaitReaders", "Writing"], "wunlock": ["LeaveWrite"],
+    "downgrade": ["TryDowngrade", "Reading"],
+}
+# The changes before and after those that only one of the locks has.
+ENTRIES = [
+    "TryRead, if it does not look at the flag",
+    "TryRead, if its write is left out",
+    "LeaveRead, if its write is left out",
+    "TryWrite, if it does not look at the flag",
+    "TryWrite, if it does not look at the readers",
+    "TryWrite, if its write is left out",
+]
+ENDS = [
+    "LeaveWrite, if its write is left out",
+    "TryDowngrade, if the counts are not written",
+    "TryDowngrade, if the flag is not written",
+]
+
 
 def has_no_writer(words):
     return not words["flag"]

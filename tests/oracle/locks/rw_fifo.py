@@ -5,7 +5,7 @@ Different here: the counts wrap. A writer that sets the flag while readers are i
 and is alone in the queue until it enters.
 """
 from locks.lock import Lock
-from locks.read_write import calls, has_no_writer
+from locks.read_write import ENDS, ENTRIES, PHASES, calls, has_no_writer
 from locks.steps import in_line, section
 
 
@@ -32,5 +32,10 @@ def wlock(me):
         yield section(has_no_reader, when=has_no_reader)
 
 
+OWN = [
+    "TryWrite, if it writes nothing before it enters",
+    "AwaitReaders, if it does not look at the readers",
+]
 LOCK = Lock("rw-fifo", calls(count_in, count_out, wlock), {"section"},
-            words=("readAcquires", "readReleases", "flag"))
+            words=("readAcquires", "readReleases", "flag"),
+            phases=PHASES, changes=ENTRIES + OWN + ENDS)

@@ -5,7 +5,7 @@ Different here: a writer waits while there are readers or the flag is set, and o
 flag.
 """
 from locks.lock import Lock
-from locks.read_write import calls, has_no_writer
+from locks.read_write import ENDS, ENTRIES, PHASES, calls, has_no_writer
 from locks.steps import section
 
 
@@ -29,4 +29,5 @@ def wlock(me):
     yield section(set_flag, when=is_free)
 
 
-LOCK = Lock("rw-simple", calls(count_in, count_out, wlock), {"section"}, words=("readers", "flag"))
+LOCK = Lock("rw-simple", calls(count_in, count_out, wlock), {"section"},
+            words=("readers", "flag"), phases=PHASES, changes=ENTRIES + ENDS)

@@ -16,5 +16,16 @@ def release(me):
     yield write("now_serving", served + 1)
 
 
+PHASES = {"acquire": ["TakeTicket", "AwaitTurn", "TicketInside"],
+          "release": ["ReadServing", "PassOn"]}
+CHANGES = [
+    "TakeTicket, if its write is left out",
+    "TakeTicket, if it is a load and then a store",
+    "AwaitTurn, if it finds the thread's own, whatever is there",
+    "ReadServing, if it finds the thread's own, whatever is there",
+    "PassOn, if its write is left out",
+]
 LOCK = Lock("ticket", (acquire, release), {"add", "read", "write"},
-            words=("next_ticket", "now_serving"), is_holder_in_line=True)
+            words=("next_ticket", "now_serving"), is_holder_in_line=True,
+            phases=PHASES, changes=CHANGES,
+            kept={"AwaitTurn": 0, "PassOn": 0}, recalled=("TicketInside", "ReadServing"))
