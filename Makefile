@@ -153,7 +153,7 @@ endif
 test-programs: $(PROGRAM) $(TRACER) $(LIBRARY) $(TESTS_BUILT) test-needs
 	$(PYTEST) $(SPREAD) -m 'not (root or browser or planted)'
 
-## generate | fills the marked regions of files that have words and numbers of the crates
+## generate | fills in the words and numbers of the crates, and page/why if locktrace is built
 generate:
 	tests/texts/generate.py
 	record/src/join.py

@@ -133,6 +133,7 @@
 #include "monitor.h"
 #include "notes.h"
 #if LR_RECORDS
+#include "locks.h"
 #include "folder.h"
 #include "mapped.h"
 #include "watch.h"

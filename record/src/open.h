@@ -1,19 +1,5 @@
 /* Opening a run, the threads in it, and closing it. */
 
-static inline int lr_is_lock(const char *lock)
-{
-    static const char *const locks[] = {
-        /* generated: locks */
-        /* clang-format off */
-        "ticket", "mcs", "rw-simple", "rw-fifo",
-        /* clang-format on */
-        /* end */
-    };
-    for (size_t i = 0; lock && i < sizeof locks / sizeof locks[0]; i++)
-        if (!strcmp(lock, locks[i])) return 1;
-    return 0;
-}
-
 /* Says which argument of `lr_open` is wrong, and returns whether one is. */
 static inline int lr_is_wrong(const char *lock, unsigned threads, unsigned bits, size_t moves)
 {
@@ -22,7 +8,7 @@ static inline int lr_is_wrong(const char *lock, unsigned threads, unsigned bits,
     static const char locks[] = "ticket, mcs, rw-simple or rw-fifo";
     /* clang-format on */
     /* end */
-    if (!lr_is_lock(lock))
+    if (!lr_lock_of(lock))
         lr_say("there is no lock '%s': %s", lock ? lock : "", locks);
     else if (threads < 1 || threads > LR_THREADS)
         lr_say("%u threads: a run has 1 to %d", threads, LR_THREADS);

@@ -53,10 +53,10 @@ enum { LR_WORD_TEXT = 24 };
    that is the thread. */
 static inline const char *lr_name_of(char *name, const lr_run *run, uint32_t word, uint32_t thread)
 {
-    if (strcmp(run->lock, "mcs")) return word ? "now_serving" : "next_ticket";
-    if (!word) return "tail";
-    const char *place = word % 2 ? "next" : "locked";
-    uint32_t owner = (word - 1) / 2;
+    const struct lr_lock *lock = lr_lock_of(run->lock);
+    if (word < lock->own) return lock->words[word];
+    const char *place = lock->words[lock->own + (word - lock->own) % lock->of_record];
+    uint32_t owner = (word - lock->own) / lock->of_record;
     if (owner == thread) return place;
     snprintf(name, LR_WORD_TEXT, "%s of %" PRIu32, place, owner);
     return name;
@@ -146,12 +146,12 @@ static inline int lr_tell_call(lr_run *run, const struct lt_step *steps, size_t 
     return 1;
 }
 
-/* Says how to note a record of an MCS lock, if a move names a record that no thread has. */
+/* Says how to note a record of a thread, if a move names a record that no thread has. */
 static inline void lr_tell_record(lr_run *run, const lr_move *move)
 {
     unsigned place = lr_move_place(move);
     int is_pointer = place == LR_PLACE_tail || place == LR_PLACE_next;
-    if (strcmp(run->lock, "mcs")) return;
+    if (!lr_lock_of(run->lock)->of_record) return;
     if (lr_move_owner(move) == LR_UNKNOWN || (is_pointer && move->value == LR_UNKNOWN + 1))
         lr_tell(run->said, ": no thread has this record (lr_own_record says whose it is)");
     else if (is_pointer && move->value > LR_THREADS)

@@ -108,6 +108,7 @@ def test_four_threads_are_the_most(tracer):
 
 @pytest.mark.parametrize("lock", LOCKS)
 def test_what_the_page_has(tracer, lock):
+    """`make generate` writes it."""
     kept = (TOP / "page" / "why" / f"{lock}.txt").read_text()
     assert tracer.run("why", lock, "--runs") == (kept, "", 0)
 

@@ -58,6 +58,30 @@ def calls_of(lock):
     return found(r"-- call (\w+)$", code_of(lock))
 
 
+def section_of(lock):
+    """The section of docs/LOCKS.md with the code of a lock, up to the code."""
+    return read("docs/LOCKS.md").split(f"\n```{lock}\n")[0].rsplit("\n## ", 1)[1]
+
+
+def words_of(lock):
+    """A map from each word of a lock that no record has to its number, and the words of a
+    record, as the section has them."""
+    own, of_record = (found(row, section_of(lock)) for row in (
+        r"^\| (\d+) \| `(\w+)` \|$", r"^\| \d+ \+ \d+i \| `(\w+)` of thread i's record \|$"))
+    return {name: int(number) for number, name in own}, of_record
+
+
+def is_monitor(lock):
+    """Whether the steps of a lock are sections."""
+    return " -- section " in code_of(lock)
+
+
+def title_of(lock):
+    """The name of a lock in a sentence."""
+    title = section_of(lock).split("\n")[0]
+    return title if title[:2].isupper() else title[0].lower() + title[1:]
+
+
 LOCKS, CALLS, STEPS, OUTCOMES = (words(enum, ENUMS, WORDS_OF)
                                  for enum in ("LockKind", "Op", "StepKind", "Outcome"))
 WORDS = {**LOCKS, **CALLS, **STEPS, **OUTCOMES,

@@ -1,23 +1,26 @@
 #!/usr/bin/env python3
 """Fills the marked regions of files with words, names and numbers of the catalogue.
 
-    tests/texts/generate.py            writes what differs
+    tests/texts/generate.py            writes what differs, and page/why
     tests/texts/generate.py --check    says what differs, and ends with 1 if something does
 
 A region is between two comments of the file's language, `generated: LISTS` and `end`. Nobody edits
-it by hand. sentences.py fills places without such comments, and by_hand.py compares words that
-people write in several places.
+it by hand. sentences.py and modules.py fill places without such comments, and by_hand.py compares
+words that people write in several places.
 """
 import re
 import sys
 from textwrap import fill, indent
 
 import by_hand
+import modules
+import page_why
 import plans
 import sentences
 from catalogue import (BITS, CALLS, DAY, DIFFERS, EXPECTED, FAULTS, LIMITS, LOCK_CODES, LOCKS,
                        MOVES, NO_WORD, OF_TEXTS, OUTCOMES, PARTS, PHASES, PLACES, REFUSED,
-                       RESULTS, STEPS, TOP, TRANSITIONS, VERSION, calls_of, found, read)
+                       RESULTS, STEPS, TOP, TRANSITIONS, VERSION, calls_of, found, is_monitor,
+                       read, title_of, words_of)
 
 REGION = re.compile(
     r'^(?P<head>( *)(/\*|//|#|<!--|\.\\") generated: (?P<lists>[\w ,-]+?)(?: \*/| -->)?\n)'
@@ -42,6 +45,17 @@ def indexed(numbers):
     return [words.get(number, "") for number in range(max(words) + 1)]
 
 
+def lock_of(variant, name):
+    """A lock, and the words of its steps in C and in Rust. A section is a step on no word."""
+    own, of_record = words_of(name)
+    own = [] if is_monitor(name) else list(own)
+    variants = {text: variant for variant, text in PLACES.items()}
+    rust = [Words(f"Word::{variants[text]}" for text in words) for words in (own, of_record)]
+    return word(name, variant=variant, own=len(own), of_record=len(of_record),
+                texts=Words(f'"{text}"' for text in own + of_record) or Words(["NULL"]),
+                rust=rust, title=title_of(name) + ", a monitor" * is_monitor(name))
+
+
 # The text of each fault in C, by its number.
 TEXTS = {text: int(number) for number, text in found(
     r'(\d+) => "(.*)"', read("crates/lk_trace_c/src/numbers.rt"))}
@@ -52,8 +66,10 @@ BIT_NAMES = {"holds": "HOLDS", "is_queued": "IN_QUEUE", "writes": "AS_WRITER",
              "is_unlinked": "UNLINKED", "waits": "WAITS"}
 LISTS = {
     **{name: [word(text, variant=variant) for variant, text in words.items()] for name, words in {
-        "locks": LOCKS, "calls": CALLS, "steps": STEPS, "outcomes": OUTCOMES, "places": PLACES,
+        "calls": CALLS, "steps": STEPS, "outcomes": OUTCOMES, "places": PLACES,
     }.items()},
+    "locks": [lock_of(*lock) for lock in LOCKS.items()],
+    "number of locks": [word(str(len(LOCKS)))],
     **{name: [word(text, number=number) for text, number in numbers.items()] for name, numbers in {
         "numbers of moves": MOVES, "numbers of outcomes": RESULTS,
         "numbers of faults": {**REFUSED, **DIFFERS, **OF_TEXTS},
@@ -108,14 +124,19 @@ REGIONS = {
     "record/src/run.h": (("calls, steps", '"{word}",'),),
     "record/src/texts.h": (("places", '" {word}",'), ("parts, outcomes", '" {word}",')),
     "record/src/published.h": (("outcomes by number", '"{word}",'),),
-    "record/src/open.h": (
-        ("locks", '"{word}",'), ("locks", 'static const char locks[] = "{others:, } or {last}";')),
+    "record/src/open.h": (("locks", 'static const char locks[] = "{others:, } or {last}";'),),
+    "record/src/locks.h": (
+        ("locks", '{{"{word}", {own}, {of_record}, {{{texts:, }}}}},\n'),),
     "record/rust/src/moves.rs": (
         ("calls", "Call::{variant},\n"), ("calls", "Call" + ARM), ("places", "Word" + ARM),
         ("outcomes", "Outcome" + ARM)),
     "record/rust/src/kind.rs": (("steps", "Kind::{variant},\n"), ("steps", "Kind" + ARM)),
     "record/rust/src/published.rs": (("outcomes", "Outcome::{variant},\n"),),
-    "record/rust/src/lock.rs": (("locks", "Lock::{variant},\n"), ("locks", "Lock" + ARM)),
+    "record/rust/src/lock.rs": (
+        ("locks", "/// The {title}.\n{variant},\n"),
+        ("number of locks", "const LOCKS: usize = {word};"),
+        ("locks", "Lock::{variant},\n"), ("locks", "Lock" + ARM),
+        ("locks", "Lock::{variant} => (&[{rust[0]:, }], &[{rust[1]:, }]),\n")),
     "record/rust/Cargo.toml": (("version", 'version = "{word}"'),),
     "CITATION.cff": (("version", "version: {word}\ndate-released: {day}\n"),),
     "page/src/machine/codes.js": (
@@ -182,10 +203,12 @@ def faults_in(path, is_check):
 def faults(is_check):
     """The faults of all files."""
     return [*(it for path in REGIONS for it in faults_in(path, is_check)),
-            *sentences.faults(is_check), *by_hand.faults()]
+            *sentences.faults(is_check), *modules.faults(is_check), *by_hand.faults()]
 
 
 if __name__ == "__main__":
     if sys.argv[1:] not in ([], ["--check"]):
         sys.exit(__doc__)
+    if not sys.argv[1:]:
+        page_why.write()
     sys.exit("\n".join(faults(bool(sys.argv[1:]))) or 0)

@@ -6,14 +6,13 @@ the operations of the ticket lock. The read-write locks share the file of their 
 each are those of its `step`, and all take a section. Each model of bench/spin has a label for each
 phase.
 """
-import re
-
 import pytest
 
 import by_hand
 import generate
+import modules
 import sentences
-from catalogue import CALLS, LOCKS, code_of, found, read
+from catalogue import CALLS, LOCKS, code_of, found, read, words_of
 
 SPECS = "crates/lk_locks/specs"
 KINDS = {"Read": "read", "Write": "write", "Swap": "swap", "CompareAndSwap": "cas",
@@ -43,13 +42,6 @@ def lines_written(lock):
     return {*found(r"-- (\w+) (\w+)(?: looks at .*)?$", code_of(lock))}
 
 
-def words_written(lock):
-    """The words with a fixed number, in the table above the lock's code, and their numbers."""
-    above = read("docs/LOCKS.md").split(f"\n```{lock}\n")[0].rsplit("\n## ", 1)[1]
-    return {re.sub("[A-Z]", lambda big: f"_{big[0].lower()}", name): number
-            for number, name in found(r"^\| (\d+) \| `(\w+)` \|$", above)}
-
-
 @pytest.mark.parametrize("path", generate.REGIONS)
 def test_regions(path):
     assert generate.faults_in(path, is_check=True) == []
@@ -60,6 +52,18 @@ def test_sentence(sentence):
     assert sentences.faults_at(sentence, is_check=True) == []
 
 
+@pytest.mark.parametrize("text, due", [
+    ("mod a;\nmod x;\nmod y;\n", "mod a;\nmod x;\nmod b;\nmod y;\n"),
+    ("mod b;\nmod x;\n", "mod b;\nmod x;\n")])
+def test_completed_list(text, due):
+    assert modules.completed(text, ["mod x;\n", "mod b;\n"]) == due
+
+
+@pytest.mark.parametrize("path", modules.LISTS)
+def test_modules(path):
+    assert modules.faults_in(path, is_check=True) == []
+
+
 def test_copies_by_hand():
     assert list(by_hand.faults()) == []
 
@@ -68,8 +72,11 @@ def test_copies_by_hand():
 def test_lock(lock):
     written, text = lines_written(lock), definitions_of(lock)
     assert written == lines_defined(lock), "one of docs/LOCKS.md and the definitions"
-    words = dict(found(r"^abbrev pub (\w+) : ℕ\n\1 = (\d+)$", text))
-    assert words_written(lock) == words, "words of docs/LOCKS.md"
+    words = {name.replace("_", ""): int(number) for name, number
+             in found(r"^abbrev pub (\w+) : ℕ\n\1 = (\d+)$", text)}
+    own, _ = words_of(lock)
+    assert {name.replace("_", "").lower(): place for name, place in own.items()} == words, \
+        "words of docs/LOCKS.md"
     phases = {phase for kind, phase in written if kind != "call"}
     labels = {*found(r"^(\w+):", read(f"bench/spin/{lock.replace('-', '_')}.pml"))}
     assert labels == phases | {"end_Idle"}, "labels of its model"

@@ -5,6 +5,7 @@ use std::fmt;
 use std::str::FromStr;
 
 use crate::error::Error;
+use crate::moves::Word;
 
 /// The threads that a run can have at most.
 pub(crate) const MOST_THREADS: usize = 64;
@@ -17,26 +18,31 @@ pub(crate) const MOST_BITS: u32 = 64;
 /// use lockreplay_record::{Error, Lock};
 ///
 /// assert_eq!("rw-fifo".parse::<Lock>()?, Lock::RwFifo);
-/// let refused = "MCS".parse::<Lock>().unwrap_err();
-/// let locks = "the locks are ticket, mcs, rw-simple, rw-fifo";
-/// assert_eq!(refused.to_string(), format!("there is no lock 'MCS': {locks}"));
+/// let refused = "MCS".parse::<Lock>().unwrap_err().to_string();
+/// assert!(refused.starts_with("there is no lock 'MCS': the locks are ticket, mcs, "));
 /// # Ok::<(), Error>(())
 /// ```
 #[derive(Clone, Copy, Debug, PartialEq, Eq, Hash)]
 pub enum Lock {
+    // generated: locks
     /// The ticket lock.
     Ticket,
-    /// The MCS queue lock.
+    /// The MCS lock.
     Mcs,
     /// The simple read-write lock, a monitor.
     RwSimple,
     /// The FIFO read-write lock, a monitor.
     RwFifo,
+    // end
 }
+
+// generated: number of locks
+const LOCKS: usize = 4;
+// end
 
 impl Lock {
     /// All locks.
-    pub const ALL: [Lock; 4] = [
+    pub const ALL: [Lock; LOCKS] = [
         // generated: locks
         Lock::Ticket,
         Lock::Mcs,
@@ -56,6 +62,23 @@ impl Lock {
             Lock::RwFifo => "rw-fifo",
             // end
         }
+    }
+
+    /// The words of its steps by their numbers in docs/LOCKS.md: first its own, and then those of
+    /// the record of each thread. No step of a lock under a monitor is on one word.
+    pub(crate) fn words(self) -> (&'static [Word], &'static [Word]) {
+        match self {
+            // generated: locks
+            Lock::Ticket => (&[Word::NextTicket, Word::NowServing], &[]),
+            Lock::Mcs => (&[Word::Tail], &[Word::Next, Word::Locked]),
+            Lock::RwSimple => (&[], &[]),
+            Lock::RwFifo => (&[], &[]),
+            // end
+        }
+    }
+
+    pub(crate) fn is_monitor(self) -> bool {
+        self.words().0.is_empty()
     }
 }
 

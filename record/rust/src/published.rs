@@ -80,7 +80,7 @@ fn told_of_step(lock: Lock, step: &Step, fault: u32) -> Option<String> {
         return None;
     }
     let does = match fault {
-        OTHER_WORD => match word_of(lock, step.word) {
+        OTHER_WORD => match word_of(lock, step.word)? {
             (word, Some(owner)) => format!("'s step is on '{word} of {owner}'"),
             (word, None) => format!("'s step is on '{word}'"),
         },
@@ -100,16 +100,16 @@ fn writes(step: &Step) -> bool {
     step.found != step.left
 }
 
-/// A word by its number in docs/LOCKS.md, and in whose record it is.
-fn word_of(lock: Lock, number: u32) -> (Word, Option<usize>) {
-    let owner = || usize::try_from(number.saturating_sub(1) / 2).ok();
-    match (lock, number) {
-        (Lock::Mcs, 0) => (Word::Tail, None),
-        (Lock::Mcs, _) if number % 2 == 1 => (Word::Next, owner()),
-        (Lock::Mcs, _) => (Word::Locked, owner()),
-        (_, 0) => (Word::NextTicket, None),
-        _ => (Word::NowServing, None),
+/// A word by its number, and in whose record it is.
+fn word_of(lock: Lock, number: u32) -> Option<(Word, Option<usize>)> {
+    let number = usize::try_from(number).ok()?;
+    let (own, of_record) = lock.words();
+    if let Some(word) = own.get(number) {
+        return Some((*word, None));
     }
+    let place = number - own.len();
+    let word = of_record.get(place.checked_rem(of_record.len())?)?;
+    Some((*word, place.checked_div(of_record.len())))
 }
 
 fn outcome_of(step: &Step) -> Option<Outcome> {
@@ -119,16 +119,19 @@ fn outcome_of(step: &Step) -> Option<Outcome> {
 
 /// A step as a trace has it.
 fn text_of(lock: Lock, step: &Step) -> Option<String> {
-    let (word, owner) = word_of(lock, step.word);
     let number = usize::try_from(step.action.checked_sub(READ)?).ok()?;
-    let made = match Kind::STEPS.get(number)? {
+    let kind = Kind::STEPS.get(number)?;
+    if let Kind::Section = kind {
+        return Some(format!("section {}", outcome_of(step)?));
+    }
+    let (word, owner) = word_of(lock, step.word)?;
+    let made = match kind {
         Kind::Read => moves::Step::read(word, step.found),
         Kind::Write => moves::Step::write(word, step.left),
         Kind::Swap => moves::Step::swap(word, step.found),
         Kind::Add => moves::Step::add(word, step.found),
         Kind::Cas => moves::Step::cas(word, writes(step)),
-        Kind::Section => return Some(format!("section {}", outcome_of(step)?)),
-        Kind::Call(_) => return None,
+        Kind::Section | Kind::Call(_) => return None,
     };
     let other = owner.filter(|owner| usize::try_from(step.thread) != Ok(*owner));
     Some(other.map_or(made, |owner| made.of(owner)).to_string())

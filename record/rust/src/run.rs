@@ -139,10 +139,8 @@ impl Run {
     /// Which thread blocks in its turn, when the time was over.
     pub(crate) fn blocked(&self) -> Option<String> {
         let thread = self.0.turns.stage().blocked?;
-        let how = match self.0.header.lock {
-            Lock::RwSimple | Lock::RwFifo => " (its Mutex and Condvar have to be this crate's)",
-            Lock::Ticket | Lock::Mcs => "",
-        };
+        let is_monitor = self.0.header.lock.is_monitor();
+        let how = if is_monitor { " (its Mutex and Condvar have to be this crate's)" } else { "" };
         Some(format!(
             "thread {thread} has its turn and does not give it back: it blocks{how}, or it polls \
              without this crate's atomics"
@@ -152,12 +150,12 @@ impl Run {
     /// If the lock is under a monitor: whom the last notification woke, and where it was given.
     #[cfg(feature = "check")]
     pub(crate) fn last_notified(&self) -> Option<String> {
-        match (self.0.header.lock, &self.0.turns.stage().last_notified) {
-            (_, Some((at, woke))) => {
+        match &self.0.turns.stage().last_notified {
+            Some((at, woke)) => {
                 Some(format!("the last notification, at {at}, woke threads {woke:?}"))
             }
-            (Lock::RwSimple | Lock::RwFifo, None) => Some("nobody was notified".to_string()),
-            (Lock::Ticket | Lock::Mcs, None) => None,
+            None if self.0.header.lock.is_monitor() => Some("nobody was notified".to_string()),
+            None => None,
         }
     }
 
