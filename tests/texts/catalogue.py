@@ -96,13 +96,14 @@ MESSAGES = {WORDS[variant]: text for text, variant in found(
 DUE = read(f"{TRACE}/due.rt")
 OPEN, (OF, *PARTS) = (found(r'"(\w+)"', between(DUE, before, r"\];\n"))
                       for before in ("OPEN: [^=]*", "PARTS: [^=]*"))
-PLACES = {variant: word for variant, word in words("WordName", f"{TRACE}/names.rt").items()
-          if word in OPEN}
+WORD_NAMES = words("WordName", f"{TRACE}/names.rt")
+PLACES = {variant: word for variant, word in WORD_NAMES.items() if word in OPEN}
 
 MOVES, RESULTS, REFUSED = map(numbers, ("move_number", "outcome_number", "refusal_number"))
 DIFFERS, OF_TEXTS, OF_SIZE = map(numbers, ("difference_number", "fault_number", "fault_codes"))
 FAULTS = {**OF_TEXTS, **OF_SIZE}
-PHASES, LOCK_CODES, HOLDERS = map(numbers, ("phase_code", "lock_code", "holding_code"))
+PHASES, HOLDERS = map(numbers, ("phase_code", "holding_code"))
+LOCK_CODES = {text: number for number, text in enumerate(LOCKS.values())}
 EXPECTED = {name.lower(): number for name, number in numbers("expected_code").items()}
 # The answers of the page's module, the bits of a record's thread, and the number for no word.
 ANSWERS = [*numbers("answer_of").values(), *(int(found(rf"\({name} ≡ (\d+)\)", read(path))[0])

@@ -5,8 +5,8 @@
     tests/texts/generate.py --check    says what differs, and ends with 1 if something does
 
 A region is between two comments of the file's language, `generated: LISTS` and `end`. Nobody edits
-it by hand. sentences.py and modules.py fill places without such comments, and by_hand.py compares
-words that people write in several places.
+it by hand. sentences.py, tables.py and modules.py fill places without such comments, and by_hand.py
+compares words that people write in several places.
 """
 import re
 import sys
@@ -15,12 +15,14 @@ from textwrap import fill, indent
 import by_hand
 import modules
 import page_why
+import places
 import plans
-import sentences
 from catalogue import (BITS, CALLS, DAY, DIFFERS, EXPECTED, FAULTS, LIMITS, LOCK_CODES, LOCKS,
                        MOVES, NO_WORD, OF_TEXTS, OUTCOMES, PARTS, PHASES, PLACES, REFUSED,
                        RESULTS, STEPS, TOP, TRANSITIONS, VERSION, calls_of, found, is_monitor,
                        read, title_of, words_of)
+from sentences import SENTENCES
+from tables import TABLES
 
 REGION = re.compile(
     r'^(?P<head>( *)(/\*|//|#|<!--|\.\\") generated: (?P<lists>[\w ,-]+?)(?: \*/| -->)?\n)'
@@ -203,7 +205,8 @@ def faults_in(path, is_check):
 def faults(is_check):
     """The faults of all files."""
     return [*(it for path in REGIONS for it in faults_in(path, is_check)),
-            *sentences.faults(is_check), *modules.faults(is_check), *by_hand.faults()]
+            *places.faults(SENTENCES + TABLES, is_check), *modules.faults(is_check),
+            *by_hand.faults()]
 
 
 if __name__ == "__main__":

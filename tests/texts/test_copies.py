@@ -11,8 +11,10 @@ import pytest
 import by_hand
 import generate
 import modules
-import sentences
+import places
 from catalogue import CALLS, LOCKS, code_of, found, read, words_of
+from sentences import SENTENCES
+from tables import TABLES
 
 SPECS = "crates/lk_locks/specs"
 KINDS = {"Read": "read", "Write": "write", "Swap": "swap", "CompareAndSwap": "cas",
@@ -47,9 +49,9 @@ def test_regions(path):
     assert generate.faults_in(path, is_check=True) == []
 
 
-@pytest.mark.parametrize("sentence", sentences.SENTENCES)
-def test_sentence(sentence):
-    assert sentences.faults_at(sentence, is_check=True) == []
+@pytest.mark.parametrize("place", SENTENCES + TABLES, ids=lambda it: it.path)
+def test_place(place):
+    assert places.faults_at(place, is_check=True) == []
 
 
 @pytest.mark.parametrize("text, due", [
