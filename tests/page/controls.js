@@ -11,6 +11,27 @@ function viewed() {
     parts.filter((name) => byId(name).checkVisibility())];
 }
 
+// What is wrong with the open dialog: what is cut, off the screen, or on another control.
+function wrongInDialog() {
+  const dialog = document.querySelector('dialog[open]');
+  const box = rect(dialog);
+  const screen = { left: 0, top: 0, right: innerWidth, bottom: innerHeight };
+  const seen = all('*', dialog).filter((one) => one.checkVisibility() && rect(one).width > 0
+    && !one.closest('svg, option'));
+  const named = (what, those) => those.map((one) => (
+    `${what}: ${one.tagName} ${plain(one.textContent).slice(0, 40)}`));
+  const isCut = (one) => one.clientWidth > 0 && one.scrollWidth > one.clientWidth + 1
+    && !one.matches('textarea, input, select, .live');
+  const isOff = (one) => rect(one).left < box.left - 1 || rect(one).right > box.right + 1;
+  const controls = seen
+    .filter((one) => one.matches('button, input, select, textarea, summary, h2'));
+  const [head, close] = ['h2', 'form button'].map((one) => dialog.querySelector(one)).map(rect);
+  return [...named('cut', seen.filter(isCut)), ...named('off', seen.filter(isOff)),
+    ...overlapsOf(controls), ...(inside(box, screen) ? [] : ['off the screen']),
+    ...(close.left >= head.right && close.top < head.bottom ? [] : ['the button that closes']),
+  ];
+}
+
 // The keys that the page takes for itself on a control.
 function actsOf(selector, names, held) {
   const node = document.querySelector(selector);

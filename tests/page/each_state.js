@@ -164,7 +164,8 @@ const pillsIn = (list) => all(`${list} .pill`).map((one) => [one.textContent, ki
 // What is said of the move beside its sentence.
 const factsDrawn = () => ({
   head: text('#now .head'), outcome: document.querySelector('#now .outcome')?.classList[1] ?? null,
-  holds: pillsIn('#now [data-holders]'), queue: pillsIn('#now [data-queue]'),
+  holds: pillsIn('#now [data-holders]'), does: text('#now [data-holders] > .soft'),
+  queue: pillsIn('#now [data-queue]'),
   gaps: texts('#now [data-queue] .gap'), spoken: text('#spoken'), position: text('#position'),
 });
 

@@ -59,6 +59,17 @@ function blockLetters() {
   FontFace.prototype.load = () => Promise.reject(new Error('blocked'));
 }
 
+// Gives the question of the quiz a wrong answer, and returns its kind; false without a question.
+function answerWrongly() {
+  const form = byId('quiz-form');
+  if (!form) return false;
+  const [radio] = all('input[value=left]', form);
+  if (radio) radio.checked = true;
+  else form.querySelector('input[name=answer]').value = '1,1';
+  form.requestSubmit();
+  return form.dataset.kind;
+}
+
 function choosePart(name) {
   click('#show-view');
   click(`#view [name=${name}]`);

@@ -35,6 +35,9 @@ function lanesInView() {
   return Math.floor(byId('lanes').clientHeight / (second - first) + 0.05);
 }
 
+const markInView = (move) => all(`#lanes [data-move="${move}"] .word-label`)
+  .some((one) => inside(rect(one), rect(byId('lanes'))));
+
 const isChosenInView = (thread) => {
   const chosen = document.querySelector(`#lane-${thread} .chosen`);
   return chosen !== null && inside(rect(chosen), rect(byId('lanes')));

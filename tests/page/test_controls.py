@@ -53,6 +53,23 @@ def test_a_dialog_opens_and_closes(page, key, button, dialog, focused):
         page.go(5)
 
 
+@pytest.mark.parametrize("width, height, look", [
+    (390, 844, ""), (390, 844, "&lang=de"), (1024, 768, ""), (1024, 768, "&lang=de"),
+    (1024, 768, "&hall"), (1440, 900, ""), (1920, 1080, ""), (1920, 1080, "&hall&lang=de")])
+def test_nothing_of_a_dialog_is_cut(page, width, height, look):
+    """All of a dialog is on the screen, with no text cut and no control on another one."""
+    page.resize(width, height)
+    page.open(f"{LESSON}{look}")
+    for key, button, dialog, _ in DIALOGS.values():
+        if key:
+            page.press(key)
+        else:
+            page.js("click", f"#{button}")
+        assert page.js("opened") == [dialog]
+        assert page.js("wrongInDialog") == [], dialog
+        page.press("Escape")
+
+
 def test_which_buttons_are_pressed(page):
     """A button of a mode looks pressed while the mode is on, and another click ends it."""
     page.open(LESSON)

@@ -181,6 +181,8 @@ def check_facts(replay, at, state, move, shown):
     for part, listed in [("held", shown["holds"]), ("queue", shown["queue"])]:
         assert listed == [[replay.name(thread), state["standing"][thread]]
                           for thread in state[part]], part
+    does = {state["standing"][thread] for thread in state["held"]} or {"nobody"}
+    assert {shown["does"] or "holds"} == does
     assert shown["gaps"] == ["⇢" if state["unlinked"][one] else "→" for one in state["queue"][1:]]
     holds, waits = (", ".join(one) or "nobody" for one in (held, queue))
     assert f" Holds: {holds}. Queue: {waits}." in shown["spoken"]

@@ -29,6 +29,22 @@ def test_letters_are_large(page, width, height):
         assert shown["current"].startswith(str(move)), (where, shown)
 
 
+def test_letters_of_the_quiz_are_large(page):
+    """The questions, what is said of a wrong answer, and the list of wrong answers at the end."""
+    page.resize(1024, 768)
+    page.open("#lesson=ticket-hand-over&move=0&hall")
+    page.press("q", "End")
+    asked = 0
+    while kind := page.js("answerWrongly"):
+        least = page.js("letters")
+        assert least[0][0] >= SHARE - 0.0001, (kind, least)
+        page.press("End")
+        asked += 1
+        least = page.js("letters")
+        assert least[0][0] >= SHARE - 0.0001, (asked, least)
+    assert asked > 4 and page.js("count", "#current .quiz-end li") == asked
+
+
 def test_by_key(page):
     page.open(LATE_LINK)
     assert page.js("header")

@@ -34,8 +34,10 @@ def test_moving(page):
 
 
 def test_zoom(page):
-    """+ and = make the columns wider by a quarter, and - makes them narrower, up to bounds."""
+    """+ and = make the columns wider by a quarter, and - makes them narrower, up to bounds. Narrow
+    columns have no room for words, but the shown move has its own."""
     page.open(f"{LATE_LINK}8")
+    assert [page.js("count", f"#lanes .{one}") for one in ("word-label", "found")] == [8, 8]
     widths = [page.js("columnWidth")]
     for key in "+=--":
         page.press(key)
@@ -45,6 +47,8 @@ def test_zoom(page):
     for key, bound in [("+", min(120, 2.5 * widths[0])), ("-", 0.4 * widths[0])]:
         page.press(*key * 12)
         assert abs(page.js("columnWidth") - bound) <= 1, (key, widths)
+    assert page.js("texts", "#lanes .word-label") == ["swap"]
+    assert page.js("count", "#lanes .found") == 0
 
 
 def test_running(page):

@@ -112,8 +112,25 @@ def test_the_chosen_lane_is_in_view(page):
     page.js("focus", "#lanes")
     page.press(*["ArrowDown"] * 16)
     page.until("isChosenInView", 15)
+    chosen = ("attribute", "#lanes", "aria-activedescendant")
+    assert page.js(*chosen) == "lane-15"
+    page.press("g")
+    assert page.js(*chosen) == "", "outside Play only thread 0 has a lane"
+    page.press("g")
+    assert page.js(*chosen) == "lane-15"
+    page.js("focus", "#lanes")
     page.press(*["ArrowUp"] * 15)
     page.until("isChosenInView", 0)
+
+
+def test_the_lane_of_a_refused_move_is_in_view(page):
+    """Thread 19 makes the last move that is accepted, and thread 0 the one that is refused."""
+    page.open()
+    calls = "".join(f"{thread} acquire\n" for thread in range(20))
+    page.js("open", [f"lock ticket threads 20\n{calls}0 acquire\n", "lessons", 20])
+    assert page.js("markInView", 20) and page.js("count", "#lane-0") == 0
+    page.go(21)
+    assert page.js("markInView", 21)
 
 
 # Twenty threads take the lock one after another, in six moves each.

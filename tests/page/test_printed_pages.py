@@ -106,14 +106,17 @@ def test_a_long_schedule(page, threads, count):
     assert 2 <= number <= MOST_SHEETS, number
 
 
-@pytest.mark.parametrize("move", [0, 750, 1500])
-def test_which_part_is_printed(page, move):
-    """Above a part of a long schedule it is said which part it is."""
+# By hand: 133 moves need three sheets for 9 strips of 16 and seven for rows, 19 on each, beside the
+# two for all else. One move more would need a row on a thirteenth sheet.
+@pytest.mark.parametrize("move, first, last", [(0, 1, 133), (750, 684, 816), (1500, 1368, 1500)])
+def test_which_part_is_printed(page, move, first, last):
+    """Above a part of a long schedule it is said which part it is, with the shown move in its
+    middle."""
     page.open()
     page.show(turns(2, 1500), move)
     page.js("drawPaper")
-    numbers = [int(row[0]) for row in page.js("rows")]
-    assert page.text("#paper > p") == f"Moves {numbers[0]} to {numbers[-1]} of 1500"
+    assert [int(row[0]) for row in page.js("rows")] == list(range(first, last + 1))
+    assert page.text("#paper > p") == f"Moves {first} to {last} of 1500"
 
 
 def test_a_long_queue(page):

@@ -14,7 +14,8 @@ assert len(QUESTIONS) >= 35
 def remark(name, word, move):
     """The question or the answer at a move of a lesson, which may have several lines."""
     text = (EXAMPLES / f"{name}.schedule").read_text("latin-1")
-    return " ".join(re.findall(rf"^#! {word} {move} (?:hide [a-z ]+? : )?(.+)$", text, re.MULTILINE))
+    return " ".join(re.findall(
+        rf"^#! {word} {move} (?:hide [a-z ]+? : )?(.+)$", text, re.MULTILINE))
 
 
 def test_each_question_has_its_answer(page):

@@ -254,6 +254,9 @@ def test_keys_of_a_term(page):
         page.press(key)
         assert page.js("describedTerm") == ["Holds", "button"] and not page.js("isRunning")
     page.press("Escape")
+    page.js("click", "#now .facts .term")
+    assert page.js("describedTerm") == ["Holds", "button"], "a click shows it too"
+    page.press("Escape")
     assert page.js("inHall")
     page.press("Escape")
     assert not page.js("inHall")

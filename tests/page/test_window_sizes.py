@@ -46,6 +46,12 @@ def test_how_far_lines_of_code_are_apart(page):
         assert page.js("lineHeight") == 23, height
 
 
+def test_how_far_lines_of_code_are_indented(page):
+    """Each line is as far from the edge as it is in the listing, in letters."""
+    page.open("#lesson=mcs-late-link&move=9")
+    assert page.js("indents") == [0, 2, 2, 2, 4, 4, 4, 2, 0, 2, 2, 4, 4, 2]
+
+
 @pytest.mark.parametrize("width, height", [(1024, 600), (960, 540), (900, 600)])
 def test_each_line_of_a_step(page, width, height):
     """Both lines of a section are in view at each move, if there is room for two."""
@@ -115,6 +121,12 @@ def test_how_large_memory_is(page):
         page.open(LESSON)
         scale, fits = page.js("scaleOfMemory")
         assert least <= round(scale, 2) <= most and fits, (width, scale)
+
+
+def test_memory_keeps_its_room(page):
+    """Whatever is said below it at a move, memory has the same room."""
+    page.open(LESSON)
+    assert len(set(page.js("heightsOfMemory", 16))) == 1
 
 
 def test_how_high_lanes_are(page):

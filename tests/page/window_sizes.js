@@ -71,6 +71,20 @@ function linesOutOfView(name, last) {
 const arranged = () => [document.body.dataset.layout, document.body.dataset.tools,
   Math.round(Number(document.body.style.getPropertyValue('--zoom')) * 100) / 100];
 
+// How many letters each line of code is from the edge.
+const indents = () => all('#code-lines code').map((line) => {
+  const text = line.firstChild;
+  const boxOfLetters = (from, to) => {
+    const range = document.createRange();
+    range.setStart(text, from);
+    range.setEnd(text, to);
+    return range.getBoundingClientRect();
+  };
+  const first = text.data.search(/\S/);
+  const letter = boxOfLetters(first, first + 1);
+  return Math.round((letter.left - rect(line).left) / letter.width);
+});
+
 const lineHeight = () => document.querySelector('.code-line').offsetHeight;
 
 // How many dots a unit of memory's picture has, and whether the picture is in view.
@@ -79,5 +93,10 @@ function scaleOfMemory() {
   return [Number(svg.getAttribute('width')) / svg.viewBox.baseVal.width,
     inside(rect(svg), rect(byId('memory-picture')))];
 }
+
+const heightsOfMemory = (last) => Array.from({ length: last + 1 }, (_, move) => {
+  go(move);
+  return byId('memory-picture').clientHeight;
+});
 
 const heightOfLanes = () => byId('lanes').offsetHeight;
