@@ -77,8 +77,13 @@ const around = (areas) => ({
 function placeOf(svg) {
   const [left, top] = svg.parentNode.getAttribute('transform').match(/[\d.]+/g).map(Number);
   const [width, height] = ['width', 'height'].map((name) => Number(svg.getAttribute(name)));
-  return { left, top, right: left + width, bottom: top + height };
+  return { left, top, right: left + width, bottom: top + height, scale: scaleOf(svg) };
 }
+
+// How large a picture is drawn.
+const scaleOf = (svg) => (
+  Math.round(100 * Number(svg.getAttribute('width')) / svg.viewBox.baseVal.width) / 100);
+const scaleOfMemory = () => scaleOf(document.querySelector('#memory-picture svg'));
 
 // Where the title, the numbers, the lanes, the signs, memory, the code and the whole picture are.
 async function partsOf(parts) {

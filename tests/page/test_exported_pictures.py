@@ -207,6 +207,7 @@ def test_parts_are_apart(page, lesson, move):
         assert 5 <= below["top"] - above["bottom"] <= 40, (above, below)
     assert 8 <= whole["bottom"] - max(memory["bottom"], code["bottom"]) <= 30
     assert code["left"] >= memory["right"] and code["right"] <= whole["right"] - 10
+    assert memory["scale"] >= page.js("scaleOfMemory") >= 1, "as large as on the page"
     assert abs(code["top"] - memory["top"]) < 20
 
 
