@@ -28,6 +28,10 @@ const across = (selectors) => selectors.map((one) => {
   return [left, right].map(Math.round);
 });
 
+// What the style gives each of these for these properties.
+const looksOf = (selectors, names) => selectors.map((one) => (
+  names.map((name) => styleOf(one)[name])));
+
 const groundsOf = (selectors) => selectors.map((one) => styleOf(one).backgroundColor);
 const numbersOf = (selector) => all(selector).map((one) => [...one.attributes]
   .filter(({ name }) => name !== 'class' && name !== 'id').map(({ value: said }) => said));

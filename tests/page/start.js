@@ -22,6 +22,8 @@ const stored = (name) => localStorage.getItem(name);
 const pictures = () => all('#lessons .live')
   .map((one) => Math.abs(rect(one.querySelector('svg')).width - rect(one).width) < 2);
 const unitsOfPictures = () => all('#lessons .live svg').map((one) => one.viewBox.baseVal.width);
+const partsOfStart = () => [...byId('lesson-list').children].map((one) => one.classList[0]);
+const topsOf = (selector) => all(`#lessons ${selector}`).map((one) => rect(one).top);
 const refusals = () => [count('.refusals [data-lesson]'), document.querySelector('.refusals').open];
 const ways = () => all('[data-way]').map((one) => one.dataset.way);
 const chosen = () => document.activeElement.dataset.lesson ?? null;

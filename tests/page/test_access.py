@@ -101,7 +101,8 @@ def test_what_has_a_name_has_a_role(page):
     page.open("#lesson=mcs-late-link&move=16")
     assert page.js("plainWithName") == []
     page.press("o")
-    assert page.js("attribute", "#lessons .number span", "aria-label") == "done"
+    for name in ("aria-label", "title"):
+        assert page.js("attribute", "#lessons .number span", name) == "done"
     assert page.js("plainWithName") == []
 
 

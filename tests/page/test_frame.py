@@ -51,6 +51,7 @@ def test_names_and_headings(page):
     assert page.js("headings") == HEADINGS
     assert page.js("texts", ":is(#lessons, #about, #keys) > form :is(h2, .hint)") == [
         "lockreplay", f"lockreplay {VERSION}", "Keys", f"lockreplay {VERSION}"]
+    assert page.js("texts", "#close-banner, #leave, #why-back, #why-next") == ["✕", "✕ H", "←", "→"]
     assert page.js("attributesOf", "#lanes", ["role", "tabindex"]) == ["listbox", "0"]
     assert page.js("attributesOf", "#code-lines", ["role", "tabindex"]) == ["group", "0"]
     assert page.js("attributesOf", "#spoken", ["aria-live", "aria-atomic"]) == ["polite", "true"]
@@ -132,6 +133,35 @@ def test_how_choices_of_a_dialog_are_laid_out(page):
             "sheet": ["worked", "exercise"]}[what]])
         assert all(one == names[0] and one[1] - one[0] > 300 for one in names), names
         page.press("Escape")
+
+
+# Parts that look alike, something that does not look so, and by what one sees that.
+ALIKE = {
+    "cards": (["#nothing", "#other", "#time", "#there", "#memory", "#code", "#now", "#side"],
+              "#bar", ["backgroundColor", "borderRadius", "boxShadow"]),
+    "banners": (["#banner", "#damaged"], "#bar", ["backgroundColor", "padding", "fontSize"]),
+    "pictures": (["#memory-picture", "#there-picture"], "#now", ["flexGrow", "overflowX"]),
+    "hints": (["#own > .own-hint", "#plans [data-text='plans.hint']", "#find-form > .wide",
+               "#view [data-text='view.hint']", "#sheets [data-text='sheets.hint']", "#keys form p",
+               "#choose-other form p", "#take-cut"], "#own h2", ["color", "fontSize"]),
+    "heard": (["#spoken", "#time h2"], "#code h2", ["position", "clipPath", "overflow"]),
+    "texts": (["#find-sketch", "#text", "#gutter"], "#find-kind", ["fontFamily"]),
+    "boxes": ([f"label:has(#{one})" for one in (
+        "every", "take-title", "take-legend", "take-code", "take-answered")],
+        "#find-form label", ["alignItems", "columnGap", "fontSize"]),
+    "rows": (["#play > div.row", "#own > .row", "#take div.row", "#take .takes > div"],
+             "#take", ["display", "columnGap", "flexWrap"]),
+    "signs": ([f"#{one} svg" for one in ("first", "back", "forward", "last", "run")],
+              "#lanes svg", ["width", "height"]),
+}
+
+
+@cases("selectors, other, names", ALIKE)
+def test_parts_that_look_alike(page, selectors, other, names):
+    page.open(LATE_LINK)
+    first, *looks = page.js("looksOf", selectors, names)
+    assert all(one == first for one in looks), dict(zip(selectors, [first, *looks]))
+    assert page.js("looksOf", [other], names) != [first]
 
 
 @pytest.mark.parametrize("width, is_beside", [(1200, True), (700, False)])

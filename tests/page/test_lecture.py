@@ -308,6 +308,20 @@ def test_the_second_window_beside_a_text_without_a_lock(page):
     page.js("closeThere")
 
 
+def test_a_second_window_that_was_closed(page):
+    """The page goes on without it, and the key opens it again."""
+    page.before("keepWindows")
+    page.open("#lesson=mcs-late-link&move=3")
+    page.press("2")
+    page.until("presented")
+    page.js("closeThere")
+    page.press("ArrowRight")
+    page.shown(place=4)
+    page.press("2")
+    assert page.until("presented").startswith("The late link 4 of 16")
+    page.js("closeThere")
+
+
 def test_keys_of_the_second_window(page):
     """A key that the page takes does nothing else in the second window, as Space, which would
     scroll. Another key is the browser's."""

@@ -19,6 +19,7 @@ def test_the_menu_closes(page, width, height):
         if away:
             page.click(away)
         else:
+            page.js("focus", "#theme")
             page.press("Escape")
             assert page.js("focused") == "menu"
         assert not page.js("isMenu"), away
@@ -196,6 +197,7 @@ def test_without_the_machine(page):
     page.before("withoutMachine")
     page.resize(1366, 768)
     page.open(LESSON)
+    assert page.text("#banner span").startswith("This browser has no 64-bit WebAssembly memory, so")
     assert page.js("disabled", ["mode-own", "mode-play", "show-find"]) == [True] * 3
     page.press("e")
     assert page.shown()["mode"] == "lessons"

@@ -60,6 +60,7 @@ def test_what_a_card_says(page):
     for card in page.js("cards"):
         names = [name for name, _ in card["lessons"]]
         part = f"#lessons [data-lock={card['lock']}] li"
+        assert page.js("attribute", f"[data-live={card['lock']}]", "aria-hidden") == "true"
         assert page.js("texts", f"{part} .number") == [
             *map(str, range(1, len(names) + 1)), "Y"]
         assert page.js("texts", f"{part} b") == [
@@ -69,6 +70,21 @@ def test_what_a_card_says(page):
     assert page.js("texts", "#lessons .ways b") == ["Your own", "Play", "Find a moment", "Teach"]
     assert page.js("texts", "#lessons .refusals summary") == [
         "What is refused: wrong moves, and texts that are no schedules"]
+
+
+def test_where_the_parts_of_the_start_are(page):
+    """In order, from top to bottom. On a usual screen the languages are beside the heading, and the
+    four cards and the four ways are each in one row."""
+    page.open()
+    parts = ["what", "languages", "cards", "ways", "refusals"]
+    assert page.js("partsOfStart") == parts
+    what, languages, cards, ways, refusals = (page.js("topsOf", f".{part}") for part in parts)
+    assert languages < what < cards < ways < refusals
+    assert [len(set(page.js("topsOf", one))) for one in (".lock-card", "[data-way]")] == [1, 1]
+    page.press("Escape")
+    page.show("lock mcs threads 1\n")
+    page.press("Escape", "o")
+    assert page.js("partsOfStart") == ["what", "languages", "kept", "cards", "ways", "refusals"]
 
 
 def test_how_long_each_lesson_takes(page):
