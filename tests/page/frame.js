@@ -32,6 +32,13 @@ const across = (selectors) => selectors.map((one) => {
 const looksOf = (selectors, names) => selectors.map((one) => (
   names.map((name) => styleOf(one)[name])));
 
+// Where the sign of each button of the foot is in its box of 16 by 16.
+const signsOfTheFoot = () => Object.fromEntries(all('footer svg.icon path')
+  .filter((one) => one.checkVisibility()).map((one) => {
+    const { x, y, width, height } = one.getBBox();
+    return [one.closest('button').id, [x, y, width, height]];
+  }));
+
 const groundsOf = (selectors) => selectors.map((one) => styleOf(one).backgroundColor);
 const numbersOf = (selector) => all(selector).map((one) => [...one.attributes]
   .filter(({ name }) => name !== 'class' && name !== 'id').map(({ value: said }) => said));

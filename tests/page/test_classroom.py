@@ -54,6 +54,7 @@ def test_a_name_is_asked_for_once(page):
     page.open(f"{LATE_LINK}&move=0")
     page.press("q", "End")
     page.js("answer", "-")
+    page.until("addressEnds", f"&move={page.js('place')}")
     page.js("focus", "#quiz-name")
     page.press(*"Ada", "Tab")
     page.js("blur")

@@ -79,6 +79,7 @@ def test_first_values(page):
         assert page.js("attributesOf", field, ["type", "required"]) == ["number", ""]
     for field in ["#take-from", "#take-to"]:
         assert page.js("attributesOf", field, ["type", "min"]) == ["number", "0"]
+    assert page.js("attributesOf", "#file", ["type", "hidden"]) == ["file", ""]
     assert page.js("attributesOf", "#slider", ["type", "min", "step"]) == ["range", "0", "1"]
 
 
@@ -172,6 +173,20 @@ def test_where_the_changes_of_a_line_are(page, width, is_beside):
     page.press("y")
     code, changes = page.js("across", ["#why-code", "#why-changes"])
     assert (code[1] < changes[0]) == is_beside and (code[0] == changes[0]) != is_beside
+
+
+# By hand: where each sign begins, and how wide and high it is. All are in the middle of 16.
+FOOT = {"first": [3, 3, 10, 10], "back": [5, 3, 6, 10], "forward": [5, 3, 6, 10],
+        "last": [3, 3, 10, 10], "run": [3, 2.5, 10, 11]}
+
+
+def test_signs_of_the_foot(page):
+    """Each button has one sign, and that which plays has another one while the moves run."""
+    page.open("#lesson=mcs-record-used-again&move=0")
+    assert page.js("signsOfTheFoot") == FOOT
+    page.press(",", "Space")
+    assert page.js("signsOfTheFoot") == {**FOOT, "run": [4, 3, 8, 10]}
+    page.press("Space")
 
 
 def test_patterns_and_heads_of_arrows(page):

@@ -243,6 +243,6 @@ def test_the_list_of_keys(page, language):
     assert all(said.values()), (said, listed)
     assert page.js("count", "#sign-list svg") > 18 and page.js("wideSigns") == []
     tools = page.js("tools")
-    assert len(tools) >= 14 and all(listed[key].lower() == title.lower()
+    assert len(tools) >= 14 and all(listed[key][0].upper() + listed[key][1:] == title
                                     for key, title in tools.items()), (tools, listed)
     assert [one for one in listed.items() if one[0] not in KEYS] == OTHERS[language]

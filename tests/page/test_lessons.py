@@ -69,6 +69,25 @@ def test_memory_without_the_machine(page, name):
     assert page.js("banner") and page.js("memoryAt", [0, 5, 99]) == pictures
 
 
+def verdicts(page):
+    """What the page says of each lesson whose text has a fault."""
+    page.open()
+    said = {}
+    for name in LESSONS:
+        if name.startswith("fault"):
+            page.lesson(name)
+            said[name] = page.text("#verdict")
+    return said
+
+
+def test_faults_without_the_machine(page):
+    """The page says where a line stops, and what is expected there, with and without it."""
+    said = verdicts(page)
+    assert len(said) == 5 and "Unknown lock clh" in said["fault-bad-header"]
+    page.before("withoutMachine")
+    assert verdicts(page) == said and page.js("banner")
+
+
 def test_without_the_machine_nothing_is_played(page):
     page.before("withoutMachine")
     page.open("#lesson=mcs-late-link&move=0")
