@@ -167,10 +167,11 @@ def test_a_strip_says_what_memory_says(page, lesson, first, last):
 
 
 def test_which_moves_are_taken(page):
-    """The numbers may be in any order. What is no number is 0, and beyond the last move is that."""
+    """The numbers may be in any order. What is no number is 0, beyond the last move is that, and of
+    a fraction the whole part counts."""
     page.open("#lesson=mcs-late-link&move=3")
     for asked, taken in [((9, 6), "6 7 8 9"), ((-5, 2), "0 1 2"), ((15, 99), "15 16"),
-                         (("", 1), "0 1"), ((4, 4), "4"), ((16, 16), "16")]:
+                         (("", 1), "0 1"), ((4, 4), "4"), ((16, 16), "16"), ((3.5, 4), "3 4")]:
         said = texts(xml.etree.ElementTree.fromstring(page.js("stripOf", *asked)))
         assert " ".join(one.split()[0] for one in said if one[0].isdigit()
                         and len(one.split()) > 1) == taken, asked

@@ -30,6 +30,14 @@ def test_a_theme_that_there_is_not(page):
     assert page.js("theme") == "dark" and page.text("#theme").startswith("Light ")
 
 
+def test_which_theme_comes_first(page):
+    """That of a link, then the one that the browser keeps."""
+    page.before("keepTheme", "light")
+    for link, theme in [(LATE_LINK, "light"), (f"{LATE_LINK}&theme=dark", "dark")]:
+        page.open(link)
+        assert page.js("theme") == theme
+
+
 def test_without_colour(page):
     """Each meaning of a colour has a pattern, a shape or a word as well."""
     page.open("#lesson=fifo-reader-waits-behind-writer&move=6")
