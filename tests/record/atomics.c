@@ -78,6 +78,15 @@ static void c11_operations(void)
     STATEMENT(atomic_flag_clear(&flag));
 }
 
+/* The operations that change a word, before and after which its value may be asked for. */
+#define EACH(has) has(add) has(sub) has(and) has(xor) has(or)
+#define HAVE_ONE(change)                                                                           \
+    HAS_ONE(__atomic_fetch_##change(&plain, 1, __ATOMIC_SEQ_CST));                                 \
+    HAS_ONE(__atomic_##change##_fetch(&plain, 1, __ATOMIC_SEQ_CST));
+#define OLDER_HAVE_ONE(change)                                                                     \
+    HAS_ONE(__sync_fetch_and_##change(&plain, 1));                                                 \
+    HAS_ONE(__sync_##change##_and_fetch(&plain, 1));
+
 static void operations_of_compilers(void)
 {
     STATEMENT(__atomic_store_n(&plain, 1, __ATOMIC_SEQ_CST));
@@ -90,34 +99,15 @@ static void operations_of_compilers(void)
     HAS_ONE(__atomic_compare_exchange_n(&plain, &other, 7, 0, __ATOMIC_SEQ_CST, __ATOMIC_SEQ_CST));
     HAS_ONE(
         __atomic_compare_exchange(&plain, &other, &third, 0, __ATOMIC_SEQ_CST, __ATOMIC_SEQ_CST));
-    HAS_ONE(__atomic_fetch_add(&plain, 1, __ATOMIC_SEQ_CST));
-    HAS_ONE(__atomic_fetch_sub(&plain, 1, __ATOMIC_SEQ_CST));
-    HAS_ONE(__atomic_fetch_and(&plain, 1, __ATOMIC_SEQ_CST));
-    HAS_ONE(__atomic_fetch_xor(&plain, 1, __ATOMIC_SEQ_CST));
-    HAS_ONE(__atomic_fetch_or(&plain, 1, __ATOMIC_SEQ_CST));
-    HAS_ONE(__atomic_fetch_nand(&plain, 1, __ATOMIC_SEQ_CST));
-    HAS_ONE(__atomic_add_fetch(&plain, 1, __ATOMIC_SEQ_CST));
-    HAS_ONE(__atomic_sub_fetch(&plain, 1, __ATOMIC_SEQ_CST));
-    HAS_ONE(__atomic_and_fetch(&plain, 1, __ATOMIC_SEQ_CST));
-    HAS_ONE(__atomic_xor_fetch(&plain, 1, __ATOMIC_SEQ_CST));
-    HAS_ONE(__atomic_or_fetch(&plain, 1, __ATOMIC_SEQ_CST));
-    HAS_ONE(__atomic_nand_fetch(&plain, 1, __ATOMIC_SEQ_CST));
+    EACH(HAVE_ONE)
+    HAVE_ONE(nand)
     HAS_ONE(__atomic_test_and_set(&byte, __ATOMIC_SEQ_CST));
     STATEMENT(__atomic_clear(&byte, __ATOMIC_SEQ_CST));
 }
 
 static void older_operations(void)
 {
-    HAS_ONE(__sync_fetch_and_add(&plain, 1));
-    HAS_ONE(__sync_fetch_and_sub(&plain, 1));
-    HAS_ONE(__sync_fetch_and_or(&plain, 1));
-    HAS_ONE(__sync_fetch_and_and(&plain, 1));
-    HAS_ONE(__sync_fetch_and_xor(&plain, 1));
-    HAS_ONE(__sync_add_and_fetch(&plain, 1));
-    HAS_ONE(__sync_sub_and_fetch(&plain, 1));
-    HAS_ONE(__sync_or_and_fetch(&plain, 1));
-    HAS_ONE(__sync_and_and_fetch(&plain, 1));
-    HAS_ONE(__sync_xor_and_fetch(&plain, 1));
+    EACH(OLDER_HAVE_ONE)
     HAS_ONE(__sync_lock_test_and_set(&plain, 1));
     HAS_ONE(__sync_bool_compare_and_swap(&plain, 1, 2));
     HAS_ONE(__sync_val_compare_and_swap(&plain_pointer, 0, numbers));
