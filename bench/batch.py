@@ -1,7 +1,7 @@
 #!/usr/bin/env python3
 """Measures a replayer's batches: the gain of a second worker, and the cost of a small file.
 
-    batch.py PROGRAM [--rounds N] [--check] [--output FILE]
+    batch.py PROGRAM [--rounds N] [--check]
 
 Two workers: 24 schedules of 65,536 moves with 1 and with 2 workers, once of all kinds with short
 lines, once two of each kind of bench/generate.py, once all of 14 MB of report. Beside them the same
@@ -19,7 +19,6 @@ readall. Each limit is passed only above a tenth more, because medians differ by
 machine with other work. What is past it is measured again, up to three times in all. Without two
 free cores the first limit cannot be met, and the two processes show it.
 """
-import argparse
 import pathlib
 import re
 import subprocess
@@ -28,10 +27,9 @@ import tempfile
 import time
 
 import generate
-from measuring import Measure, Run, build, by_hand, median_elapsed
+from measuring import TOLERANCE, Measure, Run, arguments, build, by_hand, median_elapsed
 
 MOST_OF_ONE_WORKER, MOST_TO_HAND, MOST_TO_READING = 0.62, 1.1, 2.0
-TOLERANCE = 1.1
 ATTEMPTS = 3
 LESSON = pathlib.Path(__file__).parent.parent / "examples" / "ticket-hand-over.schedule"
 SMALL = re.sub(rb"^(#.*)?\n", b"", LESSON.read_bytes(), flags=re.MULTILINE)
@@ -44,12 +42,10 @@ BATCHES = {
 
 
 class Bench:
-    def __init__(self, program, rounds, output, folder):
+    def __init__(self, program, rounds, folder):
         self.program, self.rounds = program, rounds
         self.folder = pathlib.Path(folder)
         self.measure = Measure(folder)
-        if output:
-            self.measure.output = pathlib.Path(output)
         self.readall = build("readall", folder)
         self.by_hand = by_hand(folder)
 
@@ -62,8 +58,7 @@ class Bench:
         began = time.perf_counter()
         running = []
         for number, half in enumerate(halves):
-            with open(f"{self.measure.output}{number}" if self.measure.output.is_file()
-                      else self.measure.output, "wb") as output:
+            with open(f"{self.measure.output}{number}", "wb") as output:
                 running.append(subprocess.Popen(half, stdout=output))
         if any([process.wait() for process in running]):
             raise SystemExit("two processes: a batch failed")
@@ -125,16 +120,10 @@ def within(line, attempts):
 
 
 def main():
-    words = argparse.ArgumentParser(description="The head of this file says what is measured.")
-    words.add_argument("program")
-    words.add_argument("--rounds", type=int, default=11)
-    words.add_argument("--check", action="store_true")
-    words.add_argument("--output", metavar="FILE")
-    asked = words.parse_args()
+    asked = arguments(rounds=11).parse_args()
     attempts = ATTEMPTS if asked.check else 1
-    program = str(pathlib.Path(asked.program).resolve())
     with tempfile.TemporaryDirectory() as folder:
-        bench = Bench(program, asked.rounds, asked.output, folder)
+        bench = Bench(asked.program, asked.rounds, folder)
         print("24 schedules  1 worker  2 workers  ratio  by hand  to hand  two processes  peak MB")
         worker_line(bench, "short lines")
         worker_line(bench, "14 MB each")

@@ -1,13 +1,37 @@
-"""Shared by the benchmarks: C helpers built where they are needed, and measured commands."""
+"""Shared by the benchmarks: arguments, C helpers built where they are needed, measured commands."""
+import argparse
 import collections
 import pathlib
 import statistics
 import subprocess
 
 HERE = pathlib.Path(__file__).parent
+TOLERANCE = 1.1  # of limits of time
 
 # One run of a command: seconds from start to end, seconds of a processor, peak bytes.
 Run = collections.namedtuple("Run", "elapsed processor peak")
+
+
+def arguments(rounds):
+    """The arguments that all have: a program, how often it is measured, and whether limits hold."""
+    words = argparse.ArgumentParser(description="The head of this file says what is measured.")
+    words.add_argument("program", type=lambda path: str(pathlib.Path(path).resolve()))
+    words.add_argument("--rounds", type=int, default=rounds)
+    words.add_argument("--check", action="store_true")
+    return words
+
+
+def fits(title, measured, passed_limits, attempts):
+    """Prints a line of figures; again, while a limit is passed and attempts are left."""
+    for _ in range(attempts):
+        figures = measured()
+        beyond = list(passed_limits(figures))
+        cells = "".join(f"{it:12}" if isinstance(it, int) else f"{it:12.2f}"
+                        for it in figures.values())
+        print(f"{title}{cells}", *(f"past the limit: {name}" for name in beyond), flush=True)
+        if not beyond:
+            return True
+    return False
 
 
 def build(name, folder, *flags):

@@ -50,10 +50,9 @@ def tree_of(commit, folder):
 
 
 def built(folder, name, tree, mode):
-    """In the first version a mode was the name of a macro."""
-    program, source = folder / name, tree / "bench" / "recording.c"
-    flag = f"-DLR_{mode}" if "LR_ONLY" in source.read_text() else f"-DLR_MODE={mode}"
-    ran("gcc", *FLAGS, flag, "-I", tree / "record", "-o", program, source)
+    program = folder / name
+    ran("gcc", *FLAGS, f"-DLR_MODE={mode}", "-I", tree / "record", "-o", program,
+        tree / "bench" / "recording.c")
     return program
 
 

@@ -27,20 +27,19 @@ one program differed by up to 8 %. A kind that is past a limit is measured again
 in all, and so is one whose spread is above 10 %, for then not even the ratios hold. A kind that was
 never measured quietly and within its limits fails.
 """
-import argparse
 import pathlib
 import sys
 import tempfile
 
 import generate
-from measuring import Measure, by_hand, median_elapsed, median_processor, median_ratio, ratio_spread
+from measuring import (TOLERANCE, Measure, arguments, by_hand, fits, median_elapsed,
+                       median_processor, median_ratio, ratio_spread)
 
 sys.path.append(str(pathlib.Path(__file__).resolve().parents[1] / "tests" / "oracle"))
 import oracle
 
 LONG_LINES = {"contention", "mcs-contention"}
 MOST_TO_HAND, MOST_TO_CAT, MOST_EXTRA = 1.2, 1.6, 6.0
-TOLERANCE = 1.1
 MOST_SPREAD = 10.0
 ATTEMPTS = 5
 
@@ -53,7 +52,6 @@ class Bench:
         self.measure = Measure(folder)
         self.folder = pathlib.Path(folder)
         self.start = self.schedule("none")
-        self.failed = False
 
     def schedule(self, kind):
         path = self.folder / f"{kind}.schedule"
@@ -103,35 +101,26 @@ class Bench:
         if figures["spread"] > MOST_SPREAD:
             yield "spread"
 
-    def line(self, kind, attempts):
-        """Prints the kind's line; again, while a limit is passed and attempts are left."""
-        schedule, report = self.replayed(kind)
-        for _ in range(attempts):
-            figures = self.figures(schedule, report)
-            beyond = list(self.passed_limits(kind, figures))
-            cells = "".join(f"{figure:11.2f}" for figure in figures.values())
-            print(f"{kind:15}{cells}", *(f"past the limit: {name}" for name in beyond), flush=True)
-            if not beyond:
-                return
-        self.failed = True
+    def fits(self, kind, attempts):
+        """Prints the kind's line, and tells whether its limits are kept."""
+        files = self.replayed(kind)
+        return fits(f"{kind:15}", lambda: self.figures(*files),
+                    lambda figures: self.passed_limits(kind, figures), attempts)
 
 
 def main():
     kinds = [kind for kind in generate.KINDS if kind != "none"]
-    words = argparse.ArgumentParser(description="The head of this file says what is measured.")
-    words.add_argument("program")
+    words = arguments(rounds=30)
     words.add_argument("kinds", nargs="*", metavar="KIND", choices=[[], *kinds])
-    words.add_argument("--rounds", type=int, default=30)
-    words.add_argument("--check", action="store_true")
     asked = words.parse_intermixed_args()
     with tempfile.TemporaryDirectory() as folder:
-        bench = Bench(str(pathlib.Path(asked.program).resolve()), asked.rounds, folder)
+        bench = Bench(asked.program, asked.rounds, folder)
         names = ["elapsed", "processor", "spread %", "to cat", "to hand", "ns a move", "by hand",
                  "extra MB"]
-        print(f"{'kind':15}" + "".join(f"{name:>11}" for name in names))
-        for kind in asked.kinds or kinds:
-            bench.line(kind, ATTEMPTS if asked.check else 1)
-    return 1 if asked.check and bench.failed else 0
+        print(f"{'kind':15}" + "".join(f"{name:>12}" for name in names))
+        all_fit = [bench.fits(kind, ATTEMPTS if asked.check else 1)
+                   for kind in asked.kinds or kinds]
+    return 1 if asked.check and not all(all_fit) else 0
 
 
 if __name__ == "__main__":

@@ -1,11 +1,11 @@
 #!/usr/bin/env python3
 """Measures how fast `locktrace space` searches spaces of schedules, beside SPIN's search of them.
 
-    search.py LOCKTRACE [--turns N] [--check]
+    search.py LOCKTRACE [--rounds N] [--check]
 
-In each turn and for each space of SPACES, `LOCKTRACE space` searches it, and so does the `pan` that
-SPIN makes of the model in bench/spin, compiled with -O2; pan.py says with which other options, and
-why. They take turns, so that other work of the machine meets both. Both have to count the same
+In each round and for each space of SPACES, `LOCKTRACE space` searches it, and so does the `pan`
+that SPIN makes of the model in bench/spin, compiled with -O2; pan.py says with which other options,
+and why. They take turns, so that other work of the machine meets both. Both have to count the same
 states and transitions. Times are those of a processor, user and kernel, less what the program takes
 for one thread and one round: starting, and a table that is still empty. It prints medians:
 
@@ -22,7 +22,6 @@ With --check it ends with 1 if a limit is passed: the time of `pan`, 2 seconds f
 states and 0.1 for a small space, 64 bytes a state. Time is given a tenth more, as in run.py, and a
 space that is past a limit is measured again, up to three times in all.
 """
-import argparse
 import json
 import pathlib
 import statistics
@@ -30,7 +29,7 @@ import sys
 import tempfile
 
 import pan
-from measuring import Measure, median_processor
+from measuring import TOLERANCE, Measure, arguments, fits, median_processor
 
 TOP = pathlib.Path(__file__).resolve().parent.parent
 sys.path.append(str(TOP / "tests" / "oracle"))
@@ -45,7 +44,6 @@ SPACES = [
     Space("rw-fifo", 4, 3, 64),
 ]
 MOST_TO_SPIN, MOST_BYTES, LEAST_SECONDS, SECONDS_A_STATE = 1.0, 64, 0.1, 2e-6
-TOLERANCE = 1.1
 ATTEMPTS = 3
 COLUMNS = ["states", "ms", "SPIN's ms", "to SPIN", "states a s", "SPIN's", "bytes"]
 
@@ -56,8 +54,8 @@ def state_bytes(space):
 
 
 class Bench:
-    def __init__(self, program, turns, folder):
-        self.program, self.turns = program, turns
+    def __init__(self, program, rounds, folder):
+        self.program, self.rounds = program, rounds
         self.folder = pathlib.Path(folder)
         self.measure = Measure(folder)
 
@@ -75,7 +73,7 @@ class Bench:
     def runs(self, commands):
         """Runs the commands in turns; for each of them its runs."""
         return zip(*[[self.measure.run(command) for command in commands]
-                     for _ in range(self.turns)])
+                     for _ in range(self.rounds)])
 
     def output(self, command):
         self.measure.run(command)
@@ -116,29 +114,13 @@ def passed_limits(figures):
         yield "bytes"
 
 
-def fits(bench, space, attempts):
-    """Prints the space's line; again, while a limit is passed and attempts are left."""
-    for _ in range(attempts):
-        figures = bench.figures(space)
-        beyond = list(passed_limits(figures))
-        cells = "".join(f"{figure:12.2f}" for figure in list(figures.values())[1:])
-        print(f"{str(space):38}{figures['states']:10}{cells}",
-              *(f"past the limit: {name}" for name in beyond), flush=True)
-        if not beyond:
-            return True
-    return False
-
-
 def main():
-    words = argparse.ArgumentParser(description="The head of this file says what is measured.")
-    words.add_argument("program")
-    words.add_argument("--turns", type=int, default=7)
-    words.add_argument("--check", action="store_true")
-    asked = words.parse_args()
+    asked = arguments(rounds=7).parse_args()
     with tempfile.TemporaryDirectory() as folder:
-        bench = Bench(str(pathlib.Path(asked.program).resolve()), asked.turns, folder)
-        print(f"{'space':38}{COLUMNS[0]:>10}" + "".join(f"{name:>12}" for name in COLUMNS[1:]))
-        all_fit = [fits(bench, space, ATTEMPTS if asked.check else 1) for space in SPACES]
+        bench = Bench(asked.program, asked.rounds, folder)
+        print(f"{'space':38}" + "".join(f"{name:>12}" for name in COLUMNS))
+        all_fit = [fits(f"{str(space):38}", lambda: bench.figures(space), passed_limits,
+                        ATTEMPTS if asked.check else 1) for space in SPACES]
     return 1 if asked.check and not all(all_fit) else 0
 
 

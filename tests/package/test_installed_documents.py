@@ -48,10 +48,6 @@ def is_elsewhere(path, near, repository, elsewhere):
     return any(name in f"/{file}/" for file in found(path, near, repository) for name in elsewhere)
 
 
-def is_known(path, near, installed, repository, elsewhere):
-    return is_installed(path, near, installed) or is_elsewhere(path, near, repository, elsewhere)
-
-
 def needs_repository(block, near, installed, repository, elsewhere):
     """Whether a block runs `make` or `rt`, or names a file that only the repository has."""
     if block.language not in ("sh", "console"):
@@ -79,7 +75,8 @@ def missing_in(document, documents, lists):
         if target and "://" not in target and not (document.parent / target).exists():
             yield f"]({link})"
         word = path.split(" ")[0]
-        if PATH.match(word) and not is_known(word, near, *lists):
+        if PATH.match(word) and not (is_installed(word, near, lists[0])
+                                     or is_elsewhere(word, near, *lists[1:])):
             yield f"`{path}`"
 
 

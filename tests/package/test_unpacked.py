@@ -11,6 +11,7 @@ import sys
 
 import pytest
 
+from oracle import batch_of, is_accepted
 from traces import GOOD, LOGS, OTHER, OTHER_LINE, SCHEDULE
 from tree import VERSION, cases, environment, output
 
@@ -38,10 +39,6 @@ def run(tree, tmp_path):
     return in_chroot
 
 
-def status_of(report):
-    return 0 if report.splitlines()[-1].startswith(b"end ") else 1
-
-
 def test_examples_are_replayed(tree, run):
     """Each example is replayed by itself, and the stored ones as a batch. limits.sh prints the
     others."""
@@ -52,10 +49,11 @@ def test_examples_are_replayed(tree, run):
         text = report.with_suffix(".schedule").read_bytes() if report in stored else \
             subprocess.check_output([tree.documents / "examples" / "limits.sh", report.stem])
         due = report.read_bytes()
-        assert run("lockreplay", "replay", stdin=text) == (due, b"", status_of(due)), report.stem
+        assert run("lockreplay", "replay", stdin=text) == (
+            due, b"", 0 if is_accepted(due) else 1), report.stem
     files = [f"/share/doc/lockreplay/examples/{report.stem}.schedule" for report in stored]
-    due = b"".join(b"file %d\n" % k + report.read_bytes() for k, report in enumerate(stored, 1))
-    assert run("lockreplay", "batch", "--workers", "2", *files) == (due, b"", 1)
+    assert run("lockreplay", "batch", "--workers", "2", *files) == (
+        batch_of([report.read_bytes() for report in stored]), b"", 1)
 
 
 def test_lockreplay(run):

@@ -14,10 +14,6 @@ pytestmark = pytest.mark.slow
 THREADS, BLOCK = 2, 512  # the threads of the program below; bytes
 
 
-def mapped(process, path):
-    return str(path) in Path(f"/proc/{process.pid}/maps").read_text()
-
-
 RUST = """
 use std::{env, process, sync::atomic::Ordering::SeqCst, thread, time::Duration};
 
@@ -91,7 +87,7 @@ def test_killed_in_rust(keeper, ordered, tmp_path, how, sign):
                                text=True)
     if how == "loop":
         assert process.stdout.readline() == "going\n"
-        assert mapped(process, logs / "thread-1.log")
+        assert f"{logs}/thread-1.log" in Path(f"/proc/{process.pid}/maps").read_text()
         process.kill()
     process.communicate()
     assert process.returncode == -sign
