@@ -29,6 +29,7 @@ REFUSED = b"lock ticket threads 2\n0 release\n"
 REFUSED_REPORT = b"refused line 2 NotHolder\n"
 NO_HEADER = b"fault line 1 NoHeader\n"
 SPINS = most_moves()  # a thread that spins to the limit of moves, after one that never enters
+WAITING = 65_536  # bytes of a report that wait for a write
 CROWD = crowd()  # the longest report, except that its numerals could be longer
 
 FILES = {"empty": EMPTY, "handed_on": HANDED_ON, "refused": REFUSED, "none": b"",
@@ -119,11 +120,19 @@ class TestOutput:
             assert program.run(*words, stdin=text, stdout=pipe, stderr=pipe)[2] == 3
 
 
-@pytest.mark.parametrize("size", [1, 1_000, 65_536, 65_537, -1])
-@pytest.mark.parametrize("name", ["replay", "batch"])
+REPORTS = {**WRITES, "14 MB": (["replay"], CROWD.text, CROWD.report)}
+
+
+# Of a report of 14 MB the file has no more room in the middle of each of the first 200 writes, of
+# two later ones, and before the last byte.
+@pytest.mark.parametrize("name, size", [
+    *((name, size) for name in ("replay", "batch")
+      for size in (1, 1_000, WAITING, WAITING + 1, -1)),
+    *(("14 MB", k * WAITING + WAITING // 2) for k in [*range(200), 204, 208]), ("14 MB", -1)])
 def test_file_that_is_full(program, tmp_path, name, size):
     """The file keeps as much of the report as it has room for."""
-    words, text, report = WRITES[name]
+    assert len(CROWD.report) > 209 * WAITING
+    words, text, report = REPORTS[name]
     room = size % len(report)
     with open(tmp_path / "short", "wb") as short:
         done = program.run(*words, stdin=text, stdout=short, preexec_fn=short_files(room))
@@ -131,12 +140,10 @@ def test_file_that_is_full(program, tmp_path, name, size):
     assert (tmp_path / "short").read_bytes() == report[:room]
 
 
-@cases("words, text, report, size", {
-    **{name: (*WRITES[name], 1_000) for name in ("replay", "batch")},
-    "a report of 14 MB": (["replay"], CROWD.text, CROWD.report, 65_536),
-})
-def test_reader_that_leaves(program, words, text, report, size):
+@pytest.mark.parametrize("name, size", [("replay", 1_000), ("batch", 1_000), ("14 MB", WAITING)])
+def test_reader_that_leaves(program, name, size):
     """The reader takes `size` bytes of the report, and closes its end."""
+    words, text, report = REPORTS[name]
     reader, writer = os.pipe()
     taken = bytearray()
 

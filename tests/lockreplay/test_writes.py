@@ -1,4 +1,4 @@
-"""`lockreplay` writes a batch in few writes, and the front of a report before a write that fails.
+"""`lockreplay` writes a batch in few writes.
 
 A batch writes to a socket that keeps each write as a message, so the test can count the writes.
 Reports are a little shorter than the program's buffer (65,536 bytes), as long, a byte longer, and
@@ -7,14 +7,9 @@ three times as long. The test puts the expected text together from the report of
 import socket
 import threading
 
-import pytest
-
-from devices import short_files
 from oracle import batch_of
 from tree import PATIENCE, cases
-from worked_rows import crowd
 
-CROWD = crowd()
 WAITING = 65_536  # bytes
 MOST = 1 << 20    # bytes of one message
 NO_MOVES = (b"lock ticket threads 1\n", b"end 0\n")
@@ -65,16 +60,3 @@ def test_batch_in_few_writes(replayer, texts, most_writes):
     due = batch_of([report for _, report in texts])
     assert (b"".join(writes), *done) == (due, b"", b"", 0)
     assert len(writes) <= most_writes
-
-
-# The file has no more room in the middle of each of the first 200 writes, of two later ones, and
-# before the last byte.
-@pytest.mark.parametrize("size", [
-    *(k * WAITING + WAITING // 2 for k in [*range(200), 204, 208]), len(CROWD.report) - 1])
-def test_file_that_is_full(replayer, tmp_path, size):
-    """The file gets as much of a report of 14 MB as it has room for."""
-    assert len(CROWD.report) > 209 * WAITING
-    with open(tmp_path / "short", "wb") as short:
-        done = replayer.run("replay", stdin=CROWD.text, stdout=short, preexec_fn=short_files(size))
-    assert done == (b"", b"lockreplay: cannot write\n", 3)
-    assert (tmp_path / "short").read_bytes() == CROWD.report[:size]
