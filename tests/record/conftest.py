@@ -8,8 +8,18 @@ from tree import output, ran
 
 
 @pytest.fixture(scope="session")
-def recorder(request, shared, library, locktrace):
-    return RECORDERS[request.param](shared, library, locktrace)
+def in_c(shared, library, locktrace):
+    return RECORDERS["c"](shared, library, locktrace)
+
+
+@pytest.fixture(scope="session")
+def in_rust(shared, library, locktrace):
+    return RECORDERS["rust"](shared, library, locktrace)
+
+
+@pytest.fixture(scope="session")
+def recorder(request, in_c, in_rust):
+    return {"c": in_c, "rust": in_rust}[request.param]
 
 
 @pytest.fixture(scope="session")

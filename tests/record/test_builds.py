@@ -260,11 +260,10 @@ def test_guide_with_its_mistake(guide, judge):
 
 
 @pytest.mark.xdist_group("cargo")  # cargo locks its folder, so these tests share a worker
-@pytest.mark.parametrize("recorder", ["rust"], indirect=True)
 @pytest.mark.parametrize("words", [
     f"{tool} {features}".strip() for tool in ("test", "clippy --all-targets")
     for features in ("", "--no-default-features", "--features check")] + ["doc --no-deps"])
-def test_cargo(recorder, words):
+def test_cargo(in_rust, words):
     tool = ["cargo-clippy", "clippy"] if words.startswith("clippy") else ["cargo"]
     words = words.split()[len(tool) - 1:]
-    assert recorder.cargo(*tool[1:], *words, tool=tool[0]) == ""
+    assert in_rust.cargo(*tool[1:], *words, tool=tool[0]) == ""

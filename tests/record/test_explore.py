@@ -88,12 +88,11 @@ EXPLORED = [
 ]
 
 
-@pytest.mark.parametrize("recorder", ["c"], indirect=True)
 @pytest.mark.parametrize("example, name, counts, said", EXPLORED)
-def test_search_in_c(recorder, tmp_path, example, name, counts, said):
+def test_search_in_c(in_c, tmp_path, example, name, counts, said):
     """A search in C saves the refused run, and no other."""
     mistake = next((it for it in IN_C if (it.example, it.name) == (example, name)), None)
-    done = recorder.search(counts, tmp_path, example, "EXPLORE", mistake)
+    done = in_c.search(counts, tmp_path, example, "EXPLORE", mistake)
     assert said in done.stdout
     assert done.returncode == (1 if mistake else 0)
     assert (tmp_path / "run.trace").exists() == bool(mistake)
@@ -109,10 +108,9 @@ def test_search_in_c(recorder, tmp_path, example, name, counts, said):
     (2, "2 runs with up to 0 preemptions, all of them accepted, and there are more\n"),
     (9, "9 runs with up to 2 preemptions, all of them accepted, and there are more\n"),
     (10, "10 runs with up to 2 preemptions, all of them accepted\n")])
-@pytest.mark.parametrize("recorder", ["c"], indirect=True)
-def test_most_runs(recorder, tmp_path, most, said):
+def test_most_runs(in_c, tmp_path, most, said):
     """A search makes at most as many runs as it is told."""
-    assert answer(*recorder.command("ticket", "EXPLORE"), 2, 1, 2, tmp_path, most) == (said, "", 0)
+    assert answer(*in_c.command("ticket", "EXPLORE"), 2, 1, 2, tmp_path, most) == (said, "", 0)
 
 
 @pytest.mark.parametrize("compiler", ["gcc", "clang"])
@@ -219,15 +217,14 @@ def test_driver_that_changes(noting, tmp_path, threads):
     assert done.returncode == 1
 
 
-@pytest.mark.parametrize("recorder", ["c"], indirect=True)
-def test_again_without_a_trace(recorder, tmp_path):
+def test_again_without_a_trace(in_c, tmp_path):
     """The one message is about the trace, or if that is there about the number of threads."""
     (tmp_path / "a.trace").write_text("# way 1\n")
     for threads, name, said in (
             (2, "no.trace", f"{tmp_path}/no.trace: No such file or directory"),
             (16, "a.trace", "16 threads and counters of 4 bits: there have to be fewer threads than"
                             " values")):
-        assert answer(*recorder.command("ticket", "EXPLORE"), threads, 1, "again",
+        assert answer(*in_c.command("ticket", "EXPLORE"), threads, 1, "again",
                       tmp_path / name) == refusal(said)
 
 

@@ -9,7 +9,7 @@ import pytest
 from recorders import cargo
 from tree import PIPE, TOP, answer, environment, ran
 
-pytestmark = pytest.mark.slow
+pytestmark = [pytest.mark.slow, pytest.mark.xdist_group("cargo")]
 
 THREADS, BLOCK = 2, 512  # the threads of the program below; bytes
 
@@ -76,7 +76,6 @@ def keeper(tmp_path_factory):
     return folder / "target" / "debug" / "keeper"
 
 
-@pytest.mark.xdist_group("cargo")
 @pytest.mark.parametrize("how, sign", [("abort", signal.SIGABRT), ("loop", signal.SIGKILL)])
 def test_killed_in_rust(keeper, ordered, tmp_path, how, sign):
     logs = tmp_path / "logs"
@@ -96,7 +95,6 @@ def test_killed_in_rust(keeper, ordered, tmp_path, how, sign):
     assert "dropped" not in text and text.endswith("#")  # perhaps in the midst of a move
 
 
-@pytest.mark.xdist_group("cargo")
 def test_kept_to_the_end_in_rust(keeper, ordered, tmp_path):
     """A run that ends well leaves whole logs, and nothing else."""
     assert answer(keeper, tmp_path / "logs", "20", "end")[1:] == ("", 0)
@@ -105,7 +103,6 @@ def test_kept_to_the_end_in_rust(keeper, ordered, tmp_path):
         assert (tmp_path / "logs" / f"thread-{thread}.log").read_text().endswith("\ndropped 0\n")
 
 
-@pytest.mark.xdist_group("cargo")
 @pytest.mark.parametrize("blocks, rounds", [(1, 200), (300, 3000)], ids=["at first", "later"])
 def test_no_room_in_rust(keeper, tmp_path, blocks, rounds):
     """A thread that can no longer write its log reports it once, and the run goes on. The log takes
@@ -121,7 +118,6 @@ def test_no_room_in_rust(keeper, tmp_path, blocks, rounds):
     assert not any("##" in path.read_text() for path in logs.iterdir())
 
 
-@pytest.mark.xdist_group("cargo")
 def test_no_room_to_save_in_rust(keeper, tmp_path):
     """A run that cannot be saved where its logs are kept leaves them as they are."""
     logs = tmp_path / "logs"
@@ -133,7 +129,6 @@ def test_no_room_to_save_in_rust(keeper, tmp_path):
     assert sizes == {f"thread-{thread}.log": 300 * BLOCK for thread in range(THREADS)}
 
 
-@pytest.mark.xdist_group("cargo")
 def test_no_thread_in_rust(keeper, tmp_path):
     """A run whose thread is refused ends at once, and not after its time of a minute."""
     done = ran(keeper, tmp_path / "logs", "20", "end", timeout=30,

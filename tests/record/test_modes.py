@@ -162,11 +162,10 @@ def test_words_that_are_macros(compiler, tmp_path):
     (2, "x", 1, "logs"), (2, 0, 1, "logs"), (2, -1, 1, "logs"), (2, 2**32, 1, "logs"),
     (2, 1, "x", "logs"), (2, 1, "", "logs"), (2, 1, 2**32, "logs"), (2, 1, 1, "logs", 0),
     (2, 1, 1, "logs", "9 "), (2, 1, 1, "logs", 2**64), (2, 1, "again", "run.trace", 9)], ids=str)
-@pytest.mark.parametrize("recorder", ["c"], indirect=True)
-def test_words_of_a_search(recorder, tmp_path, words):
+def test_words_of_a_search(in_c, tmp_path, words):
     """A search of no thread, or of more than 64, of no round or of no run, and a word that is no
     number, are refused as other wrong words are."""
-    [program] = recorder.command("rw_fifo", "EXPLORE")
+    [program] = in_c.command("rw_fifo", "EXPLORE")
     assert answer(program, *words, cwd=tmp_path) == (
         "", f"usage: {program} THREADS ROUNDS PREEMPTIONS FOLDER [RUNS]\n"
         f"       {program} THREADS ROUNDS again TRACE\n", 2)
@@ -178,10 +177,9 @@ def test_words_of_a_search(recorder, tmp_path, words):
     ((-1, 1, 1), 2), ((2, 1), 2), ((2, 1, 1, 9, 9), 2), ((2, 0, 1), 2), ((2, "x", 1), 2),
     ((2, 1, "x"), 2), ((2, 1, -1), 2), ((2, 1, 2**64), 2), ((2, 1, 2**64 - 1), 0),
     ((2, 1, 1, 0), 2), ((2, 1, 1, "1s"), 2)])
-@pytest.mark.parametrize("recorder", ["c"], indirect=True)
-def test_words_of_a_program(recorder, tmp_path, mode, words, status):
+def test_words_of_a_program(in_c, tmp_path, mode, words, status):
     """A run has 1 to 64 threads, and a round or more. Other words are refused before it begins."""
-    [program] = recorder.command("rw_fifo", mode)
+    [program] = in_c.command("rw_fifo", mode)
     done = ran(program, *words[:3], tmp_path / "logs", *words[3:])
     assert done.stderr == ("" if status == 0 else
                            f"usage: {program} THREADS ROUNDS SEED FOLDER [SECONDS]\n")
@@ -190,12 +188,11 @@ def test_words_of_a_program(recorder, tmp_path, mode, words, status):
     assert len(list(tmp_path.glob("logs/*.log"))) == count
 
 
-@pytest.mark.parametrize("recorder", ["c"], indirect=True)
 @pytest.mark.parametrize("example, text, said", FOLLOWED)
-def test_schedule(recorder, tmp_path, example, text, said):
+def test_schedule(in_c, tmp_path, example, text, said):
     """The status tells a lock that leaves a schedule from a file that is no schedule of it."""
     (tmp_path / "one.schedule").write_text(text)
-    done = recorder.search([tmp_path], tmp_path, example, "FOLLOW")
+    done = in_c.search([tmp_path], tmp_path, example, "FOLLOW")
     if said:
         assert said in done.stderr
         assert done.returncode == (3 if "this is no line" in said or "not of " in said else 1)
@@ -203,13 +200,12 @@ def test_schedule(recorder, tmp_path, example, text, said):
         assert (done.stderr, done.returncode) == ("", 0)
 
 
-@pytest.mark.parametrize("recorder", ["c"], indirect=True)
-def test_folder_of_schedules(recorder, tmp_path):
+def test_folder_of_schedules(in_c, tmp_path):
     """Schedules are followed in the order of their names. Runs of the same moves have one number,
     and others have others."""
     for name, line in {"c": "0 read", "a": "0 read", "b": "1 read"}.items():
         (tmp_path / f"{name}.schedule").write_text(f"{HEAD}{line}\n")
-    done = recorder.search([tmp_path], tmp_path, "mcs", "FOLLOW")
+    done = in_c.search([tmp_path], tmp_path, "mcs", "FOLLOW")
     assert re.findall(r"/(\w)\.schedule: line 2 is ", done.stderr) == ["a", "b", "c"]
     a, b, c = ((tmp_path / f"{name}.trace").read_text().splitlines()[0] for name in "abc")
     assert re.fullmatch("# run [0-9a-f]{16}", a) and a == c != b
@@ -284,12 +280,11 @@ def test_schedule_of_a_monitor(built, tmp_path):
     assert re.findall(r"^\d section \d+ (\w+)$", trace, re.MULTILINE) == outcomes
 
 
-@pytest.mark.parametrize("recorder", ["c"], indirect=True)
-def test_longest_seed(recorder, tmp_path):
+def test_longest_seed(in_c, tmp_path):
     """A seed has 64 bits. One whose lower half is that of another seed gives another run."""
     texts = []
     for seed in (2**64 - 1, 2**32 - 1):
-        done = recorder.run(tmp_path / str(seed), "ticket", "SEED", seed)
+        done = in_c.run(tmp_path / str(seed), "ticket", "SEED", seed)
         assert (done.stderr, done.returncode) == ("", 0)
         texts.append((tmp_path / str(seed) / "run.trace").read_text())
         assert texts[-1].splitlines()[1] == f"# seed {seed}"
@@ -312,10 +307,9 @@ def test_places_of_moves(built, tmp_path, flags):
 
 
 @pytest.mark.parametrize("rounds, places", [(166, 996), (167, 0)])
-@pytest.mark.parametrize("recorder", ["c"], indirect=True)
-def test_places_of_a_long_run(recorder, tmp_path, rounds, places):
+def test_places_of_a_long_run(in_c, tmp_path, rounds, places):
     """A trace of more than 1,000 moves names no places. A thread alone makes 6 moves a round."""
-    assert ran(*recorder.command("ticket", "SEED"), 1, rounds, 1, tmp_path).stderr == ""
+    assert ran(*in_c.command("ticket", "SEED"), 1, rounds, 1, tmp_path).stderr == ""
     assert (tmp_path / "run.trace").read_text().count(" is ticket.c:") == places
 
 

@@ -158,14 +158,13 @@ def without_later_waits(trace):
 
 @pytest.mark.slow
 @pytest.mark.parametrize("counts", [(2, 1, 2), (2, 2, 2), (3, 1, 1), (3, 1, 2)], ids=str)
-@pytest.mark.parametrize("recorder", ["rust"], indirect=True)
 @pytest.mark.parametrize("example", RUNS_IN_RUST)
-def test_right_lock_in_rust(recorder, tmp_path, example, counts):
+def test_right_lock_in_rust(in_rust, tmp_path, example, counts):
     """Each run has an equivalent one among the runs of the reduced search, which are fewer."""
     made, found = [], []
     for search in SEARCHES:
         folder = tmp_path / search
-        made.append(said_by(recorder.search(counts, folder, example, search))[0])
+        made.append(said_by(in_rust.search(counts, folder, example, search))[0])
         found.append({normal_form(without_later_waits(path.read_text()))
                       for path in folder.glob("*.trace")})
     assert found[0] == found[1]
@@ -199,11 +198,10 @@ def refused(locktrace, folder):
 
 
 @pytest.mark.slow
-@pytest.mark.parametrize("recorder", ["rust"], indirect=True)
 @pytest.mark.parametrize("mistake", IN_RUST, ids=str)
-def test_planted_in_rust(recorder, locktrace, tmp_path, mistake):
+def test_planted_in_rust(in_rust, locktrace, tmp_path, mistake):
     """Both searches refuse the same normal forms, or end at a run that hangs."""
-    done = [recorder.search((3, 1, 1), tmp_path / search, mistake.example, search, mistake)
+    done = [in_rust.search((3, 1, 1), tmp_path / search, mistake.example, search, mistake)
             for search in SEARCHES]
     (runs, preemptions, _), (fewer, found, _) = map(said_by, done)
     assert (done[1].returncode, found) == (done[0].returncode, preemptions)

@@ -70,9 +70,8 @@ USAGES = [
 
 
 @pytest.mark.parametrize("mode, words, usage", USAGES)
-@pytest.mark.parametrize("recorder", ["c"], indirect=True)
-def test_usage(recorder, tmp_path, mode, words, usage):
-    [program] = recorder.command("ticket", mode)
+def test_usage(in_c, tmp_path, mode, words, usage):
+    [program] = in_c.command("ticket", mode)
     done = ran(program, *words, cwd=tmp_path)
     assert done.stderr.replace(str(program), "IT") == f"usage: IT {usage}\n"
     assert (done.stdout, done.returncode, list(tmp_path.iterdir())) == ("", 2, [])
@@ -284,25 +283,23 @@ def test_who_is_woken_for_nothing(built):
     assert done.stdout.count("1\n") > 25 and done.returncode == 0, done.stdout
 
 
-@pytest.mark.parametrize("recorder", ["c"], indirect=True)
-def test_many_schedules(recorder, tmp_path):
+def test_many_schedules(in_c, tmp_path):
     """A run leaves nothing open, so there may be more schedules than open files."""
     for number in range(40):
         (tmp_path / f"{number}.schedule").write_text(HEAD + IN)
-    [program] = recorder.command("mcs", "FOLLOW")
+    [program] = in_c.command("mcs", "FOLLOW")
     assert answer("sh", "-c", f"ulimit -n 20; exec {program} {tmp_path} {tmp_path}") == (
         "40 schedules of 120 moves, 0 not followed\n", "", 0)
 
 
-@pytest.mark.parametrize("recorder", ["c"], indirect=True)
-def test_two_schedules(recorder, tmp_path):
+def test_two_schedules(in_c, tmp_path):
     """Files of other names are no schedules. The last line counts the moves that were made, also
     the one that departs, and only its trace is saved."""
     (tmp_path / "a.schedule").write_text(HEAD + IN)
     (tmp_path / "b.schedule").write_text(f"{HEAD}0 acquire\n0 swap\n1 acquire\n")
     for name in (".schedule", "schedule", "c.schedule~", "c.Schedule", "c.txt"):
         (tmp_path / name).write_text("no line of a schedule\n")
-    done = recorder.search([tmp_path], tmp_path / "logs", "mcs", "FOLLOW")
+    done = in_c.search([tmp_path], tmp_path / "logs", "mcs", "FOLLOW")
     assert done.stdout == "2 schedules of 5 moves, 1 not followed\n"
     assert done.stderr.startswith(f"lockreplay_record: {tmp_path}/b.schedule: line 3 is '0 swap', "
                                   "and thread 0 made 'write' at mcs.c:")
@@ -310,25 +307,23 @@ def test_two_schedules(recorder, tmp_path):
         ["b.trace"], 1)
 
 
-@pytest.mark.parametrize("recorder", ["c"], indirect=True)
-def test_schedule_that_cannot_be_read(recorder, tmp_path):
+def test_schedule_that_cannot_be_read(in_c, tmp_path):
     """Neither a folder nor a file that is not there passes for a schedule that was followed."""
     (tmp_path / "some").mkdir()
     (tmp_path / "some" / "a.schedule").symlink_to(tmp_path / "nothing")
     for folder, said, last in (("none", "", "No such file or directory"),
                                ("some", "some/a.schedule: No such file or directory\n",
                                 "Invalid argument")):
-        done = ran(*recorder.command("mcs", "FOLLOW"), folder, ".", cwd=tmp_path)
+        done = ran(*in_c.command("mcs", "FOLLOW"), folder, ".", cwd=tmp_path)
         assert done.stdout == "0 schedules of 0 moves, 0 not followed\n"
         assert done.stderr == "".join(f"lockreplay_record: {line}\n" for line in (
             *said.splitlines(), f"{folder}: {last}"))
         assert done.returncode == 3
 
 
-@pytest.mark.parametrize("recorder", ["c"], indirect=True)
-def test_number_of_a_seed(recorder, tmp_path):
+def test_number_of_a_seed(in_c, tmp_path):
     """It is the first number of splitmix64 by the seed 0, as its authors give it."""
-    assert recorder.run(tmp_path, "ticket", "SEED", 0).stderr == ""
+    assert in_c.run(tmp_path, "ticket", "SEED", 0).stderr == ""
     first, second, *_ = (tmp_path / "run.trace").read_text().splitlines()
     assert (first, second) == ("# run e220a8397b1dcdaf", "# seed 0")
 
