@@ -156,38 +156,6 @@ def test_words_that_are_macros(compiler, tmp_path):
     assert (done.stderr, done.returncode) == ("", 0)
 
 
-@pytest.mark.parametrize("words", [
-    (0, 1, 1, "logs"), (65, 1, 1, "logs"), ("one", 1, 1, "logs"), (0, 1, "again", "run.trace"),
-    (65, 1, "again", "run.trace"), (2, 1, 1), (2, 1, 1, "logs", 9, 9), ("2x", 1, 1, "logs"),
-    (2, "x", 1, "logs"), (2, 0, 1, "logs"), (2, -1, 1, "logs"), (2, 2**32, 1, "logs"),
-    (2, 1, "x", "logs"), (2, 1, "", "logs"), (2, 1, 2**32, "logs"), (2, 1, 1, "logs", 0),
-    (2, 1, 1, "logs", "9 "), (2, 1, 1, "logs", 2**64), (2, 1, "again", "run.trace", 9)], ids=str)
-def test_words_of_a_search(in_c, tmp_path, words):
-    """A search of no thread, or of more than 64, of no round or of no run, and a word that is no
-    number, are refused as other wrong words are."""
-    [program] = in_c.command("rw_fifo", "EXPLORE")
-    assert answer(program, *words, cwd=tmp_path) == (
-        "", f"usage: {program} THREADS ROUNDS PREEMPTIONS FOLDER [RUNS]\n"
-        f"       {program} THREADS ROUNDS again TRACE\n", 2)
-
-
-@pytest.mark.parametrize("mode", ["OFF", "VALUES", "SEED"])
-@pytest.mark.parametrize("words, status", [
-    ((1, 1, 1), 0), ((64, 1, 1), 0), ((64, 1, 1, 60), 0), ((0, 1, 1), 2), ((65, 1, 1), 2),
-    ((-1, 1, 1), 2), ((2, 1), 2), ((2, 1, 1, 9, 9), 2), ((2, 0, 1), 2), ((2, "x", 1), 2),
-    ((2, 1, "x"), 2), ((2, 1, -1), 2), ((2, 1, 2**64), 2), ((2, 1, 2**64 - 1), 0),
-    ((2, 1, 1, 0), 2), ((2, 1, 1, "1s"), 2)])
-def test_words_of_a_program(in_c, tmp_path, mode, words, status):
-    """A run has 1 to 64 threads, and a round or more. Other words are refused before it begins."""
-    [program] = in_c.command("rw_fifo", mode)
-    done = ran(program, *words[:3], tmp_path / "logs", *words[3:])
-    assert done.stderr == ("" if status == 0 else
-                           f"usage: {program} THREADS ROUNDS SEED FOLDER [SECONDS]\n")
-    assert done.returncode == status
-    count = words[0] if status == 0 and mode != "OFF" else 0
-    assert len(list(tmp_path.glob("logs/*.log"))) == count
-
-
 @pytest.mark.parametrize("example, text, said", FOLLOWED)
 def test_schedule(in_c, tmp_path, example, text, said):
     """The status tells a lock that leaves a schedule from a file that is no schedule of it."""

@@ -58,20 +58,43 @@ def test_records_outside_of_a_run(noting, tmp_path, mode):
     assert (done.stderr, done.returncode) == ("", 0)
 
 
-# The words of a program, in these modes, and the usage that it prints.
-RUNS, SEARCH = "THREADS ROUNDS SEED FOLDER [SECONDS]", "THREADS ROUNDS PREEMPTIONS FOLDER [RUNS]"
+# The words of a program, in these modes, and the usage that it prints. A run has 1 to 64 threads,
+# and a round or more.
+RUNS = "THREADS ROUNDS SEED FOLDER [SECONDS]"
+SEARCH = "THREADS ROUNDS PREEMPTIONS FOLDER [RUNS]\n       IT THREADS ROUNDS again TRACE"
 USAGES = [
+    *(("EXPLORE", words, SEARCH) for words in (
+        (0, 1, 1, "logs"), (65, 1, 1, "logs"), ("one", 1, 1, "logs"), (0, 1, "again", "run.trace"),
+        (65, 1, "again", "run.trace"), (2, 1, 1), (2, 1, 1, "logs", 9, 9), ("2x", 1, 1, "logs"),
+        (2, "x", 1, "logs"), (2, 0, 1, "logs"), (2, -1, 1, "logs"), (2, 2**32, 1, "logs"),
+        (2, 1, "x", "logs"), (2, 1, "", "logs"), (2, 1, 2**32, "logs"), (2, 1, 1, "logs", 0),
+        (2, 1, 1, "logs", "9 "), (2, 1, 1, "logs", 2**64), (2, 1, "again", "run.trace", 9))),
+    *((mode, words, RUNS) for mode in ("OFF", "VALUES", "SEED") for words in (
+        (0, 1, 1, "logs"), (65, 1, 1, "logs"), (-1, 1, 1, "logs"), (2, 1, "logs"),
+        (2, 1, 1, "logs", 9, 9), (2, 0, 1, "logs"), (2, "x", 1, "logs"), (2, 1, "x", "logs"),
+        (2, 1, -1, "logs"), (2, 1, 2**64, "logs"), (2, 1, 1, "logs", 0),
+        (2, 1, 1, "logs", "1s"))),
     ("FOLLOW", (), "SCHEDULES FOLDER"), ("FOLLOW", ("a",), "SCHEDULES FOLDER"),
     ("FOLLOW", ("a", "b", "c"), "SCHEDULES FOLDER"),
     ("VALUES", ("recover",), RUNS), ("VALUES", ("recover", "a", "b"), RUNS),
     ("SEED", ("recover", "a"), RUNS), ("OFF", ("recover", "a"), RUNS), ("OFF", (), RUNS),
-    ("EXPLORE", ("recover", "a"), f"{SEARCH}\n       IT THREADS ROUNDS again TRACE"),
+    ("EXPLORE", ("recover", "a"), SEARCH),
 ]
+
+
+@pytest.mark.parametrize("mode", ["OFF", "VALUES", "SEED"])
+@pytest.mark.parametrize("words", [(1, 1, 1), (64, 1, 1), (64, 1, 1, 60), (2, 1, 2**64 - 1)])
+def test_words_of_a_program(in_c, tmp_path, mode, words):
+    [program] = in_c.command("rw_fifo", mode)
+    assert answer(program, *words[:3], tmp_path / "logs", *words[3:])[1:] == ("", 0)
+    count = 0 if mode == "OFF" else words[0]
+    assert len(list(tmp_path.glob("logs/*.log"))) == count
 
 
 @pytest.mark.parametrize("mode, words, usage", USAGES)
 def test_usage(in_c, tmp_path, mode, words, usage):
-    [program] = in_c.command("ticket", mode)
+    """Wrong words are refused before a run or a search begins."""
+    [program] = in_c.command("rw_fifo", mode)
     done = ran(program, *words, cwd=tmp_path)
     assert done.stderr.replace(str(program), "IT") == f"usage: IT {usage}\n"
     assert (done.stdout, done.returncode, list(tmp_path.iterdir())) == ("", 2, [])
