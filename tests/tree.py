@@ -73,6 +73,12 @@ class Program:
                               **given, **how)
         return done.stdout or self.none, done.stderr or self.none, done.returncode
 
+    def output(self, *words, **how):
+        """The standard output of a run that ends well."""
+        output, *more = self.run(*words, **how)
+        assert more == [self.none, 0], more
+        return output
+
     def write(self, **texts):
         """Writes files into the folder. It removes an old file first, since a file system may write
         a truncated one to the disk at once."""

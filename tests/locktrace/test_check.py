@@ -35,8 +35,7 @@ def helps():
 
 @pytest.mark.parametrize("command", helps())
 def test_help(tracer, command):
-    output, *more = tracer.run(command, "--help")
-    assert more == ["", 0]
+    output = tracer.output(command, "--help")
     said, _, rest = output.partition(f"\n\nUsage: locktrace {command} ")
     words = [" ".join(line.split()) for line in rest.splitlines() if line.startswith("  ")]
     assert [f"{command}: {said}", *words] == [*helps()[command], "-h, --help Print help"]
@@ -93,12 +92,10 @@ def test_summary(tracer):
     rounds = "lock ticket threads 1 bits 2\n" + "".join(
         f"0 acquire\n0 add next_ticket found {k % 4}\n0 read\n0 release\n0 read\n0 write\n"
         for k in range(9))
-    output, *more = tracer.run("check", "--summary", stdin=rounds)
-    assert more == ["", 0]
+    output = tracer.output("check", "--summary", stdin=rounds)
     assert has(output, "-: 1 thread, 54 moves", " 2 wraps of the counter")
     polls = "lock ticket threads 2\n0 acquire\n0 add\n0 read\n1 acquire\n1 add\n1 read\n1 read\n"
-    output, *more = tracer.run("check", "--summary", stdin=polls)
-    assert more == ["", 0]
+    output = tracer.output("check", "--summary", stdin=polls)
     assert " 2 waits" in output and "warning" not in output
     output, *more = tracer.run("check", "--summary", "absent")
     assert more == ["", 3]

@@ -43,8 +43,7 @@ def program(tracer):
 def test_rounds(program):
     assert program.run("cover", "ticket") == (TICKET, "", 0)
     assert json.loads(program.run("cover", "--format", "json", "ticket")[0])["wraps"] == 2
-    output, *more = program.run("cover", "late", "ticket", "late")
-    assert more == ["", 0]
+    output = program.output("cover", "late", "ticket", "late")
     assert output.startswith(TICKET + "mcs: 7 of 16 kinds of transition, in 18 ")
     assert f"         2  {FAILED}\n" in output
 
@@ -85,9 +84,7 @@ def test_no_trace(program):
 
 def counted(program, schedule):
     """The count of each kind for a schedule, and the kinds with the commands that find them."""
-    output, *more = program.run("cover", "--format", "json", stdin=schedule)
-    assert more == ["", 0]
-    kinds = json.loads(output)["kinds"]
+    kinds = json.loads(program.output("cover", "--format", "json", stdin=schedule))["kinds"]
     return {kind["name"]: kind["count"] for kind in kinds}, [
         (kind["name"], kind.get("find")) for kind in kinds]
 

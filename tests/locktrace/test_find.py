@@ -156,9 +156,8 @@ def without_count(schedule):
 
 def test_position_in_a_schedule(tracer):
     """A comment names the line after which the facts hold: at the start that is the header."""
-    output, *more = tracer.run("find", "ticket", "2", "is now_serving 0, queue -", "1 add",
-                               "is hold 1, 0 at Idle", "not 0", "1 write")
-    assert more == ["", 0]
+    output = tracer.output("find", "ticket", "2", "is now_serving 0, queue -", "1 add",
+                           "is hold 1, 0 at Idle", "not 0", "1 write")
     assert without_count(output) == (
         "# A shortest run of 2 threads with 1 round each that has these lines, in this order:\n"
         "# after line 7: is now_serving 0, queue -\n# line 9: 1 add\n"
@@ -175,9 +174,8 @@ def test_not_without_a_next_line(tracer):
 
 def test_not_in_a_schedule(tracer):
     """A comment in the schedule names the line before which a `not` holds."""
-    output, *more = tracer.run("find", "mcs", "2", "0 read next found 0", "not * cas failed",
-                               "not 1 read", "0 write locked of 1")
-    assert more == ["", 0]
+    output = tracer.output("find", "mcs", "2", "0 read next found 0", "not * cas failed",
+                           "not 1 read", "0 write locked of 1")
     assert without_count(output).startswith(
         "# A shortest run of 2 threads with any number of rounds each that has these lines, in "
         "this order:\n# line 16: 0 read next found 0\n# before line 20: not * cas failed\n"
@@ -187,8 +185,7 @@ def test_not_in_a_schedule(tracer):
 
 def test_not_before_a_position(tracer):
     """If a position meets the next line, the comment names the line after which it is there."""
-    output, *more = tracer.run("find", "ticket", "2", "1 add", "not 0", "is hold 1")
-    assert more == ["", 0]
+    output = tracer.output("find", "ticket", "2", "1 add", "not 0", "is hold 1")
     assert without_count(output) == (
         "# A shortest run of 2 threads with 1 round each that has these lines, in this order:\n"
         "# line 7: 1 add\n# up to line 8: not 0\n# after line 8: is hold 1\n"
@@ -223,9 +220,8 @@ def test_sketch_that_no_run_has(tracer, words, said):
 
 
 def test_rounds_of_a_text(tracer):
-    output, *more = tracer.run("find", "-", stdin="#! rounds 2\nlock mcs threads 2\n0 cas done\n\n"
-                               "0 swap tail found 0\n")
-    assert more == ["", 0]
+    output = tracer.output("find", "-", stdin="#! rounds 2\nlock mcs threads 2\n0 cas done\n\n"
+                           "0 swap tail found 0\n")
     assert without_count(output).startswith(
         "# A shortest run of 2 threads with 2 rounds each that has these lines, in this order:\n"
         "# line 10: 0 cas done\n# line 13: 0 swap tail found 0\nlock mcs threads 2\n0 acquire\n")
@@ -235,9 +231,8 @@ def test_rounds_of_a_text(tracer):
 
 
 def test_any_rounds_of_a_text(tracer):
-    output, *more = tracer.run("find", "-", stdin="#! rounds any\nlock mcs threads 1\n0 cas done\n"
-                               "0 cas done\n0 swap\n")
-    assert more == ["", 0]
+    output = tracer.output("find", "-", stdin="#! rounds any\nlock mcs threads 1\n0 cas done\n"
+                           "0 cas done\n0 swap\n")
     assert without_count(output).startswith(
         "# A shortest run of 1 thread with any number of rounds that has these lines, in this "
         "order:\n# line 11: 0 cas done\n# line 17: 0 cas done\n# line 20: 0 swap\n")

@@ -30,10 +30,8 @@ TICKET_DRAWN = r"""digraph "ticket, 1 thread with 1 round" {
 
 @pytest.mark.parametrize("row, counts, _", list(search_rows.spaces()), ids=str)
 def test_counts(tracer, row, counts, _):
-    output, *more = tracer.run("space", row.lock, row.threads, "--rounds", row.rounds, "--bits",
-                               row.bits, "--format", "json")
-    assert more == ["", 0]
-    found = json.loads(output)
+    found = json.loads(tracer.output("space", row.lock, row.threads, "--rounds", row.rounds,
+                                     "--bits", row.bits, "--format", "json"))
     assert tuple(found[name] for name in counts._fields) == counts
     assert found["dead_ends"] == 0
 
@@ -97,9 +95,8 @@ def test_labels(tracer):
 def test_drawing(tracer, lock, rounds):
     """The drawn graph equals the oracle's, up to the numbers of states. Labels count rounds only if
     rounds have a bound."""
-    output, *more = tracer.run("space", lock, "2", "--rounds", rounds, "--bits", "2",
-                               "--format", "dot")
-    assert more == ["", 0]
+    output = tracer.output("space", lock, "2", "--rounds", rounds, "--bits", "2",
+                           "--format", "dot")
     assert ("rounds begun" in output) == (rounds == 1)
     graph, space = graph_of(output), searched(search_rows.Space(lock, 2, rounds, 2))
     assert list(graph) == list(range(len(space)))

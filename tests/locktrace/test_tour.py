@@ -71,8 +71,7 @@ def test_two_rounds_of_8_bits(tracer):
 def test_every_transition(tracer, lockreplay, lock, threads):
     """Each schedule is accepted and ends at rest, and together they take every transition."""
     folder = tracer.folder / "made"
-    output, *more = tracer.run("tour", lock, threads, "-o", folder)
-    assert more == ["", 0]
+    output = tracer.output("tour", lock, threads, "-o", folder)
     paths = sorted(folder.glob("*.schedule"))
     runs = [moves_of(path.read_text()) for path in paths]
     space = searched(search_rows.Space(lock, threads, 1, 64))
@@ -105,8 +104,7 @@ def test_files_of_an_earlier_tour(tracer):
     with open(folder / LIST, "a", encoding="utf-8") as names:
         names.write("notes.txt\na.schedule\n../outside.schedule\n.schedule\n0000.schedule\n")
     for _ in range(2):
-        output, *more = tracer.run("tour", "ticket", "1", "-o", folder)
-        assert output and more == ["", 0]
+        assert tracer.output("tour", "ticket", "1", "-o", folder)
         assert files_in(folder) == {**kept, "0001.schedule": TICKET, LIST: "0001.schedule\n"}
     assert (tracer.folder / "outside.schedule").read_text() == "outside\n"
 
@@ -126,8 +124,7 @@ def test_links_are_not_followed(tracer, name):
     own.write_text("own\n")
     folder.mkdir()
     (folder / name).symlink_to(own)
-    output, *more = tracer.run("tour", "ticket", "1", "-o", folder)
-    assert output and more == ["", 0]
+    assert tracer.output("tour", "ticket", "1", "-o", folder)
     assert own.read_text() == "own\n"
     assert files_in(folder) == {"0001.schedule": TICKET, LIST: "0001.schedule\n"}
 

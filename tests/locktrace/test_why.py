@@ -82,8 +82,7 @@ def test_run(tracer, lockreplay, lock, change):
     """A run has as many moves as its verdict says, and does the harm that the verdict names. It may
     differ from the run that the search finds. It is a schedule of the changed lock, and of no
     other."""
-    output, *more = tracer.run("why", lock, 2, "--runs")
-    assert more == ["", 0]
+    output = tracer.output("why", lock, 2, "--runs")
     told, *lines = parts_of(output)[1][change].split("\n  ")
     kind, number = read(told)
     space = Searched(lock, 2, ROUNDS, change)
