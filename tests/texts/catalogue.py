@@ -99,6 +99,8 @@ OPEN, (OF, *PARTS) = (found(r'"(\w+)"', between(DUE, before, r"\];\n"))
 WORD_NAMES = words("WordName", f"{TRACE}/names.rt")
 PLACES = {variant: word for variant, word in WORD_NAMES.items() if word in OPEN}
 
+# A map from each phase to the type that it carries, or "".
+CARRIED = dict(found(r"^    (\w+)(?:\((\w+)\))?,$", between(read(ENUMS), r"enum Phase \{", r"^\}")))
 MOVES, RESULTS, REFUSED = map(numbers, ("move_number", "outcome_number", "refusal_number"))
 DIFFERS, OF_TEXTS, OF_SIZE = map(numbers, ("difference_number", "fault_number", "fault_codes"))
 FAULTS = {**OF_TEXTS, **OF_SIZE}

@@ -5,8 +5,8 @@
     tests/texts/generate.py --check    says what differs, and ends with 1 if something does
 
 A region is between two comments of the file's language, `generated: LISTS` and `end`. Nobody edits
-it by hand. sentences.py, tables.py and modules.py fill places without such comments, and by_hand.py
-compares words that people write in several places.
+it by hand. places.py and modules.py fill places without such comments, and by_hand.py compares
+words that people write in several places.
 """
 import re
 import sys
@@ -21,7 +21,9 @@ from catalogue import (BITS, CALLS, DAY, DIFFERS, EXPECTED, FAULTS, LIMITS, LOCK
                        MOVES, NO_WORD, OF_TEXTS, OUTCOMES, PARTS, PHASES, PLACES, REFUSED,
                        RESULTS, STEPS, TOP, TRANSITIONS, VERSION, calls_of, found, is_monitor,
                        read, title_of, words_of)
+from dispatches import DISPATCHES
 from sentences import SENTENCES
+from steps import STEP_TABLES
 from tables import TABLES
 
 REGION = re.compile(
@@ -166,6 +168,9 @@ REGIONS = {
 }
 
 
+WITHOUT_MARKS = SENTENCES + TABLES + STEP_TABLES + DISPATCHES
+
+
 def due_in(lists, form, margin):
     """The text that is due in a region."""
     words = [each for name in lists.split(", ") for each in LISTS[name]]
@@ -205,7 +210,7 @@ def faults_in(path, is_check):
 def faults(is_check):
     """The faults of all files."""
     return [*(it for path in REGIONS for it in faults_in(path, is_check)),
-            *places.faults(SENTENCES + TABLES, is_check), *modules.faults(is_check),
+            *places.faults(WITHOUT_MARKS, is_check), *modules.faults(is_check),
             *by_hand.faults()]
 
 

@@ -11,7 +11,7 @@ from catalogue import TOP
 class Place(NamedTuple):
     path: str
     before: str
-    after: str
+    after: str  # "" is the end of the file
     due: str  # the text between the two
 
 
@@ -20,9 +20,10 @@ def filled(text, place):
     head, *rest = text.split(place.before)
     if len(rest) != 1 or place.after not in rest[0]:
         return None
-    there, tail = rest[0].split(place.after, 1)
+    end = rest[0].index(place.after) if place.after else len(rest[0])
+    there, tail = rest[0][:end], rest[0][end:]
     due = there if there.split() == place.due.split() else place.due
-    return "".join((head, place.before, due, place.after, tail))
+    return "".join((head, place.before, due, tail))
 
 
 def faults_at(place, is_check):

@@ -9,9 +9,16 @@ from places import Place
 
 VARIANTS = list(LOCKS)
 MODULES = {variant: name.replace("-", "_") for variant, name in LOCKS.items()}
-NAMED = {text: variant for variant, text in WORD_NAMES.items()}
 ELSE = "\n    else "
 TYPE = "use Rattle.lk_locks.specs.declared.kinds.LockKind"
+
+
+def named(word):
+    """The value of WordName for a word of docs/LOCKS.md."""
+    for variant, text in WORD_NAMES.items():
+        if text == word:
+            return variant
+    raise LookupError(f"WordName of lk_trace has no value for {word}")
 
 
 def uses(variants):
@@ -39,7 +46,7 @@ def in_record(variant):
 def defined(variant):
     """(name, name in the definitions of the lock) of each word of the lock itself."""
     own, _ = words_of(LOCKS[variant])
-    return [(NAMED[name], MODULES[variant] + "." + re.sub("(?=[A-Z])", "_", name).lower())
+    return [(named(name), MODULES[variant] + "." + re.sub("(?=[A-Z])", "_", name).lower())
             for name in own]
 
 
@@ -49,7 +56,7 @@ def arms(variant):
                   for place, (name, _) in enumerate(defined(variant)))
     if not in_record(variant):
         return own
-    first, second = (NAMED[name] for name in words_of(LOCKS[variant])[1])
+    first, second = (named(name) for name in words_of(LOCKS[variant])[1])
     front = f"        (LockKind::{variant}, 1..=128)"
     return (f"{own}{front} if place % 2 == 1 => Some(WordName::{first}((place / 2) as u8)),\n"
             f"{front} => Some(WordName::{second}((place / 2 - 1) as u8)),\n")
@@ -58,7 +65,7 @@ def arms(variant):
 def places(variant):
     """The place of each name, as equations."""
     own = "".join(f"place_of {variant} {name} = {word}\n" for name, word in defined(variant))
-    return own + "".join(f"place_of {variant} ({NAMED[name]} thread) = {MODULES[variant]}.{name} "
+    return own + "".join(f"place_of {variant} ({named(name)} thread) = {MODULES[variant]}.{name} "
                          "thread\n" for name in words_of(LOCKS[variant])[1])
 
 
@@ -66,7 +73,7 @@ def names(variant):
     """The name at each place, as an equation."""
     last = "None"
     if in_record(variant):
-        first, second = (NAMED[name] for name in words_of(LOCKS[variant])[1])
+        first, second = (named(name) for name in words_of(LOCKS[variant])[1])
         last = (f"(if nat_lt 128 place then None{ELSE}(if place % 2 == 1 "
                 f"then Some ({first} (place / 2)){ELSE}Some ({second} (place / 2 - 1))))")
     for name, word in reversed(defined(variant)):

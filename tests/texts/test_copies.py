@@ -13,8 +13,6 @@ import generate
 import modules
 import places
 from catalogue import CALLS, LOCKS, code_of, found, read, words_of
-from sentences import SENTENCES
-from tables import TABLES
 
 SPECS = "crates/lk_locks/specs"
 KINDS = {"Read": "read", "Write": "write", "Swap": "swap", "CompareAndSwap": "cas",
@@ -49,7 +47,7 @@ def test_regions(path):
     assert generate.faults_in(path, is_check=True) == []
 
 
-@pytest.mark.parametrize("place", SENTENCES + TABLES, ids=lambda it: it.path)
+@pytest.mark.parametrize("place", generate.WITHOUT_MARKS, ids=lambda it: it.path)
 def test_place(place):
     assert places.faults_at(place, is_check=True) == []
 
