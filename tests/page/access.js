@@ -51,8 +51,9 @@ function onPhone() {
   const signs = count('#sign-list > span');
   closeDialog('keys');
   click('#menu');
-  const tools = all('.tools button').every((one) => (
-    one.checkVisibility() && rect(one).left >= 0 && rect(one).right <= innerWidth));
+  const isFree = (one) => document.elementFromPoint(rect(one).left + 9, middleY(one)) === one;
+  const tools = all('.tools button').every((one) => one.checkVisibility()
+    && rect(one).left >= 0 && rect(one).right <= innerWidth && isFree(one));
   click('#menu');
   return { slider: rect(byId('slider')).width, keys, signs, tools };
 }

@@ -38,6 +38,9 @@ function lanesInView() {
 const markInView = (move) => all(`#lanes [data-move="${move}"] .word-label`)
   .some((one) => inside(rect(one), rect(byId('lanes'))));
 
+const lanesSeen = (threads) => threads.map((thread) => all(`#lane-${thread} .lane-name`)
+  .some((one) => inside(rect(one), rect(byId('lanes')))));
+
 const isChosenInView = (thread) => {
   const chosen = document.querySelector(`#lane-${thread} .chosen`);
   return chosen !== null && inside(rect(chosen), rect(byId('lanes')));
@@ -46,6 +49,14 @@ const isChosenInView = (thread) => {
 // The moves with a number above the lanes, and the moves in the lanes.
 const movesInView = () => ['numbers', 'lanes'].map((id) => all(`#${id} [data-move]`)
   .map((one) => Number(one.dataset.move)).sort((one, other) => one - other));
+
+// The numbers of moves that touch the number before them.
+function numbersOnNumbers() {
+  const boxes = all('#numbers .number').map((one) => ({ ...boxOf(one), text: one.textContent }))
+    .sort((one, other) => one.left - other.left);
+  return boxes.filter(({ left }, at) => at > 0 && left < boxes[at - 1].right)
+    .map(({ text }) => text);
+}
 
 const cut = () => all('#lanes .found, #memory-picture text')
   .map((one) => one.lastChild?.textContent ?? '').filter((one) => one.endsWith('…'));

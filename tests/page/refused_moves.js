@@ -13,6 +13,13 @@ function farFromColumn() {
   return Math.round((cross.left + cross.right - column.left - column.right) / 2);
 }
 
+// How far the last sign of a failure on the slider is from its knob.
+function lastFailure() {
+  const ticks = all('#slider-picture .tick.fails');
+  return ticks.length && Math.round(middleX(ticks.at(-1))
+    - middleX(document.querySelector('#slider-picture .knob')));
+}
+
 const focusedChoice = () => ({ ...document.activeElement.dataset });
 
 // The marked words of memory, each with its mark.

@@ -131,6 +131,9 @@ def test_the_lane_of_a_refused_move_is_in_view(page):
     assert page.js("markInView", 20) and page.js("count", "#lane-0") == 0
     page.go(21)
     assert page.js("markInView", 21)
+    for move in (10, 11, 12, 11, 10, 9):
+        page.go(move)
+        assert page.js("lanesSeen", [move - 2, move - 1, move]) == [True] * 3, "with its neighbours"
 
 
 # Twenty threads take the lock one after another, in six moves each.
@@ -243,6 +246,36 @@ def test_the_line_a_thread_makes_next(page, lock, call, line):
     page.open()
     page.show(f"lock {lock} threads 1\n0 {call}\n", 1)
     assert page.js("texts", "#code-lines .code-line:has(.disc) code") == [line]
+
+
+def test_what_is_read_of_many_words(page):
+    """Of 129 words of memory the first 33 are read out."""
+    page.open()
+    page.show("lock mcs threads 64\n0 acquire\n", 1)
+    said = page.js("attribute", "#memory-picture svg", "aria-label")
+    assert said.count(" = ") == 33 and said.endswith(", T15.locked = 0"), said
+
+
+def test_who_is_folded_in_a_list(page):
+    """A fold says how many threads it has, and its tip which."""
+    page.open()
+    page.js("open", [schedule("ticket", 16)[0], "lessons", 999])
+    whole = page.js("texts", "#now [data-queue] .pill")
+    [fold] = page.js("texts", "#now [data-queue] .folded")
+    folded = page.js("attribute", "#now [data-queue] .folded", "title").split(", ")
+    assert fold.startswith(f"{len(folded)} ") and len(whole) <= 9
+    assert sorted(whole + folded) == sorted(f"thread {one}" for one in range(16))
+
+
+def test_numbers_of_narrow_columns(page):
+    """Of moves with three digits every second has its number, and the shown one its own."""
+    page.open()
+    page.js("open", [ROUNDS, "lessons", 101])
+    page.press(*"-" * 12)
+    numbers = page.js("texts", "#numbers .number")
+    assert page.js("numbersOnNumbers") == [] and "101" in numbers, numbers
+    assert [int(one) % 2 for one in numbers if one != "101"] == [0] * (len(numbers) - 1), numbers
+    assert not {"100", "102"} & set(numbers) and {"98", "104"} <= set(numbers), numbers
 
 
 def test_marks_beside_a_line(page):

@@ -43,6 +43,7 @@ def check_scene(page, count, last, parts):
     assert shown["position"] == page.js("attribute", "#slider", "aria-valuetext") == "refused"
     assert page.js("attribute", "#slider", "max") == page.js("value", "#slider") == str(count + 1)
     assert shown["spoken"].startswith("refused"), shown
+    assert abs(page.js("lastFailure")) <= 1 and page.js("count", "#slider-picture .fails") > 0
 
 
 @pytest.mark.parametrize("name, count, last, parts", LESSONS, ids=[row[0] for row in LESSONS])

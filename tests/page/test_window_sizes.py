@@ -138,6 +138,23 @@ def test_how_high_lanes_are(page):
         assert page.js("heightOfLanes") == lanes, (width, height)
 
 
+SIX = "lock ticket threads 6\n" + "".join(f"{thread} acquire\n" for thread in range(6))
+# The share of the window's height that six lanes have in each arrangement.
+SHARES = [
+    (1440, 900, "", 0.29), (1366, 700, "", 0.26), (1024, 768, "", 0.245), (1024, 590, "", 0.2),
+    (820, 1180, "", 0.2), (390, 844, "", 0.145), (1440, 900, "&show=time,code", 0.29),
+    (700, 900, "&show=time,code", 0.24)]
+
+
+def test_how_high_six_lanes_are(page):
+    for width, height, look, share in SHARES:
+        page.resize(width, height)
+        page.open(f"{LESSON}{look}")
+        page.show(SIX, 6)
+        page.js("inMode", "lessons")
+        assert page.js("heightOfLanes") == round(share * height), (width, height, look)
+
+
 def test_the_line_in_the_lowest_window(page):
     """A phone on its side is too low for the page, but the line is in view all the same."""
     page.resize(844, 390)
