@@ -104,7 +104,8 @@ CARRIED = dict(found(r"^    (\w+)(?:\((\w+)\))?,$", between(read(ENUMS), r"enum 
 MOVES, RESULTS, REFUSED = map(numbers, ("move_number", "outcome_number", "refusal_number"))
 DIFFERS, OF_TEXTS, OF_SIZE = map(numbers, ("difference_number", "fault_number", "fault_codes"))
 FAULTS = {**OF_TEXTS, **OF_SIZE}
-PHASES, HOLDERS = map(numbers, ("phase_code", "holding_code"))
+HOLDERS = numbers("holding_code")
+PHASES = {phase: number for number, phase in enumerate(CARRIED)}
 LOCK_CODES = {text: number for number, text in enumerate(LOCKS.values())}
 EXPECTED = {name.lower(): number for name, number in numbers("expected_code").items()}
 # The answers of the page's module, the bits of a record's thread, and the number for no word.

@@ -22,6 +22,7 @@ from catalogue import (BITS, CALLS, DAY, DIFFERS, EXPECTED, FAULTS, LIMITS, LOCK
                        RESULTS, STEPS, TOP, TRANSITIONS, VERSION, calls_of, found, is_monitor,
                        read, title_of, words_of)
 from dispatches import DISPATCHES
+from phases import PHASE_TABLES
 from sentences import SENTENCES
 from steps import STEP_TABLES
 from tables import TABLES
@@ -168,7 +169,7 @@ REGIONS = {
 }
 
 
-WITHOUT_MARKS = SENTENCES + TABLES + STEP_TABLES + DISPATCHES
+WITHOUT_MARKS = SENTENCES + TABLES + STEP_TABLES + DISPATCHES + PHASE_TABLES
 
 
 def due_in(lists, form, margin):
