@@ -1,7 +1,7 @@
 // Tests in Node the facts that the page reads off a lock's code, names and records: the names of
 // threads, the first difference of two runs, the activities of threads, the write that ended each
-// wait, the captions of memory, the wraps of counts, and the answers of the quiz. The values were
-// made by hand, from docs/LOCKS.md and reports.
+// wait, the captions of memory, the wraps of counts, the answers of the quiz, and what is said of
+// signs that cannot be seen. The values were made by hand, from docs/LOCKS.md and reports.
 //
 //     node tests/page/model.mjs MODULE.wasm
 
@@ -18,8 +18,10 @@ import { Run } from '../../page/src/model/run.js';
 import { Session } from '../../page/src/model/session.js';
 import { spansOf, unlinkedSpans } from '../../page/src/model/spans.js';
 import { learnKinds } from '../../page/src/model/kinds.js';
+import { unseenAdvice } from '../../page/src/model/unseen_signs.js';
 import { lockOf } from '../../page/src/locks/locks.js';
 import { sentence } from '../../page/src/locks/sentences.js';
+import { texts } from '../../page/src/texts/texts.js';
 import { sheetPlan } from '../../page/src/view/sheet_plan.js';
 import { kindsOf } from '../../page/build/kinds.mjs';
 import { bytesOf, examples, machineOf, module } from './node.mjs';
@@ -138,6 +140,16 @@ for (const { name, text } of examples()) {
   }
 }
 assert.ok(asked > 60, String(asked));
+// Of three rounds of one thread each step has a question, the kinds in turn, if possible on what
+// changes. The queue is 0 four times, so the last three of these are left out, and so is the last
+// of three questions who holds, of which two are answered with 0.
+const THREE = new Run(machine, bytesOf(
+  ['lock ticket threads 1', ...ROUND, ...ROUND, ...ROUND, ''].join('\n')));
+assert.deepEqual([...questionsOf(THREE).values()].map(({ move, kind, truth, same }) => (
+  [move, kind, truth, same])), [
+  [6, 'outcome', 'left', false], [9, 'outcome', 'entered', false], [11, 'outcome', 'moved', true],
+  [15, 'outcome', 'entered', false], [3, 'holders', '0', false], [12, 'holders', '-', false],
+  [2, 'queue', '0', false], [18, 'queue', '-', false]]);
 // Questions come from the first 400 moves.
 const eighty = new Run(machine, bytesOf(
   ['lock ticket threads 1', ...Array(80).fill(ROUND).flat(), ''].join('\n')));
@@ -175,3 +187,30 @@ for (const [move, from, to] of PARTS) {
 assert.deepEqual([10, 25, 60].map((count) => planOf(2, count, 0, true).strip)
   .map(({ column, inStrip }) => [column, inStrip]), [[70, 15], [43, 25], [34, 32]]);
 assert.deepEqual([planOf(2, 0, 0).from, planOf(2, 0, 0).to], [1, 0]);
+
+// Of signs that cannot be seen the first that is wrong with a line, and the line without it, or
+// null if that is not plain.
+/** @type {[string, string, string | null][]} */
+const UNSEEN = [
+  ['l\0o\0', 'utf16', null], ['\0l\0o', 'utf16', null], ['\xff\xfel', 'utf16', null],
+  ['\xfe\xffl', 'utf16', null], ['0 a\rdd', 'returnsAlone', '0 a\ndd'],
+  ['0 add\r\r1 add\r', 'returnsAlone', '0 add\n1 add\n'],
+  ['\ufefflock mcs', 'mark', 'lock mcs'], ['0 add\r\r', 'returns', '0 add'],
+  ['0\t\tadd\t1', 'tab', '0 add 1'], ['0 add  ', 'blankEnd', '0 add'],
+  ['  0 add', 'blankStart', '0 add'], ['0   add  1', 'twoBlanks', '0 add 1'],
+  ['0\u00a0add\u00a01', 'noBreak', '0 add 1'],
+];
+for (const [line, says, mended] of UNSEEN) {
+  const returns = says === 'returns' || undefined;
+  assert.deepEqual(unseenAdvice(line), { say: [texts.faults[says]], mended, returns }, line);
+}
+const CODES = { '\x01': '0001', '\x08': '0008', '\x0b': '000B', '\x0c': '000C', '\x0e': '000E',
+  '\x1f': '001F', '\x7f': '007F', '\u200b': '200B', '\u200f': '200F', '\u2060': '2060',
+  '\ufeff': 'FEFF' };
+for (const [sign, code] of Object.entries(CODES)) {
+  assert.deepEqual(unseenAdvice(`0 a${sign}dd${sign}`), { mended: '0 add', returns: undefined,
+    say: [`There is a character that cannot be seen, U+${code}.`] });
+}
+assert.deepEqual(unseenAdvice('0 \u00e4dd'), { mended: null, returns: undefined,
+  say: ['\u201c\u00e4\u201d is not an ASCII character, but U+00E4.'] });
+assert.equal(unseenAdvice('0 add'), null);

@@ -237,11 +237,13 @@ def test_who_stands_where_is_not_drawn(page):
     who is about to pass the lock on."""
     page.open()
     records = ("texts", "#memory-picture .record .name")
+    standings = ("texts", "#memory-picture .record .standing")
     page.show(f"{ASKED.format(7)}lock mcs threads 3\n{ONE_AFTER_THE_OTHER}", 7)
-    assert page.js(*records) == ["T0", "T1", "T2"]
+    assert page.js(*records) == ["T0", "T1", "T2"] and page.js(*standings) == ["?", "?", "?"]
     assert page.js("count", "#memory-picture .link") == 1, "the tail is a word"
     page.press("a")
     assert page.js(*records) == ["T1", "T0", "T2"]
+    assert page.js(*standings) == ["holds", "queue", "idle"]
     assert page.js("count", "#memory-picture .link") == 2
     page.show(f"{ASKED.format(7)}lock mcs threads 12\n{ONE_AFTER_THE_OTHER}", 7)
     assert page.text("#memory-note") == "" and len(page.js(*records)) == 12

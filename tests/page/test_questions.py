@@ -117,6 +117,16 @@ def test_who_is_in_the_queue_is_not_drawn(page):
     assert [page.js(*one) for one in discs] == [0, 1, 1]
 
 
+def test_who_is_announced_is_not_said(page):
+    """At the monitor an announced writer wants to write, like one that is not, as a question asks
+    at move 4."""
+    page.open("#lesson=fifo-reader-waits-behind-writer&move=4")
+    wants = ("texts", "#memory-picture .wants title")
+    assert page.js(*wants) == ["wants to write"]
+    page.press("a")
+    assert page.js(*wants) == ["announced, awaits the readers"]
+
+
 def test_one_prompt(page):
     """The button alone names the key that shows the answer."""
     page.open("#lesson=ticket-hand-over&move=5")

@@ -355,7 +355,9 @@ def test_what_there_is_to_do(page, look, box):
     left. During a question it shows only the form."""
     page.open(f"#lesson=ticket-hand-over&move=0{look}")
     page.press("q")
-    assert page.text(f"{box} .quiz-how").startswith("Go on with →: before move 2 it is asked"), box
+    assert page.text(f"{box} .quiz-how") == (
+        "Go on with →: before move 2 it is asked what comes. A wrong answer takes a point away. "
+        "Q ends the quiz."), box
     page.press("ArrowRight")
     assert page.js("count", f"{box} .quiz-how") == 0 and page.js("count", "#quiz-form") == 1
     assert page.js("focused") == "input"

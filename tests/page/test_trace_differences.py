@@ -56,6 +56,9 @@ DIFFERENT = {
     "a word of no thread": (
         "lock mcs threads 2", "0 acquire; 0 write next of 9", "next of 9", "OtherWord", [
             "The recorded run: write on next of 9. The lock here: write on next of 0."]),
+    "a word of no thread in place of the tail": (
+        "lock mcs threads 2", "0 acquire; 0 write; 0 swap next of 9", "next of 9", "OtherWord", [
+            "The recorded run: swap on next of 9. The lock here: swap on tail."]),
     "a compare-and-swap that should fail": (
         "lock mcs threads 2", LINKED + "0 release; 0 read; 0 cas tail done", "done",
         "WroteOther", [

@@ -262,7 +262,12 @@ def test_a_split_step(page):
     page.press("End")
     shown = page.shown(position="5 of 5")
     assert shown["text"].splitlines()[-5:] == ["0 acquire", "0 add", "1 acquire", "1 add", "1 read"]
-    assert page.text("#now .own-say").startswith("The changed lock makes “1 AwaitTurn(0)” here.")
+    changed = "Changed here: TakeTicket, if it is a load and then a store."
+    said = {2: changed, 4: changed, 5: "The changed lock makes “1 AwaitTurn(0)” here. The changed "
+            "lock has gone wrong: 7 moves, and thread 1 enters while the queue is 0,1."}
+    for move in range(1, 6):
+        page.go(move)
+        assert page.text("#now .own-say") == said.get(move, ""), move
 
 
 @pytest.mark.parametrize("lock", LOCKS)
