@@ -127,6 +127,14 @@ const wraps = Array.from({ length: four.count }, (_, at) => at + 1)
   .filter((move) => sentence({ run: four, names: new Names() }, move).endsWith(WRAPS));
 assert.deepEqual(wraps, [20, 24]);
 
+// A sentence has the whole names of threads that have none of their own.
+const joins = new Run(machine, bytesOf(['lock mcs threads 2', '0 acquire', '0 write', '0 swap',
+  '1 acquire', '1 write', '1 swap', '1 write', '1 write', ''].join('\n')));
+assert.deepEqual([6, 8].map((move) => sentence({ run: joins, names: new Names() }, move)), [
+  'Thread 1 swaps the tail and finds thread 0; it is in the queue from here on, though no word of '
+    + "thread 0's record says so.",
+  "Thread 1 writes the link: thread 0's next now points to thread 1."]);
+
 // Of the questions of a kind no answer is right for more than half, and "as before" neither.
 let asked = 0;
 for (const { name, text } of examples()) {

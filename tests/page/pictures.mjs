@@ -64,9 +64,9 @@ const SHAPES = {
 function drawn(lock, moves, wishes) {
   const session = new Session(machine, lines);
   session.open(bytesOf([lock, ...moves, ''].join('\n')), null, Infinity);
-  const view = session.view({ ...wishes, scale: 1, answered: true });
+  const view = session.view({ scale: 1, answered: true, ...wishes });
   const picture = lockOf(view.run).draw(view, view.run.state(view.move));
-  const shapes = { height: picture.height };
+  const shapes = { height: picture.height, note: picture.note };
   for (const tag of tagsOf(picture.text).filter(({ name }) => name in SHAPES)) {
     const kind = `${ofTag(tag, 'class') ?? ''} ${ofTag(tag, 'text-anchor') ?? ''}`;
     (shapes[tag.name] ??= []).push(
@@ -174,7 +174,7 @@ check('ticket, served', ALL_BITS, [...TICKETS.slice(0, 3), '0 release', '0 read'
 const SWAPPED = ['0 acquire', '0 write', '0 swap', '1 acquire', '1 write', '1 swap'];
 const HEAD = 'M0 10a10 10 0 0 1 10 -10h136a10 10 0 0 1 10 10v22h-156z';
 check('mcs, wide', 'lock mcs threads 3', SWAPPED, wide(700), {
-  height: 258,
+  height: 258, note: '',
   rect: ['word changed: 70 24 86 28', 'frame: 19 86 156 108', 'word: 90 126 74 28',
     'word: 90 159 74 28', 'frame: 263 86 156 108', 'plate: 269 90 144 23', 'word: 334 126 74 28',
     'word: 334 159 74 28', 'own: 263.5 206 155 28', 'frame: 507 86 156 108', 'word: 578 126 74 28',
@@ -306,7 +306,7 @@ const COUNTS = ['hand inner: M104 160L104 131', 'hand outer: M135.3 160L150.4 16
 const FIFO = 'lock rw-fifo threads 3 bits';
 check('fifo, wide', `${FIFO} 2`, ANNOUNCED, wide(768), {
   height: 246,
-  rect: ['word: 24 40 116 28', 'word: 156 40 116 28', 'word: 288 40 70 28', 'room: 214 92 250 76'],
+  rect: ['word: 24 40 108 28', 'word: 144 40 108 28', 'word: 264 40 70 28', 'room: 214 92 250 76'],
   path: [...COUNTS, 'hand outer: M366 46h26', 'hand inner: M366 66h26'],
   circle: ['rim: 104 160 58', ': 104 102 15', ': 162 160 15', ': 104 218 15', ': 46 160 15',
     ': 238 142 13', ': 501 64 13', ': 501 98 13'],
@@ -319,7 +319,7 @@ const monitor = (bits, width) => {
     height].join(', ');
 };
 const MONITORS = [[2, 768, '488 38, 246'], [2, 767, '218 194, 276'], [2, 464, '218 194, 276'],
-  [2, 463, '24 286, 368'], [8, 662, '382 38, 180'], [8, 661, '298 106, 188'],
+  [2, 463, '24 286, 368'], [8, 638, '358 38, 180'], [8, 637, '298 106, 188'],
   [8, 578, '298 106, 188'], [8, 577, '28 194, 276'], [8, 274, '28 194, 276'],
   [8, 273, '24 194, 276']];
 for (const [bits, width, due] of MONITORS) {
@@ -330,6 +330,44 @@ assert.deepEqual([504, 503].map((width) => drawn(`${FIFO} 2`, [], wide(width)).p
   [['hand outer: M366 46h26', 'hand inner: M366 66h26'],
     ['hand outer: M36 244h26', 'hand inner: M36 264h26']]);
 check('fifo, without a wheel', `${FIFO} 8`, ANNOUNCED, wide(700), {
-  rect: ['word: 24 40 116 28', 'word: 156 40 116 28', 'word: 288 40 70 28', 'room: 24 92 250 76'],
-  circle: [': 48 142 13', ': 395 64 13', ': 395 98 13'], path: [],
+  rect: ['word: 24 40 108 28', 'word: 144 40 108 28', 'word: 264 40 70 28', 'room: 24 92 250 76'],
+  circle: [': 48 142 13', ': 371 64 13', ': 371 98 13'], path: [],
 });
+
+// A wheel has up to 32 places, whose discs then have 0.8 of the room between two.
+const rims = (bits) => drawn(`lock ticket threads 1 bits ${bits}`, [], wide(700)).circle ?? [];
+assert.deepEqual([rims(5).length, rims(6).length], [33, 0]);
+assert.equal(Number(rims(5)[1].split(' ').pop()).toFixed(3), (Math.PI * 76 / 40).toFixed(3));
+
+// A wish that is too long for the picture is cut. In a picture of 200 units four callers have room,
+// of which one is a fold.
+const cut = drawn(`${FIFO} 8`, ANNOUNCED.slice(0, 4), wide(274)).text;
+assert.ok(cut.includes('wants: 64 225 announced, awaits the re…'), cut.join('; '));
+const low = drawn('lock rw-simple threads 12', CALLS.slice(0, 12),
+  { width: 700, height: 200, tight: true });
+assert.deepEqual(low.text.filter((one) => one.startsWith('wants')),
+  ['wants: 372 69 wants to read', 'wants: 372 103 9 more', 'wants: 372 137 wants to read',
+    'wants: 372 171 wants to read']);
+
+// A question that asks for values covers those of words, variables and cells, and the hands.
+const ASKS = ['#! ask 5 hide values : Which ticket?', '#! answer 5 Ticket 1.', ...TICKETS];
+const covered = (lock) => drawn(lock, ASKS, wide(700, { answered: false }));
+assert.deepEqual(covered(TWO_BITS).text.filter((one) => one.startsWith('mono value')),
+  ['mono value middle: 366 59 ?', 'mono value middle: 494 59 ?',
+    'mono value middle: 402 135 ticket = ?', 'mono value middle: 402 169 ticket = ?']);
+assert.deepEqual(covered(TWO_BITS).path.length, 2, 'what the hands are is said');
+assert.deepEqual(covered(ALL_BITS).text.filter((one) => one.endsWith('?')).length, 5);
+
+// How wide a picture has to be to be drawn at its full size: four records at most, each as wide as
+// its head needs, or names.
+const least = (lock, moves = []) => {
+  const session = new Session(machine, lines);
+  session.open(bytesOf([lock, ...moves, ''].join('\n')), null, Infinity);
+  const view = session.view();
+  return lockOf(view.run).leastWidth(view, view.run.state(view.move));
+};
+assert.deepEqual([TWO_BITS, ALL_BITS, 'lock rw-simple threads 2', `${FIFO} 2`, `${FIFO} 8`]
+  .map((lock) => least(lock)), [466, 446, 420, 494, 358]);
+assert.deepEqual([2, 4, 12].map((threads) => least(`lock mcs threads ${threads}`)),
+  [336, 686, 710]);
+assert.equal(least('lock mcs threads 2', ['#! name 0 Ann']), 402);

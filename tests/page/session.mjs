@@ -121,6 +121,12 @@ assert.equal(isCovered(session.view({ answered: true }, 3), 'facts'), false);
 const askedLast = opened('#! ask 6 Why?', '#! answer 6 So.', ...TWO.slice(5));
 assert.deepEqual([6, 7].map((place) => isAsked(askedLast.view({}, place))), [true, false]);
 
+// Where a trace differs, these are the words of the move that wrote the word last, here of a swap.
+const differs = opened('lock mcs threads 2', '0 acquire', '0 write', '0 swap', '1 acquire',
+  '1 write', '1 swap tail found 0');
+assert.deepEqual([differs.run.refusal.name, differs.run.last, differs.view({}, 6).marked],
+  ['FoundOther', 6, 3]);
+
 // Holders and queue after each move, as the report has them, and the phase of the thread before the
 // move.
 const standing = (move) => {

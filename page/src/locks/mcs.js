@@ -287,10 +287,9 @@ function draw(view, state) {
   return Object.assign(drawn, { note: restingNote(view, layout.hidden) });
 }
 
-/** @param {View} view @param {State} state */
-function leastWidth(view, state) {
-  const busy = Math.max(state.queue.length, Math.min(view.run.threads, BESIDE));
-  const beside = Math.min(BESIDE, busy);
+/** @param {View} view */
+function leastWidth(view) {
+  const beside = Math.min(BESIDE, view.run.threads);
   const { names, run } = view;
   const record = names.given.size ? widestRecord(names)
     : Math.max(RECORD.narrowest, headWidth(names.short(run.threads - 1)));
