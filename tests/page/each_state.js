@@ -220,14 +220,18 @@ function askewInMemory() {
 }
 
 // Marks and words of the lanes, and numbers above them, that are not in their column.
+// Whether a word is above a mark, or below it where there is no room above.
+const isOff = (word, mark) => boxOf(word).bottom <= rect(mark).top + 4
+  || (boxOf(word).top >= rect(mark).bottom - 4 && middleY(mark) - rect(byId('lanes')).top < 30);
+
 function askewInLanes() {
   const marks = all('#lanes .move:not([data-refused])').flatMap((one) => {
-    const target = one.querySelector('.target');
+    const [target, mark] = ['.target', '.step, .call-mark'].map((part) => one.querySelector(part));
     const number = document.querySelector(`#numbers .number[data-move="${one.dataset.move}"]`);
     const [word, found] = [one.querySelector('.word-label'), one.querySelector('.found')];
-    return [isIn(one.querySelector('.step, .call-mark'), target, 4, 2) || 'mark',
+    return [isIn(mark, target, 4, 2) || 'mark',
       !number || isIn(number, target, 2, 999) || 'number',
-      !word || (isIn(word, target, 2, 999) && rect(word).bottom < middleY(target) + 2) || 'word',
+      !word || (isIn(word, target, 2, 999) && isOff(word, mark)) || 'word',
       !found?.textContent || (isIn(found, target, 2, 999)
         && rect(found).top > middleY(target) + 5) || 'found',
     ].filter((is) => is !== true).map((what) => [one.dataset.move, what]);
