@@ -22,6 +22,7 @@ from catalogue import (BITS, CALLS, DAY, DIFFERS, EXPECTED, FAULTS, LIMITS, LOCK
                        RESULTS, STEPS, TOP, TRANSITIONS, VERSION, calls_of, found, is_monitor,
                        read, title_of, words_of)
 from dispatches import DISPATCHES
+from lists import LISTS as LISTS_OF_LOCKS
 from phases import PHASE_TABLES
 from sentences import SENTENCES
 from steps import STEP_TABLES
@@ -169,7 +170,7 @@ REGIONS = {
 }
 
 
-WITHOUT_MARKS = SENTENCES + TABLES + STEP_TABLES + DISPATCHES + PHASE_TABLES
+WITHOUT_MARKS = SENTENCES + TABLES + STEP_TABLES + DISPATCHES + PHASE_TABLES + LISTS_OF_LOCKS
 
 
 def due_in(lists, form, margin):

@@ -1,6 +1,8 @@
 """The tables of `lk_search` that follow from the phases of the locks, from the entries that a
 pending call still owes in each (`owed_of` of `lk_locks`), and from docs/LOCKS.md.
 """
+from textwrap import fill
+
 from catalogue import CARRIED, LOCKS, PHASES, code_of, found, is_monitor, read
 from places import Place
 from steps import INSIDE, pattern
@@ -50,7 +52,7 @@ def equations(name, phases, value):
 
 
 def listed(phases):
-    return " | ".join(pattern(phase) for phase in CARRIED if phase in phases)
+    return "\n            | ".join(pattern(phase) for phase in CARRIED if phase in phases)
 
 
 def known(name, phases):
@@ -71,8 +73,9 @@ PHASE_TABLES = (
         "phase_code", CARRIED, PHASES.get)),
     Place(f"{SEARCH}/specs/Phases.antt", "phase_number : Phase → ℕ\n", "phase_number p", equations(
         "phase_number", NUMBERED, lambda phase: LETTERS[CARRIED[phase]])),
-    Place(f"{SEARCH}/specs/Rows.antt", "all_phases =\n", "\n\n", "    " + " ∷ ".join(
-        phase + " 0" * bool(CARRIED[phase]) for phase in CARRIED) + " ∷ []"),
+    Place(f"{SEARCH}/specs/Rows.antt", "all_phases =\n", "\n\n", fill(" ∷ ".join(
+        phase + " 0" * bool(CARRIED[phase]) for phase in CARRIED) + " ∷ []", 100,
+        initial_indent="    ", subsequent_indent="    ")),
     Place(f"{SEARCH}/specs/Rows.antt", "with_number : Phase → ℕ → Phase\n", "with_number p",
           "".join(f"with_number ({phase} m) n = {phase} {FITTED[CARRIED[phase]]}\n"
                   for phase in NUMBERED)),

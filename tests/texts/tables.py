@@ -21,11 +21,11 @@ def named(word):
     raise LookupError(f"WordName of lk_trace has no value for {word}")
 
 
-def uses(variants):
-    """The lines of a file of definitions that import values of LockKind."""
-    front = f"{TYPE}.TheVariants.{{"
-    lines = fill(", ".join(variants), 99 - len(front)).split("\n")
-    return "".join(f"{front}{line.rstrip(',')}}}\n" for line in lines)
+def uses(variants, type="LockKind", front=""):
+    """The lines of a file of definitions that import values of a type."""
+    front = f"{front}{TYPE.replace('LockKind', type)}.TheVariants.{{"
+    lines = fill(", ".join(variants) + "}", 100 - len(front)).split("\n")
+    return "".join(f"{front}{line[:-1]}}}\n" for line in lines)
 
 
 def nested(variable, texts):
