@@ -21,6 +21,8 @@ const stored = (name) => localStorage.getItem(name);
 // Whether each picture of a card is as wide as the card.
 const pictures = () => all('#lessons .live')
   .map((one) => Math.abs(rect(one.querySelector('svg')).width - rect(one).width) < 2);
+const cutPictures = () => all('#lessons .live').filter((one) => (
+  rect(one.firstElementChild).bottom > rect(one).bottom)).map((one) => one.dataset.live);
 const unitsOfPictures = () => all('#lessons .live svg').map((one) => one.viewBox.baseVal.width);
 const partsOfStart = () => [...byId('lesson-list').children].map((one) => one.classList[0]);
 const topsOf = (selector) => all(`#lessons ${selector}`).map((one) => rect(one).top);

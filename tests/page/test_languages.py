@@ -65,7 +65,8 @@ def test_what_is_said_in_a_lesson(page):
     page.open("#lesson=ticket-hand-over&move=5&lang=de")
     page.press("a")
     assert page.text("#now .question") == (
-        "Frage: Mit welchem Zug kommt Bob in die Schlange? AntwortA Mit diesem, seinem add.")
+        "Frage: Bob hat aufgerufen und addiert. Was davon hat ihn in die Schlange gebracht? "
+        "AntwortA Das add: Seine Nummer ist sein Platz. Sein Aufruf hat nichts geändert.")
     page.go(1)
     assert page.text("#now .own-say") == (
         "Ann will die Sperre. Ihr Aufruf ändert noch nichts im Speicher.")

@@ -41,7 +41,8 @@ def test_each_part_comes_with_the_answer(page):
         if "facts" in parts:
             assert before["facts"] == before["report"] == "" and before["marks"] == 0, where
             assert after["facts"] and after["report"], where
-            assert before["found"] == ["?"] and "?" not in after["found"], where
+            assert before["found"] == ([""] if after["found"] == [""] else ["?"]), where
+            assert "?" not in after["found"], where
         if "memory" in parts:
             assert before["caption"] == "" and not before["links"], where
             assert after["caption"] and after["label"].startswith(after["caption"]), where

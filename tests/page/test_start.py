@@ -369,8 +369,10 @@ def test_what_a_card_plays(page):
 @pytest.mark.parametrize("width", [390, 1440])
 def test_how_wide_pictures_are(page, width):
     """The picture of a card is as wide as the card, on a phone too. It has room for 560 units, so
-    its letters are smaller than in a lesson."""
+    its letters are smaller than in a lesson, or for more, so that its height has room."""
     page.resize(width, 844)
     page.open()
     assert page.js("pictures") == [True] * 4
-    assert page.js("unitsOfPictures") == [560] * 4
+    assert page.js("unitsOfPictures") == pytest.approx([560 / share for share in (
+        0.7, 0.7, 0.9, 0.9)])
+    assert page.js("cutPictures") == []

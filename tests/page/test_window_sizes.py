@@ -39,11 +39,15 @@ def test_the_variables_of_threads(page, width, height):
 
 
 def test_how_far_lines_of_code_are_apart(page):
-    """Only in a hall are lines nearer to each other, so that all have room."""
+    """Lines are nearer to each other if all of them have room then, but never below 19 pixels."""
     page.open("#lesson=mcs-late-link&move=9")
+    found = set()
     for height in range(560, 960, 20):
         page.resize(1440, height)
-        assert page.js("lineHeight") == 23, height
+        apart, all_seen = page.js("lineHeight"), page.js("areAllLinesSeen")
+        assert apart == 23 or 19 <= apart < 23 and all_seen, (height, apart)
+        found.add((apart == 23, all_seen))
+    assert found == {(True, False), (False, True), (True, True)}
 
 
 def test_how_far_lines_of_code_are_indented(page):

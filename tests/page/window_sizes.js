@@ -85,6 +85,7 @@ const indents = () => all('#code-lines code').map((line) => {
   return Math.round((letter.left - rect(line).left) / letter.width);
 });
 
+const areAllLinesSeen = () => all('.code-line').every((one) => isSeen(one, byId('code-lines')));
 const lineHeight = () => document.querySelector('.code-line').offsetHeight;
 
 // How many dots a unit of memory's picture has, and whether the picture is in view.

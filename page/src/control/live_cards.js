@@ -8,6 +8,7 @@ import { lockOf } from '../locks/locks.js';
 
 const PACE = 800;
 const ROOM = { height: 108, least: 560 };
+const SHARES = [1, 0.9, 0.8, 0.7, 0.6];
 
 // The lesson with the most questions says the most of its lock.
 /** @param {Session} session */
@@ -27,11 +28,18 @@ function posterOf({ remarks: { ask } }) {
 }
 
 /** @param {Session} session */
-function drawCard(node, session) {
+function pictureOf(session, wide, scale) {
   const view = session.view({ answered: true });
-  const scale = Math.min(1, node.clientWidth / ROOM.least);
-  const room = { width: node.clientWidth / scale, height: ROOM.height / scale, scale };
-  show(node, lockOf(view.run).draw({ ...view, ...room, tight: true }, view.run.state(view.move)));
+  const room = { width: wide / scale, height: ROOM.height / scale, scale };
+  return lockOf(view.run).draw({ ...view, ...room, tight: true }, view.run.state(view.move));
+}
+
+// The largest scale at which the whole picture of the poster is seen, else the smallest.
+/** @param {Session} session */
+function scaleOf(session, wide) {
+  const scales = SHARES.map((share) => share * Math.min(1, wide / ROOM.least));
+  return scales.find((scale) => pictureOf(session, wide, scale).height <= ROOM.height)
+    ?? scales[scales.length - 1];
 }
 
 export class LiveCards {
@@ -50,10 +58,13 @@ export class LiveCards {
       }
       const session = this.pictured.get(lock);
       session.go(posterOf(session));
-      drawCard(node, session);
+      const wide = node.clientWidth;
+      const scale = scaleOf(session, wide);
+      const draw = () => show(node, pictureOf(session, wide, scale));
+      draw();
       const card = node.parentElement;
       for (const event of ['pointerenter', 'focusin']) {
-        card.addEventListener(event, () => this.play(node, session));
+        card.addEventListener(event, () => this.play(session, draw));
       }
       for (const event of ['pointerleave', 'focusout']) {
         card.addEventListener(event, () => this.stop());
@@ -61,12 +72,12 @@ export class LiveCards {
     }
   }
 
-  play(node, session) {
+  play(session, draw) {
     this.stop();
     if (matchMedia('(prefers-reduced-motion: reduce)').matches) return;
     this.timer = setInterval(() => {
       session.go(session.place < session.run.last ? session.place + 1 : 0);
-      drawCard(node, session);
+      draw();
     }, PACE);
   }
 

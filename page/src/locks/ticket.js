@@ -157,7 +157,7 @@ function strip(view, state, top) {
   const rows = Math.max(1, Math.floor((view.height - top - 24) / CELL_ROW));
   const all = tickets(view, state, view.tight ? Math.max(3, inRow * rows - 1) : Infinity);
   const cells = [...all, { one: { number: held(state, NEXT_TICKET) } }];
-  const asked = html`<text class="note" x="24" y="${top + 22}">?</text>`;
+  const asked = html`<text class="note" x="24" y="${top + 22}">${texts.untilAnswer}</text>`;
   const drawn = asks(view) ? asked : cells.map(({ one, folded }, i) => {
     const [x, y] = [24 + CELL * (i % inRow), top + CELL_ROW * Math.floor(i / inRow)];
     return folded ? foldedCell(view, folded, x, y) : cell(view, one, x, y);

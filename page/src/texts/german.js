@@ -188,7 +188,8 @@ export const german = {
     },
     facts: { wrote: 'Schrieb', holds: 'Hält', queue: 'Schlange', report: 'Bericht' },
     noWord: 'kein Wort', nobody: 'niemand', asReader: 'liest', asWriter: 'schreibt',
-    question: 'Frage:', showAnswer: 'Antwort', notLinked: 'nicht verknüpft',
+    question: 'Frage:', showAnswer: 'Antwort zeigen', answer: 'Antwort',
+    untilAnswer: 'verborgen bis zur Antwort', notLinked: 'nicht verknüpft',
     questionWaits: 'Hier wartet eine Frage: A zeigt die Antwort, noch ein → geht weiter.',
     spoken: {
       move: (move, count) => `Zug ${move} von ${count}.`,
@@ -263,7 +264,7 @@ export const german = {
     play: {
       title: 'Spielen',
       hint: 'Wähle, wer den nächsten Zug macht. Die Maschine spielt, was du wählst.',
-      branch: (move) => `Was du hier wählst, ist der nächste Zug nach Zug ${move}.`,
+      branch: (move) => `Wähle, wer als Nächstes zieht, statt der Züge nach Zug ${move}.`,
       every: 'Jeder Zug, auch die, die abgelehnt werden',
       undo: 'Rückgängig',
       nextKinds: 'Was als Nächstes geschehen kann',

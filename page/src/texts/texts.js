@@ -177,7 +177,7 @@ const english = {
   asWriter: 'writes',
   wordBecomes: (word, value) => `${word} = ${value}`,
   question: 'Question:',
-  showAnswer: 'Answer',
+  showAnswer: 'Show the answer', answer: 'Answer', untilAnswer: 'hidden until the answer',
   questionWaits: 'A question waits here: A shows its answer, another → goes on.',
   notLinked: 'not linked',
 
@@ -232,7 +232,7 @@ const english = {
   play: {
     title: 'Play',
     hint: 'Choose who moves next. The machine plays what you choose.',
-    branch: (move) => `A choice here is the next move after move ${move}.`,
+    branch: (move) => `Choose who moves next, in place of the moves after move ${move}.`,
     every: 'Every move, also those that are refused',
     undo: 'Undo',
     newLock: 'New schedule',

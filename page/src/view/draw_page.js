@@ -32,7 +32,6 @@ export function drawPage(page, reveals) {
   const view = session.view(wanted);
   const state = run.hasLock && run.state(view.move);
   if (run.hasLock) drawTexts(page, view, state);
-  if (run.hasLock && page.mode === 'play') drawChoices(page);
   return drawPictures({ page, view, state, reveals }, sizes);
 }
 
@@ -53,7 +52,9 @@ function drawSide(page) {
     'mode-hall': looks.hall, compare: page.comparing.isOn,
   };
   for (const [id, is] of Object.entries(pressed)) byId(id).setAttribute('aria-pressed', String(is));
+  // The choices take room, so they come before the text, whose line is brought into view.
   if (!session.run.hasLock) show(byId('choices'), choicesView(session, false, false));
+  else if (mode === 'play') drawChoices(page);
   for (const id of ['undo', 'undo-own']) buttonOf(id).disabled = !page.playing.undone.length;
   const advice = adviceOf(session);
   const verdict = verdictView(session, advice);

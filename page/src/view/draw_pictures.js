@@ -83,7 +83,7 @@ export function drawPictures(shown, sizes) {
 
 // What is left free below the code, and how near its lines may be.
 const EDGE = 4;
-const NEAREST_LINES = 21;
+const NEAREST_LINES = { hall: 21, else: 19 };
 // If the sentences on a move do not fit, their letters get smaller, then less is shown beside them,
 // and at last they get more room.
 const FITS = ['', '1', '1 2', '1 2 3', '1 2 3 4', '1 2 3 4 5'];
@@ -109,7 +109,8 @@ function linesIn(box, room) {
   if (box.style.lineHeight) box.style.lineHeight = '';
   const line = heightOfFirst(box);
   const fitting = Math.floor(room / box.childElementCount);
-  if (!looks.hall || line <= fitting || fitting < NEAREST_LINES) return line;
+  const nearest = NEAREST_LINES[looks.hall ? 'hall' : 'else'];
+  if (line <= fitting || fitting < nearest) return line;
   box.style.lineHeight = `${fitting}px`;
   return heightOfFirst(box);
 }

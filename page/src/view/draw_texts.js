@@ -63,7 +63,7 @@ function quizView({ quiz, session }, view) {
   const atEnd = quiz.on && view.place === view.run.last;
   return {
     score: quiz.on && scoreView(quiz, session), form: question && quizForm(view, question),
-    came: html`${quiz.result && resultView(quiz.result, outcome)}${
+    came: html`${quiz.result && resultView(view, quiz.result, outcome)}${
       atEnd && endView(quiz, view.loop)}`,
   };
 }

@@ -153,7 +153,8 @@ function label(view, layout, move, at, tall) {
 /** @param {View} view @param {Layout} layout */
 function found(view, layout, move, at) {
   const fails = casFails(view.run.records, move);
-  const text = move === layout.now && isCovered(view, 'facts') ? '?' : foundText(view, move);
+  const own = foundText(view, move);
+  const text = own && move === layout.now && isCovered(view, 'facts') ? '?' : own;
   return html`<text class="found ${fails && 'fails'} ${move === layout.now && 'here'}" x="${at.x}"
     y="${at.y + 27}" text-anchor="middle"><title>${text}</title>${
   fitted(text, layout.column * FOUND_ROOM, 'small')}</text>`;

@@ -86,7 +86,8 @@ export function questionView(view) {
   return html`<div class="question ${view.reminded && 'waits'}">
     <p><b>${texts.question}</b> ${question}</p>
     ${answer && html`<details ${view.answered && 'open'}>
-      <summary data-answer="question">${texts.showAnswer}<kbd>A</kbd></summary>
+      <summary data-answer="question">${
+  view.answered ? texts.answer : texts.showAnswer}<kbd>A</kbd></summary>
       <p>${answer}</p></details>`}</div>`;
 }
 

@@ -36,10 +36,14 @@ export function quizForm(view, question) {
     <button class="strong">${T.check}<kbd>Enter</kbd></button></form>`;
 }
 
-// Whether it was right, and why: the move's outcome says what becomes of the holders.
-export function resultView({ kind, truth, given, right }, outcome) {
+// Whether it was right, and why: the move's outcome says what becomes of the holders. Threads of a
+// lesson have their names.
+/** @param {View} view */
+export function resultView({ names }, { kind, truth, given, right }, outcome) {
+  const named = truth.replace(/\d+/g, (thread) => (
+    names.given.size ? names.of(Number(thread)) : thread));
   return html`<div class="result"><p class="${right ? 'right' : 'wrong'}">
-    <b>${right ? '✓' : '✕'}</b> <span>${T.short[kind]}</span> <code>${truth}</code>
+    <b>${right ? '✓' : '✕'}</b> <span>${T.short[kind]}</span> <code>${named}</code>
     ${!right && html`<span class="soft">${T.wrong(given)}</span>`}</p>
     ${!right && html`<p class="why">${
   kind === 'queue' ? T.whyQueue : T.why[outcome]}</p>`}</div>`;
