@@ -6,7 +6,7 @@ Expected texts are worked out by hand from docs/FORMATS.md and packaging/man/loc
 import pytest
 
 from devices import Terminal, little_memory, short_files
-from traces import GOOD, LOGS, ROUND
+from traces import LOGS, ROUND
 from tree import cases
 
 ORDERED = b"\r\x1b[Kordering 100000 moves\r\x1b[Kwriting 100000 moves\r\x1b[K"
@@ -294,26 +294,6 @@ def test_files_of_an_earlier_order(tracer):
         due = ["run.trace", *(f"run-{number:04}.schedule" for number in range(1, schedules + 1))]
         assert (made / "order.list").read_text() == "".join(f"{name}\n" for name in due)
         assert sorted(path.name for path in made.iterdir()) == sorted([*own, *due, "order.list"])
-
-
-@pytest.mark.parametrize("name", ["run.trace", "run-0001.schedule"])
-def test_file_that_no_order_wrote(tracer, name):
-    """`order` refuses to replace what it did not write, here a folder."""
-    (tracer.folder / "own").mkdir()
-    (tracer.folder / "own" / name).mkdir()
-    assert tracer.run("order", *LOGS, "-o", "own") == (
-        "", f"locktrace: own/{name} is not of an earlier order\n", 3)
-    assert [path.name for path in (tracer.folder / "own").iterdir()] == [name]
-
-
-@pytest.mark.parametrize("name", ["run.trace.new", "run-0001.schedule.new", "order.list.new"])
-def test_links_are_not_followed(tracer, name):
-    """A link with the name of a temporary file is replaced, and its target stays as it was."""
-    (tracer.folder / "linked").mkdir()
-    (tracer.folder / "linked" / name).symlink_to(tracer.folder / "good")
-    assert tracer.run("order", *LOGS, "-o", "linked") == ("", "", 0)
-    assert (tracer.folder / "good").read_text() == GOOD
-    assert not any(path.is_symlink() for path in (tracer.folder / "linked").iterdir())
 
 
 def test_write_that_fails(tracer):

@@ -8,10 +8,9 @@ import shutil
 import pytest
 
 from devices import short_files
-from traces import PAGE, TEXTS, page_with
+from traces import MADE, PAGE, TEXTS, page_with
 from tree import Program, cases
 
-MADE = ["--page", "made.html", "--from", PAGE]
 # Unencoded in HTML, each of these would end an element, or be read as another byte.
 ODD = b'# "></head><script>&quot;\xff\0\r\n' + TEXTS["wrong"].encode()
 
@@ -50,34 +49,6 @@ def test_page_of_an_earlier_check(tracer):
     tracer.run("check", *MADE, "wrong")
     assert tracer.run("check", *MADE, "good") == ("", "", 0)
     assert (tracer.folder / "made.html").read_text() == page_with(TEXTS["good"].encode())
-
-
-@cases("make", {
-    "a trace": lambda path: shutil.copy(path.parent / "wrong", path),
-    "the page without a trace": lambda path: shutil.copy(PAGE, path),
-    "no text": lambda path: path.write_bytes(b"\xff"),
-    "a folder": lambda path: path.mkdir(),
-    "a link to nothing": lambda path: path.symlink_to("nowhere"),
-    "a link to a page": lambda path: (
-        (path.parent / "other.html").write_text(page_with(b"")), path.symlink_to("other.html")),
-})
-def test_something_in_its_place(tracer, make):
-    """The program replaces only a page that an earlier check wrote; else it checks nothing."""
-    path = tracer.folder / "made.html"
-    make(path)
-    before = path.lstat()
-    assert tracer.run("check", *MADE, "wrong") == (
-        "", "locktrace: made.html is not of an earlier check\n", 3)
-    assert path.lstat() == before
-
-
-def test_link_is_not_followed(tracer):
-    """A link with the name of the temporary file is replaced, and its target stays as it was."""
-    own = tracer.folder / "own"
-    own.write_text("own\n")
-    (tracer.folder / "made.html.new").symlink_to(own)
-    assert tracer.run("check", *MADE, "good") == ("", "", 0)
-    assert own.read_text() == "own\n" and not (tracer.folder / "made.html.new").exists()
 
 
 @cases("file, how, error", {

@@ -109,34 +109,6 @@ def test_files_of_an_earlier_tour(tracer):
     assert (tracer.folder / "outside.schedule").read_text() == "outside\n"
 
 
-def test_file_that_no_tour_wrote(tracer):
-    (tracer.folder / "own").mkdir()
-    tracer.write(**{"own/0001.schedule": "own\n"})
-    assert tracer.run("tour", "ticket", "1", "-o", "own") == (
-        "", "locktrace: own/0001.schedule is not of an earlier tour\n", 3)
-    assert files_in(tracer.folder / "own") == {"0001.schedule": "own\n"}
-
-
-@pytest.mark.parametrize("name", ["0001.schedule.new", "tour.list.new"])
-def test_links_are_not_followed(tracer, name):
-    """A link with the name of a temporary file is replaced, and its target stays as it was."""
-    own, folder = tracer.folder / "own", tracer.folder / "linked"
-    own.write_text("own\n")
-    folder.mkdir()
-    (folder / name).symlink_to(own)
-    assert tracer.output("tour", "ticket", "1", "-o", folder)
-    assert own.read_text() == "own\n"
-    assert files_in(folder) == {"0001.schedule": TICKET, LIST: "0001.schedule\n"}
-
-
-def test_link_in_the_place_of_a_schedule(tracer):
-    """A dangling link is not a file of an earlier tour, so nothing replaces it."""
-    (tracer.folder / "linked").mkdir()
-    (tracer.folder / "linked/0001.schedule").symlink_to("nowhere")
-    assert tracer.run("tour", "ticket", "1", "-o", "linked") == (
-        "", "locktrace: linked/0001.schedule is not of an earlier tour\n", 3)
-
-
 @cases("words, status, said", {
     "no folder is named": ("ticket 1", 2, "error:"),
     "no lock": ("tickets 1 -o none", 2,

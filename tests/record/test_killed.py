@@ -87,6 +87,15 @@ def note_of(word=0, place=0, part=0, file=1):
     return bytes([*bytes(8), word, place, part, 0, 1, file, 7, 0])
 
 
+def lose(logs, thread, lost):
+    """Writes bytes over a thread's notes from the sixteenth on."""
+    notes = logs / "run.notes"
+    first = notes.stat().st_size - THREADS * (ROOM + 2) * (MOVE + 1) + 2 * MOVE
+    with open(notes, "r+b") as file:
+        file.seek(first + (thread * (ROOM + 2) + 15) * MOVE)
+        file.write(lost)
+
+
 @pytest.mark.parametrize("lost, moves", [
     (bytes(MOVE), 15), (MOVE * b"\xff", 15), (note_of(file=0), 15),
     # The last of each, and the number after it.
@@ -96,11 +105,7 @@ def test_lost_page(ended, lost, moves):
     """A log ends before bytes that are no note, as if a page had not reached the disk."""
     program, logs = ended("VALUES", GOES_ON)
     killed(program, logs)
-    notes = logs / "run.notes"
-    first = notes.stat().st_size - THREADS * (ROOM + 2) * (MOVE + 1) + (ROOM + 2 + 2) * MOVE
-    with open(notes, "r+b") as file:
-        file.seek(first + 15 * MOVE)
-        file.write(lost + bytes(MOVE))
+    lose(logs, 1, lost + bytes(MOVE))
     assert recover(program, logs) == (f"{KEPT}{logs}\n", 0)
     log = (logs / "thread-1.log").read_text().splitlines()
     assert len(log) == 2 + moves + 1 and log[-1] == "# thread 1 was stopped"
@@ -111,11 +116,7 @@ def test_lost_page_of_a_thread_that_has_ended(ended, ordered):
     body = f"release(); while (!lr_count_of(lr_self->run->logs[0].ended)) {{}} acquire(); {GOES_ON}"
     program, logs = ended("VALUES", body)
     killed(program, logs)
-    notes = logs / "run.notes"
-    first = notes.stat().st_size - THREADS * (ROOM + 2) * (MOVE + 1) + 2 * MOVE
-    with open(notes, "r+b") as file:
-        file.seek(first + 15 * MOVE)
-        file.write(bytes(MOVE))
+    lose(logs, 0, bytes(MOVE))
     assert recover(program, logs) == (f"{KEPT}{logs}\n", 0)
     assert len(ordered(logs)[0]) == 15
     assert (logs / "thread-0.log").read_text().endswith("\n# thread 0 was stopped\n")
