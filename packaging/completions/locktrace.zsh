@@ -22,53 +22,40 @@ _locktrace() {
                      help\:"print help"))' \
         '*::argument:->argument'
     [[ $state == argument ]] || return
+    local -a help=('(- *)'{-h,--help}'[print help]')
+    local -a quiet=('(-q --quiet)'{-q,--quiet}'[write no report]')
+    local rounds='--rounds[how many times each thread takes the lock]:number'
+    local -a search=('--bits[how many bits a word has]:number:'
+        '--limit[how many states are searched at most]:number:')
     case $line[1] in
-    check) _arguments '(- *)'{-h,--help}'[print help]' \
-        '--format[the form of the reports]:form:(text tap json)' \
+    check) _arguments $help $quiet '--format[the form of the reports]:form:(text tap json)' \
         '--summary[count moves, waits and more]' \
         '--color[when the text has colors]:when:(auto always never)' \
-        '(-q --quiet)'{-q,--quiet}'[write no report]' \
         '(-j --jobs)'{-j,--jobs}'[how many threads share the files]:number:' \
         '--page[write the page with the trace in it]:page:_files' \
         '--from[the page that takes the trace]:page:_files' \
         '*:trace:_files' ;;
-    explain) _arguments '(- *)'{-h,--help}'[print help]' \
-        '--moves[only the moves in these lines]:lines, as 5..10:' \
+    explain) _arguments $help '--moves[only the moves in these lines]:lines, as 5..10:' \
         '--names[what the threads are called]:names:' \
         '1:trace:_files' ;;
-    order) _arguments '(- *)'{-h,--help}'[print help]' \
+    order) _arguments $help $quiet \
         '-o[where the trace and the schedules are written]:folder:_files -/' \
         '--format[the form of the report]:form:(text tap json)' \
-        '(-q --quiet)'{-q,--quiet}'[write no report]' \
         '*:log:_files' ;;
-    schedule) _arguments '(- *)'{-h,--help}'[print help]' '1:trace:_files' ;;
-    find) _arguments '(- *)'{-h,--help}'[print help]' \
-        '--rounds[how many times each thread takes the lock]:number, or any:(any)' \
-        '--bits[how many bits a word has]:number:' \
-        '--limit[how many states are searched at most]:number:' \
+    schedule) _arguments $help '1:trace:_files' ;;
+    find) _arguments $help $search "$rounds, or any:(any)" \
         "1: :_alternative 'locks\:lock\:($locks)' 'files\:sketch\:_files'" \
         '2:threads:()' '*:line of a sketch:()' ;;
-    tour) _arguments '(- *)'{-h,--help}'[print help]' \
+    tour) _arguments $help $search "$rounds:" \
         '-o[where the schedules are written]:folder:_files -/' \
-        '--rounds[how many times each thread takes the lock]:number:' \
-        '--bits[how many bits a word has]:number:' \
-        '--limit[how many states are searched at most]:number:' \
         "1:lock:($locks)" '2:threads:()' ;;
-    space) _arguments '(- *)'{-h,--help}'[print help]' \
-        '--rounds[how many times each thread takes the lock]:number, or any:(any)' \
-        '--bits[how many bits a word has]:number:' \
-        '--limit[how many states are searched at most]:number:' \
+    space) _arguments $help $search "$rounds, or any:(any)" \
         '--format[the form of the counts]:form:(text json dot)' \
         "1:lock:($locks)" '2:threads:()' ;;
-    why) _arguments '(- *)'{-h,--help}'[print help]' \
-        '--rounds[how many times each thread takes the lock]:number:' \
-        '--bits[how many bits a word has]:number:' \
-        '--limit[how many states are searched at most]:number:' \
-        '--runs[write the moves of each run]' \
+    why) _arguments $help $search "$rounds:" '--runs[write the moves of each run]' \
         "1:lock:($locks)" '2:threads:(1 2 3 4)' ;;
-    cover) _arguments '(- *)'{-h,--help}'[print help]' \
+    cover) _arguments $help '--format[the form of the counts]:form:(text json)' \
         '--require[kinds that may not be missing]:kind, or all:_locktrace_kinds' \
-        '--format[the form of the counts]:form:(text json)' \
         '*:trace:_files' ;;
     help) _arguments '1:command:(check explain order schedule find tour space why cover help)' ;;
     esac

@@ -16,7 +16,7 @@ SOURCES = EXAMPLES / "recording"
 WARNINGS = ["-Wall", "-Wextra", "-Wpedantic", "-Werror"]
 COMPILERS = ["gcc", "g++", "clang", "clang++"]
 STANDARDS = ["14", "17", "20"]  # of C++
-CHECKED = ["FOLLOW", "EXPLORE"]  # modes in which a program checks its runs
+CHECKED = ["FOLLOW", "EXPLORE", "PCT"]  # modes in which a program checks its runs
 # A schedule in which the first of two threads takes an MCS lock.
 HEAD, IN = "lock mcs threads 2\n", "0 acquire\n0 write\n0 swap\n"
 # What a program says after a crash, before the folder of its logs.
@@ -119,13 +119,16 @@ class InC(Recorder):
         return folder / SOURCES.relative_to(TOP) / f"{example}.c"
 
     def command(self, example, mode, mistake=None):
-        """Builds one program for each mode. A search checks its traces with all values."""
-        flags = {"FOLLOW": ["-DLR_CHECK"]}.get(mode, [])
+        """Builds one program for each mode. PCT is SEED with priorities. A search checks its traces
+        with all values."""
+        flags = {"FOLLOW": ["-DLR_MODE=FOLLOW", "-DLR_CHECK"],
+                 "PCT": ["-DLR_MODE=SEED", "-DLR_PCT=3", "-DLR_STEPS=150", "-DLR_CHECK"]}
         program = self.folder / f"{mistake or example}-{mode}"
 
         def build():
-            said = compile_c("gcc", self.source(example, mistake), program, f"-DLR_MODE={mode}",
-                             *flags, library=self.library if mode in CHECKED else None)
+            said = compile_c("gcc", self.source(example, mistake), program,
+                             *flags.get(mode, [f"-DLR_MODE={mode}"]),
+                             library=self.library if mode in CHECKED else None)
             assert said == ""
         return [once(program, build)]
 

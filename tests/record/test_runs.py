@@ -8,7 +8,7 @@ no order.
 import pytest
 
 from mistakes import IN_C, IN_RUST
-from recorders import RECORDERS, SOURCES, compile_c, once, schedule_of
+from recorders import RECORDERS, schedule_of
 from signs import moves_of
 from tree import answer
 
@@ -55,24 +55,11 @@ def test_right_lock_by_priorities(recorder, judge, tmp_path, example):
     assert any(found)
 
 
-@pytest.fixture(scope="session")
-def prioritized(shared, library):
-    """Builds an example in C once, with priorities and the check."""
-    def build(example):
-        program = shared / f"{example}-PCT"
-
-        def compile_it():
-            assert compile_c("gcc", SOURCES / f"{example}.c", program, "-DLR_MODE=SEED",
-                             "-DLR_PCT=3", "-DLR_STEPS=150", "-DLR_CHECK", library=library) == ""
-        return once(program, compile_it)
-    return build
-
-
 @pytest.mark.parametrize("seed", range(1, 21))
 @pytest.mark.parametrize("example", RECORDERS["c"].examples)
-def test_right_lock_in_c_by_priorities(prioritized, tmp_path, example, seed):
+def test_right_lock_in_c_by_priorities(in_c, tmp_path, example, seed):
     """Whoever has the greatest priority waits for others, and is passed over meanwhile."""
-    assert answer(prioritized(example), 3, 9, seed, tmp_path)[1:] == ("", 0)
+    assert answer(*in_c.command(example, "PCT"), 3, 9, seed, tmp_path)[1:] == ("", 0)
 
 
 @pytest.mark.parametrize("recorder, example", EXAMPLES, indirect=["recorder"])
