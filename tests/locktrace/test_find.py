@@ -154,15 +154,42 @@ def without_count(schedule):
     return SEARCHED.sub(":\n", schedule, count=1)
 
 
-def test_position_in_a_schedule(tracer):
-    """A comment names the line after which the facts hold: at the start that is the header."""
-    output = tracer.output("find", "ticket", "2", "is now_serving 0, queue -", "1 add",
-                           "is hold 1, 0 at Idle", "not 0", "1 write")
-    assert without_count(output) == (
-        "# A shortest run of 2 threads with 1 round each that has these lines, in this order:\n"
-        "# after line 7: is now_serving 0, queue -\n# line 9: 1 add\n"
-        "# after line 10: is hold 1, 0 at Idle\n# before line 13: not 0\n# line 13: 1 write\n"
-        "lock ticket threads 2\n1 acquire\n1 add\n1 read\n1 release\n1 read\n1 write\n")
+# The arguments, the input, whose run is found, the lines after that up to some move, and the number
+# of moves. A comment names the line after which facts hold, at first the header, or before which
+# a `not` holds; if a position meets the next line, the line after which it is there.
+FOUND = {
+    "positions": ("ticket 2 'is now_serving 0, queue -' '1 add' 'is hold 1, 0 at Idle' 'not 0' "
+                  "'1 write'", "", "2 threads with 1 round each",
+                  "# after line 7: is now_serving 0, queue -\n# line 9: 1 add\n"
+                  "# after line 10: is hold 1, 0 at Idle\n# before line 13: not 0\n"
+                  "# line 13: 1 write\nlock ticket threads 2\n1 acquire\n1 add\n1 read\n"
+                  "1 release\n1 read\n1 write\n", 6),
+    "not": ("mcs 2 '0 read next found 0' 'not * cas failed' 'not 1 read' '0 write locked of 1'", "",
+            "2 threads with any number of rounds each",
+            "# line 16: 0 read next found 0\n# before line 20: not * cas failed\n"
+            "# before line 20: not 1 read\n# line 20: 0 write locked of 1\nlock mcs threads 2\n",
+            14),
+    "not before a position": ("ticket 2 '1 add' 'not 0' 'is hold 1'", "",
+                              "2 threads with 1 round each",
+                              "# line 7: 1 add\n# up to line 8: not 0\n# after line 8: is hold 1\n"
+                              "lock ticket threads 2\n1 acquire\n1 add\n1 read\n", 3),
+    "rounds of a text": ("-", "#! rounds 2\nlock mcs threads 2\n0 cas done\n\n"
+                         "0 swap tail found 0\n", "2 threads with 2 rounds each",
+                         "# line 10: 0 cas done\n# line 13: 0 swap tail found 0\n"
+                         "lock mcs threads 2\n0 acquire\n", 9),
+    "any rounds of a text": ("-", "#! rounds any\nlock mcs threads 1\n0 cas done\n0 cas done\n"
+                             "0 swap\n", "1 thread with any number of rounds",
+                             "# line 11: 0 cas done\n# line 17: 0 cas done\n"
+                             "# line 20: 0 swap\n", 15),
+}
+
+
+@cases("words, stdin, whose, begin, moves", FOUND)
+def test_schedule(tracer, words, stdin, whose, begin, moves):
+    output = tracer.output("find", *shlex.split(words), stdin=stdin)
+    assert without_count(output).startswith(
+        f"# A shortest run of {whose} that has these lines, in this order:\n{begin}")
+    assert len(search_rows.moves_of(output)) == moves
 
 
 def test_not_without_a_next_line(tracer):
@@ -170,26 +197,6 @@ def test_not_without_a_next_line(tracer):
         "", f"locktrace: 'not 1 swap': {OPEN_NOT}", 2)
     assert tracer.run("find", "-", stdin="lock mcs threads 2\n* cas\nnot 1\n# so\n") == (
         "", f"-:5: {OPEN_NOT}", 4)
-
-
-def test_not_in_a_schedule(tracer):
-    """A comment in the schedule names the line before which a `not` holds."""
-    output = tracer.output("find", "mcs", "2", "0 read next found 0", "not * cas failed",
-                           "not 1 read", "0 write locked of 1")
-    assert without_count(output).startswith(
-        "# A shortest run of 2 threads with any number of rounds each that has these lines, in "
-        "this order:\n# line 16: 0 read next found 0\n# before line 20: not * cas failed\n"
-        "# before line 20: not 1 read\n# line 20: 0 write locked of 1\nlock mcs threads 2\n")
-    assert len(search_rows.moves_of(output)) == 14
-
-
-def test_not_before_a_position(tracer):
-    """If a position meets the next line, the comment names the line after which it is there."""
-    output = tracer.output("find", "ticket", "2", "1 add", "not 0", "is hold 1")
-    assert without_count(output) == (
-        "# A shortest run of 2 threads with 1 round each that has these lines, in this order:\n"
-        "# line 7: 1 add\n# up to line 8: not 0\n# after line 8: is hold 1\n"
-        "lock ticket threads 2\n1 acquire\n1 add\n1 read\n")
 
 
 @cases("text, said", {
@@ -219,24 +226,10 @@ def test_sketch_that_no_run_has(tracer, words, said):
     assert tracer.run("find", *words) == ("", said, 1)
 
 
-def test_rounds_of_a_text(tracer):
-    output = tracer.output("find", "-", stdin="#! rounds 2\nlock mcs threads 2\n0 cas done\n\n"
-                           "0 swap tail found 0\n")
-    assert without_count(output).startswith(
-        "# A shortest run of 2 threads with 2 rounds each that has these lines, in this order:\n"
-        "# line 10: 0 cas done\n# line 13: 0 swap tail found 0\nlock mcs threads 2\n0 acquire\n")
-    assert len(search_rows.moves_of(output)) == 9
+def test_rounds_of_the_words(tracer):
+    """They take the place of those of the text."""
     assert tracer.run("find", "--rounds", "1", "-", stdin="#! rounds 2\nlock mcs threads 2\n"
                       "0 cas done\n0 swap\n") == ("", NOWHERE[0][1], 1)
-
-
-def test_any_rounds_of_a_text(tracer):
-    output = tracer.output("find", "-", stdin="#! rounds any\nlock mcs threads 1\n0 cas done\n"
-                           "0 cas done\n0 swap\n")
-    assert without_count(output).startswith(
-        "# A shortest run of 1 thread with any number of rounds that has these lines, in this "
-        "order:\n# line 11: 0 cas done\n# line 17: 0 cas done\n# line 20: 0 swap\n")
-    assert len(search_rows.moves_of(output)) == 15
 
 
 WIDE = (r"; in wide words the counts have no end, and narrow ones \(--bits {}\) make the space "
@@ -332,9 +325,8 @@ def test_endless(tracer, lockreplay, row):
 
 def test_what_is_said_of_a_cycle(tracer):
     """Comments name the lines, the line after which the cycle may begin, and what repeats."""
-    output, error, status = tracer.run("find", "rw-simple", "2", "0 rlock", "again",
-                                       "0 section waits", "not 0 section entered")
-    assert (error, status) == ("", 0)
+    output = tracer.output("find", "rw-simple", "2", "0 rlock", "again", "0 section waits",
+                           "not 0 section entered")
     assert without_count(output) == """\
 # A run of 2 threads with any number of rounds each that has these lines, in this order, and \
 goes on for ever:
