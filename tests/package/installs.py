@@ -1,5 +1,6 @@
-"""Runs `make`, makes Debian roots, and runs commands in them."""
+"""Runs `make`, copies this tree, makes Debian roots, and runs commands in them."""
 import os
+import shutil
 
 from tree import TOP, environment, output, ran
 
@@ -13,6 +14,15 @@ def make(*words, **how):
     """The output of `make`, whose last line names the file that a target wrote."""
     how = {"env": environment(), "timeout": 600, **how}
     return output("make", "--no-print-directory", "--silent", *words, cwd=TOP, **how)
+
+
+def copy_files(tree, more):
+    """Copies the files of this tree, as they are now, and the files `more`, which git ignores."""
+    listed = output("git", "ls-files", "--cached", "--others", "--exclude-standard", cwd=TOP)
+    for name in (*listed.splitlines(), *more):
+        if (TOP / name).is_file():
+            (tree / name).parent.mkdir(parents=True, exist_ok=True)
+            shutil.copy(TOP / name, tree / name)
 
 
 class Tree:

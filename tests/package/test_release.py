@@ -4,7 +4,7 @@ import shutil
 
 import pytest
 
-from installs import make
+from installs import copy_files, make
 from tree import TOP, VERSION, built, environment, output
 
 
@@ -49,11 +49,8 @@ class Release:
 
     def __init__(self, folder):
         self.tree = folder
-        listed = output("git", "ls-files", "-co", "--exclude-standard", cwd=TOP).splitlines()
-        programs = [built(name).relative_to(TOP) for name in ("lockreplay", "locktrace", "library")]
-        for name in [*filter(lambda name: (TOP / name).is_file(), listed), *programs]:
-            (folder / name).parent.mkdir(parents=True, exist_ok=True)
-            shutil.copy(TOP / name, folder / name)
+        copy_files(folder, [built(name).relative_to(TOP)
+                            for name in ("lockreplay", "locktrace", "library")])
         log = folder / "CHANGELOG.md"
         log.write_text(re.sub(r"(## \[Unreleased\]\n).*?(?=^## \[\d)", r"\1\n", log.read_text(),
                               flags=re.MULTILINE | re.DOTALL))

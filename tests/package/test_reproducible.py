@@ -10,7 +10,7 @@ from pathlib import Path
 
 import pytest
 
-from installs import in_root, make_root
+from installs import copy_files, in_root, make_root
 from tree import BUILT, TOP, output
 
 PACKAGES = ("binutils", "debhelper", "dpkg-dev", "git", "make", "python3")
@@ -19,15 +19,6 @@ PACKAGED = [BUILT[name][0] for name in ("lockreplay", "locktrace", "library")]
 TREES = {"srv/plain": "", "home/another/shallow":
          "umask 077 && TZ=Asia/Tokyo SOURCE_DATE_EPOCH=1 taskset --cpu-list 0 "}
 pytestmark = pytest.mark.slow
-
-
-def copy_files(tree, more):
-    """Copies the files of this tree, as they are now, and the files `more`, which git ignores."""
-    listed = output("git", "ls-files", "--cached", "--others", "--exclude-standard", cwd=TOP)
-    for name in (*listed.splitlines(), *more):
-        if (TOP / name).is_file():
-            (tree / name).parent.mkdir(parents=True, exist_ok=True)
-            shutil.copy(TOP / name, tree / name)
 
 
 @pytest.fixture(params=["bookworm", "trixie"])
