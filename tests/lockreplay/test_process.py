@@ -181,15 +181,25 @@ def test_words_that_the_parser_refuses(program, words):
         assert b"Usage: lockreplay" in error
 
 
-@cases("words, reports", {
-    "workers with =": ("--workers=8 empty", [EMPTY_REPORT]),
-    "workers behind": ("empty --workers 3", [EMPTY_REPORT]),
-    "a file --workers": ("--workers 2 -- --workers", [EMPTY_REPORT]),
+FIVE = [EMPTY_REPORT, HANDED_ON_REPORT, REFUSED_REPORT, NO_HEADER, EMPTY_REPORT]
+
+
+@cases("words, reports, status", {
+    "workers with =": ("--workers=8 empty", [EMPTY_REPORT], 0),
+    "workers behind": ("empty --workers 3", [EMPTY_REPORT], 0),
+    "a file --workers": ("--workers 2 -- --workers", [EMPTY_REPORT], 0),
     "files on either side": ("empty --workers 3 handed_on -- empty",
-                             [EMPTY_REPORT, HANDED_ON_REPORT, EMPTY_REPORT]),
+                             [EMPTY_REPORT, HANDED_ON_REPORT, EMPTY_REPORT], 0),
+    **{f"{workers} workers": (f"--workers {workers} empty handed_on refused none empty", FIVE, 1)
+       for workers in range(1, 9)},
+    "accepted": ("--workers 2 handed_on", [HANDED_ON_REPORT], 0),
+    "refused": ("--workers 2 refused", [REFUSED_REPORT], 1),
+    "a fault": ("--workers 2 none handed_on", [NO_HEADER, HANDED_ON_REPORT], 1),
+    "both accepted": ("--workers 2 empty handed_on", [EMPTY_REPORT, HANDED_ON_REPORT], 0),
+    "65,536 files": ("--workers 2" + " empty" * 65_536, [EMPTY_REPORT] * 65_536, 0),
 })
-def test_words_of_a_batch(program, words, reports):
-    assert program.run("batch", *words.split()) == (batch_of(reports), b"", 0)
+def test_batch(program, words, reports, status):
+    assert program.run("batch", *words.split()) == (batch_of(reports), b"", status)
 
 
 @pytest.mark.parametrize("words, part", [
@@ -208,24 +218,6 @@ def test_error_that_nobody_reads(program):
         b"", b"", 3)
     with left_pipe() as pipe:
         assert program.run("play", stderr=pipe) == NOTHING
-
-
-@pytest.mark.parametrize("workers", range(1, 9))
-def test_batch_by_workers(program, workers):
-    files = ["empty", "handed_on", "refused", "none", "empty"]
-    due = batch_of([EMPTY_REPORT, HANDED_ON_REPORT, REFUSED_REPORT, NO_HEADER, EMPTY_REPORT])
-    assert program.run("batch", "--workers", workers, *files) == (due, b"", 1)
-
-
-@cases("files, reports, status", {
-    "accepted": (["handed_on"], [HANDED_ON_REPORT], 0),
-    "refused": (["refused"], [REFUSED_REPORT], 1),
-    "a fault": (["none", "handed_on"], [NO_HEADER, HANDED_ON_REPORT], 1),
-    "both accepted": (["empty", "handed_on"], [EMPTY_REPORT, HANDED_ON_REPORT], 0),
-    "65,536 files": (["empty"] * 65_536, [EMPTY_REPORT] * 65_536, 0),
-})
-def test_status_of_a_batch(program, files, reports, status):
-    assert program.run(*BATCH, *files) == (batch_of(reports), b"", status)
 
 
 @pytest.mark.parametrize("name", ["missing", "folder", "dangling", "circle", "socket", "empty/x",
