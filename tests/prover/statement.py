@@ -29,11 +29,11 @@ class Definitions:
     """The definitions of one file: their lines, and the meaning of each imported name."""
 
     def __init__(self, module, lines):
-        self.module = module
-        self.lines = {}
-        self.names = {}
-        self.modules = {}
-        self.types = {}
+        self.module, self.lines = module, {}
+        self.names, self.modules, self.types = {}, {}, {}
+        self.read(lines)
+
+    def read(self, lines):
         name = None
         for line in lines:
             if line.startswith(("use ", "pub use ")):
@@ -76,12 +76,10 @@ class Definitions:
                 yield self.names[first], first
 
 
-class Types:
+class Types(Definitions):
     """The enums and structs of one file of code, which may contain one another."""
 
-    def __init__(self, module, lines):
-        self.module = module
-        self.lines = {}
+    def read(self, lines):
         name = None
         for line in lines:
             if opens := TYPE.match(line):
@@ -90,14 +88,6 @@ class Types:
                 self.lines.setdefault(name, []).append(line)
             if line == "}":
                 name = None
-
-    def passed_on(self, name):
-        return []
-
-    def named_in(self, definition):
-        for first, _ in NAME.findall("\n".join(self.lines[definition])):
-            if first in self.lines:
-                yield self.module, first
 
 
 def read_all():
@@ -135,11 +125,8 @@ def main():
     found = reached(files, (module, name))
     total = 0
     for module in sorted({module for module, _ in found}):
-        counts = {
-            name: len(lines)
-            for name, lines in files[module].lines.items()
-            if (module, name) in found
-        }
+        counts = {name: len(lines) for name, lines in files[module].lines.items()
+                  if (module, name) in found}
         total += sum(counts.values())
         listed = ", ".join(f"{name} {count}" for name, count in counts.items())
         print(f"{module:12} {sum(counts.values()):4}  {listed}")

@@ -40,11 +40,13 @@ def test_crash(ended, judge, mode, body):
         assert texts["run.trace"].endswith("# the program ended before its run was saved\n")
 
 
-def test_slow_run(ended):
-    """A run may take longer than the time limit, which holds for each move."""
-    program, logs = ended("SEED", "struct timespec ms = {0, 200000000}; nanosleep(&ms, NULL)",
+@pytest.mark.parametrize("pause, rounds, more", [("{0, 200000000}", 40000, [1]), ("{2, 0}", 9, [])])
+def test_slow_run(ended, pause, rounds, more):
+    """A run may take longer than the time limit, which holds for each move, and by itself is a
+    minute."""
+    program, logs = ended("SEED", f"struct timespec time = {pause}; nanosleep(&time, NULL)",
                           "-D_GNU_SOURCE")
-    assert answer(program, 3, 40000, 1, logs, 1)[1:] == ("", 0)
+    assert answer(program, 3, rounds, 1, logs, *more)[1:] == ("", 0)
 
 
 def test_all_threads_end_without_a_record(ended):
@@ -53,13 +55,6 @@ def test_all_threads_end_without_a_record(ended):
                           'printf("done\\n")', "-D_GNU_SOURCE", "-include", "stdio.h",
                           "-include", "time.h")
     assert answer(program, 2, 4, 1, logs) == ("done\n", "", 0)
-
-
-def test_pause(ended):
-    """By itself a program waits for a minute, so a pause of two seconds ends no run."""
-    program, logs = ended("SEED", "struct timespec s = {2, 0}; nanosleep(&s, NULL)",
-                          "-D_GNU_SOURCE")
-    assert answer(program, 2, 9, 1, logs)[1:] == ("", 0)
 
 
 def test_run_that_hangs(ended):
