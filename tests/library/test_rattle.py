@@ -12,7 +12,6 @@ import pytest
 
 from tree import TESTS, TOP, environment, ran
 
-FILES = sorted((TESTS / "library").glob("*.rattle"))
 # The root of each crate, and the marks of its tests: one worker builds them once.
 ROOTS = {"lk_tests": "lib.rt", "lockreplay": "main.rt"}
 MARKS = {"lk_tests": [pytest.mark.slow, pytest.mark.xdist_group("library")],
@@ -23,6 +22,8 @@ def crate_of(file):
     return "lockreplay" if file.stem == "calls" else "lk_tests"
 
 
+# Those of a crate are together.
+FILES = sorted(sorted((TESTS / "library").glob("*.rattle")), key=crate_of)
 NAMES = [pytest.param(crate_of(file), f"{file.stem}::{name}", marks=MARKS[crate_of(file)],
                       id=f"{file.stem}::{name}")
          for file in FILES for name in re.findall(r"(?m)^#\[test\]\nfn (\w+)", file.read_text())]
@@ -46,6 +47,6 @@ def lines(request, tmp_path_factory):
     return done.stdout + done.stderr
 
 
-@pytest.mark.parametrize("lines, name", NAMES, indirect=["lines"])
+@pytest.mark.parametrize("lines, name", NAMES, indirect=["lines"], scope="module")
 def test_call(lines, name):
     assert f"test {name} ... ok\n" in lines, lines

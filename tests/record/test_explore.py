@@ -264,29 +264,25 @@ def test_counters_that_begin_before_their_wrap(planted, tmp_path, name, line, sa
         assert "# counters began at 15, here at 0\n" in (tmp_path / "run.trace").read_text()
 
 
-@pytest.mark.parametrize("name, said", [
+WRONG_COUNT = (r"\nrefused at line 12 of the trace, rw_fifo.c:\d+: '{}': OtherOutcome(.|\n)*"
+               "the run hangs")
+LOST_SIGNAL = r"\nthe run hangs: .* waits for a signal .*; {}\n"
+
+
+@pytest.mark.parametrize("name, preemptions, said", [
     # Two readers have left, and the writer finds counts that differ, so it does not enter.
-    ("leaves-twice", "2 section 5 moved"), ("reader-not-counted", "2 section 5 moved"),
-    ("read-unlock-does-nothing", "2 section 5 moved"),
+    *((name, 0, WRONG_COUNT.format("2 section 5 moved")) for name in (
+        "leaves-twice", "reader-not-counted", "read-unlock-does-nothing")),
     # A reader and a writer have left, and the next reader finds the flag set.
-    ("flag-not-cleared", "1 section 5 waits"),
+    ("flag-not-cleared", 0, WRONG_COUNT.format("1 section 5 waits")),
+    ("signal-for-broadcast", 2, LOST_SIGNAL.format(
+        r"the last signal, at monitor\.h:22, woke thread \d")),
+    ("nobody-signals", 2, LOST_SIGNAL.format("nobody has signalled")),
 ])
-def test_wrong_count(planted, tmp_path, name, said):
-    """A trace has no counts and no flag. The outcome of the next section shows a wrong one."""
-    done = ran(planted("rw_fifo", name), 3, 1, 0, tmp_path)
-    assert re.search(rf"\nrefused at line 12 of the trace, rw_fifo.c:\d+: '{said}': OtherOutcome",
-                     done.stdout)
-    assert "the run hangs" in done.stdout
-
-
-@pytest.mark.parametrize("name, woke", [
-    ("signal-for-broadcast", r"the last signal, at monitor\.h:22, woke thread \d"),
-    ("nobody-signals", "nobody has signalled"),
-])
-def test_lost_signal(planted, tmp_path, name, woke):
-    """A run that hangs names the last signal, and whom it woke."""
-    done = ran(planted("rw_fifo", name), 3, 1, 2, tmp_path)
-    assert re.search(rf"\nthe run hangs: .* waits for a signal .*; {woke}\n", done.stdout)
+def test_mistake_in_c(planted, tmp_path, name, preemptions, said):
+    """A trace has no counts and no flag. The outcome of the next section shows a wrong one. A run
+    that hangs names the last signal, and whom it woke."""
+    assert re.search(said, ran(planted("rw_fifo", name), 3, 1, preemptions, tmp_path).stdout)
 
 
 # Whoever comes last signals, and whoever is woken does too. The first to be woken is printed.
