@@ -7,8 +7,7 @@ const places = (selectors) => Object.fromEntries(selectors.map((one) => [one, al
     return { left, right, top, bottom, middle: (top + bottom) / 2 };
   })]));
 
-// Opens a dialog by its key.
-function openBy(name) {
-  key(name);
-  return all('dialog[open]').map(({ id }) => id);
+function scrollDown(selector) {
+  const box = document.querySelector(selector);
+  box.scrollTop = box.scrollHeight;
 }

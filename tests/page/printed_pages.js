@@ -65,8 +65,10 @@ function marksToFillIn() {
     isIn(one, line, 9999, 1.5)));
   const blanks = all('#paper .strip .step.blank');
   const words = all('#paper .strip .move .word-label');
+  const isBelow = (one) => isIn(one, one.parentNode.querySelector('.word-label'), 2, 999);
   return {
-    askew: blanks.filter((one) => !isOnLine(one)).map((one) => one.parentNode.dataset.move),
+    askew: blanks.filter((one) => !isOnLine(one) || !isBelow(one))
+      .map((one) => one.parentNode.dataset.move),
     words: words.map((one) => [Number(one.parentNode.dataset.move), one.textContent])
       .sort(([one], [other]) => one - other),
     overlaps: strips.flatMap((one) => (

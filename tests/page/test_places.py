@@ -118,6 +118,9 @@ def test_why_a_line_is_there(page, width, beside):
         page, "#why-code", "#why-changes", "#why-back", "#why-place", "#why-next")
     assert in_a_row([back, place, forward])
     assert (code["right"] <= changes["left"]) == beside == (code["bottom"] > changes["top"] + 1)
+    page.js("scrollDown", "#why")
+    [code], [changes] = boxes(page, "#why-code", "#why-changes")
+    assert code["top"] >= 0 if beside else in_a_column([code, changes])
 
 
 def test_cards_of_the_start(page):

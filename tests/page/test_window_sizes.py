@@ -127,6 +127,25 @@ def test_how_large_memory_is(page):
         assert least <= round(scale, 2) <= most and fits, (width, scale)
 
 
+def test_room_for_all_moves(page):
+    """Columns are narrower if all moves have room then."""
+    page.open("#lesson=ticket-wraps-at-2-bits&move=28")
+    assert page.js("texts", "#numbers .number") == [str(move) for move in range(1, 29)]
+
+
+@pytest.mark.parametrize("lesson, move", [("mcs-late-link", 12), ("fifo-second-writer", 13)])
+def test_a_line_out_of_view(page, lesson, move):
+    """A line that was out of view comes into the middle, so that lines before and after it are in
+    view too."""
+    page.resize(1024, 600)
+    page.open(f"#lesson={lesson}&move={move}")
+    page.go(1)
+    assert page.js("linesAround")[0] == 0
+    page.go(move)
+    before, after = page.js("linesAround")
+    assert before > 0 and after > 0 and abs(before - after) <= 1, (before, after)
+
+
 def test_memory_keeps_its_room(page):
     """Whatever is said below it at a move, memory has the same room."""
     page.open(LESSON)

@@ -95,6 +95,13 @@ function scaleOfMemory() {
     inside(rect(svg), rect(byId('memory-picture')))];
 }
 
+// How many lines in view are before and after the line of the move.
+function linesAround() {
+  const seen = all('.code-line').filter((one) => isSeen(one, byId('code-lines')));
+  const [first] = all('.code-line.here');
+  return [seen.indexOf(first), seen.length - 1 - seen.indexOf(all('.code-line.here').at(-1))];
+}
+
 const heightsOfMemory = (last) => Array.from({ length: last + 1 }, (_, move) => {
   go(move);
   return byId('memory-picture').clientHeight;
