@@ -200,7 +200,7 @@ def test_a_strip(page):
     ("simple-second-writer", 6), ("fifo-reader-waits-behind-writer", 6)])
 def test_parts_are_apart(page, lesson, move):
     """From top to bottom a picture has its title, the numbers just above the lanes, the signs, and
-    memory, with the code beside it."""
+    memory, as large as on the page, with the code beside it."""
     page.open(f"#lesson={lesson}&move={move}")
     title, numbers, lanes, signs, memory, code, whole = page.js("partsOf", EVERYTHING)
     assert title["bottom"] <= numbers["top"] + 8 and abs(numbers["bottom"] - lanes["top"]) < 1
@@ -208,8 +208,7 @@ def test_parts_are_apart(page, lesson, move):
         assert 5 <= below["top"] - above["bottom"] <= 40, (above, below)
     assert 8 <= whole["bottom"] - max(memory["bottom"], code["bottom"]) <= 30
     assert code["left"] >= memory["right"] and code["right"] <= whole["right"] - 10
-    assert memory["scale"] >= page.js("scaleOfMemory") >= 1, "as large as on the page"
-    assert abs(code["top"] - memory["top"]) < 20
+    assert abs(code["top"] - memory["top"]) < 20 and memory["scale"] >= page.js("scaleOfMemory")
 
 
 # Looks in which the page itself shows no lanes.
