@@ -4,23 +4,25 @@ import { looks } from '../model/looks.js';
 
 const MEASURED = 5000;
 const LONGEST = 200;
-// The fonts of `style`, by what is written in them.
+// The fonts of `style`, by what is written in them: their weight, size and family.
 const FONTS = {
-  lane: ['660 16px', '--letters'],
-  name: ['660 15px', '--letters'],
-  small: ['600 13px', '--letters'],
-  word: ['560 14.5px', '--mono'],
-  wants: ['400 14.5px', '--letters'],
+  lane: ['660', '16px', '--letters'],
+  name: ['660', '15px', '--letters'],
+  small: ['600', '13px', '--letters'],
+  word: ['560', '14.5px', '--mono'],
+  wants: ['400', '14.5px', '--letters'],
 };
-const IN_A_HALL = { small: ['600 14.5px', '--letters'] };
+// Of all texts of pictures.
+const SIZE_IN_A_HALL = '14.5px';
 
 // Made when it is first used, since the build reads this file without a browser.
 let pen = null;
 const widths = new Map();
 
 function fontOf(kind) {
-  const [size, family] = (looks.hall && IN_A_HALL[kind]) || FONTS[kind];
-  return `${size} ${getComputedStyle(document.documentElement).getPropertyValue(family)}`;
+  const [weight, size, family] = FONTS[kind];
+  const letters = getComputedStyle(document.documentElement).getPropertyValue(family);
+  return `${weight} ${looks.hall ? SIZE_IN_A_HALL : size} ${letters}`;
 }
 
 export function widthOf(text, kind) {
