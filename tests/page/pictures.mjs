@@ -358,6 +358,20 @@ assert.deepEqual(covered(TWO_BITS).text.filter((one) => one.startsWith('mono val
 assert.deepEqual(covered(TWO_BITS).path.length, 2, 'what the hands are is said');
 assert.deepEqual(covered(ALL_BITS).text.filter((one) => one.endsWith('?')).length, 5);
 
+// One for standings covers who has a ticket, who is inside and whether it reads, and the standing
+// and the order of records.
+const standings = (lock, moves) => drawn(lock, [`#! ask ${moves.length} hide standing : Who?`,
+  `#! answer ${moves.length} See.`, ...moves], wide(700, { answered: false }));
+assert.deepEqual(standings(ALL_BITS, TICKETS).text.slice(-2),
+  ['note: 24 104 Tickets in the order of the queue', 'note: 24 138 ?']);
+assert.deepEqual(standings(TWO_BITS, TICKETS).rect.length, 2, 'no variable');
+assert.deepEqual(standings('lock rw-simple threads 3', INSIDE.slice(0, 2)).text.slice(-4),
+  ['room-name: 38 115 inside', 'note: 38 146 ?', 'room-name: 336 38 at the monitor',
+    'note: 336 68 nobody']);
+const unsaid = standings('lock mcs threads 3', SWAPPED);
+assert.deepEqual([unsaid.text.filter((one) => one.startsWith('standing')), unsaid.path.slice(4)],
+  [[162, 406, 650].map((x) => `standing end: ${x} 107 ?`), []]);
+
 // How wide a picture has to be to be drawn at its full size: four records at most, each as wide as
 // its head needs, or names.
 const least = (lock, moves = []) => {
