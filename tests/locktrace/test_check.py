@@ -57,23 +57,75 @@ def test_words_that_are_no_text(tracer):
     assert tracer.run("check", b"\xff") == ("", "locktrace: the words are not UTF-8 text\n", 2)
 
 
+CR_LF = "the line ends in CR LF; a line ends in LF alone"
+WITH_CR = "lock mcs threads 2\r\n0 acquire\r\n"
+THREADS = "1: not a number of threads (BadThreads)\n"
+ESCAPE = "lock mcs threads 2\n0 \x1b[31mswap\n"
+ESCAPED = f"column 3: '\\x1b[31mswap', expected {ACTION}\n"
+ABSENT = "absent: No such file or directory (os error 2)\n"
+FOLDER = ".: Is a directory (os error 21)\n"
+TOO_LONG = "no header and no move has more than 96 bytes"
+MOVES = "".join(f"0 {word}\n" for word in ROUND) * 20_000
+
+
 @cases("words, stdin, due", {
     "all is well": ("check good", "", ("", "", 0)),
     "a schedule": ("check -", SCHEDULE, ("", "", 0)),
     "another step": ("check wrong", "", (WRONG_LINE.format("wrong"), "", 1)),
+    "a refused move without its end": ("check", "lock mcs threads 2\n0 release", (
+        "-:2: refused: '0 release', but thread 0 does not hold the lock in that mode (NotHolder)\n"
+        "-:2: note: held by nobody; queue empty\n"
+        "-:2: help: release a lock once, by the thread that took it, in the mode in which it did\n",
+        "", 1)),
     "no trace": ("check faulty", "", (FAULTY_LINE.format("faulty"), "", 4)),
-    "no header": ("check", "", (f"-:1: no header (NoHeader)\n-:1: {BEGIN}\n", "", 4)),
     "a long comment": ("check", "#" * 3_000_000 + "\n" + GOOD, ("", "", 0)),
-    "a line of 97 bytes": ("check", f"lock mcs threads 2\n{'0 acquire':97}\n",
-                           ("-:2: not a move (BadLine)\n"
-                            "-:2: note: no header and no move has more than 96 bytes\n", "", 4)),
+    "a line of 97 bytes": ("check", f"lock mcs threads 2\n{'0 acquire':97}\n", (
+        f"-:2: not a move (BadLine)\n-:2: note: {TOO_LONG}\n", "", 4)),
+    **{f"a header of {size} bytes": ("check", "lock ticket threads 2".ljust(size) + "\n", (
+        f"-:1: not a header (BadHeader)\n-:1: note: {said}\n", "", 4)) for size, said in (
+            (96, "column 23: nothing after a blank, expected the end, or 'bits'"),
+            *((size, TOO_LONG) for size in (97, 98, 200, 70_000)))},
     "a schedule of a trace": ("schedule good", "", (SCHEDULE, "", 0)),
+    "a long schedule": (
+        "schedule",
+        "# a comment\nlock ticket threads 1\n" + MOVES.replace("add\n", "add next_ticket\n"),
+        ("\nlock ticket threads 1\n" + MOVES, "", 0)),
     "no schedule": ("schedule faulty", "", ("lock ticket threads 2\n",
                                             FAULTY_LINE.format("faulty"), 4)),
     "-j with standard input": ("check -j 4 good - good", FAULTY, (FAULTY_LINE.format("-"), "", 4)),
+    # A summary groups the digits of 1,200, and counts only threads that moved, here the last.
+    "a long summary": (
+        "check --summary",
+        "lock ticket threads 64 bits 8\n" + 200 * "".join(f"63 {word}\n" for word in ROUND), (
+            "-: 1 thread, 1,200 moves, 0 waits, 0 failed compare-and-swaps, 0 polls of a late "
+            "link, longest queue 1, 0 wraps of the counter\n-: warning: no thread ever waited, so "
+            "the run shows nothing of contention\n", "", 0)),
+    # CR LF ends no line, and messages pass no escape or undecodable byte to the terminal.
+    "CR LF": ("check", WITH_CR, (f"-:{THREADS}-:1: note: {CR_LF}\n", "", 4)),
+    "explain CR LF": ("explain", WITH_CR, (f"{THREADS}  {CR_LF}\n", "", 4)),
+    "find CR LF": ("find -", WITH_CR, ("", f"-:{THREADS}  {CR_LF}\n", 4)),
+    "an escape": ("check", ESCAPE, (
+        f"-:2: not a move (BadLine)\n-:2: note: {ESCAPED}", "", 4)),
+    "explain an escape": ("explain", ESCAPE, (
+        f"2: not a move (BadLine)\n  {ESCAPED}", "", 4)),
+    "bytes that are no text": ("check", "lock mcs threads 2\n0 \udcff\n", (
+        "-:2: not a move (BadLine)\n-:2: note: column 3: bytes that are no text, expected "
+        f"{ACTION}\n", "", 4)),
+    # A file that cannot be read is reported with its name and the system's reason.
+    **{f"{command} {name}": (f"{command} {name}", "", ("", said, 3))
+       for command in ("explain", "schedule", "cover", "find")
+       for name, said in (("absent", ABSENT), (".", FOLDER))},
+    "check absent": ("check absent", "", (ABSENT, "", 3)),
+    "no header": ("check", "", (f"-:1: no header (NoHeader)\n-:1: {BEGIN}\n", "", 4)),
+    "schedule of no header": ("schedule", "# nothing\n",
+                              ("\n", f"-:2: no header (NoHeader)\n-:2: {BEGIN}\n", 4)),
+    "explain no header": ("explain", "# nothing\n", (
+        f"2: no header (NoHeader)\n  {BEGIN}\n", "", 4)),
+    "cover no header": ("cover", "# nothing\n", (
+        "", f"-:2: no header (NoHeader)\n-:2: {BEGIN}\n", 4)),
 })
 def test_text(tracer, words, stdin, due):
-    assert tracer.run(*words.split(), stdin=stdin) == due
+    assert tracer.run(*words.split(), stdin=stdin, errors="surrogateescape") == due
 
 
 @cases("words, status, parts", {
@@ -182,85 +234,10 @@ def test_long_report(tracer, more, due):
     assert tracer.run("check", *more, *["bad"] * 3_000) == (due, "", 4)
 
 
-def test_long_summary(tracer):
-    """A summary groups the digits of 1,200, and counts only threads that moved, here the last."""
-    longer = "lock ticket threads 64 bits 8\n" + 200 * "".join(f"63 {word}\n" for word in ROUND)
-    assert tracer.run("check", "--summary", stdin=longer) == (
-        "-: 1 thread, 1,200 moves, 0 waits, 0 failed compare-and-swaps, 0 polls of a late link, "
-        "longest queue 1, 0 wraps of the counter\n"
-        "-: warning: no thread ever waited, so the run shows nothing of contention\n", "", 0)
-
-
-CR_LF = "the line ends in CR LF; a line ends in LF alone"
-THREADS = "1: not a number of threads (BadThreads)\n"
-ESCAPE = f"column 3: '\\x1b[31mswap', expected {ACTION}\n"
-
-
-@cases("words, text, due", {
-    "CR LF": ("check", "", (f"-:{THREADS}-:1: note: {CR_LF}\n", "", 4)),
-    "explain CR LF": ("explain", "", (f"{THREADS}  {CR_LF}\n", "", 4)),
-    "find CR LF": ("find -", "", ("", f"-:{THREADS}  {CR_LF}\n", 4)),
-    "an escape": ("check", "\x1b[31mswap", (
-        f"-:2: not a move (BadLine)\n-:2: note: {ESCAPE}", "", 4)),
-    "explain an escape": ("explain", "\x1b[31mswap", (
-        f"2: not a move (BadLine)\n  {ESCAPE}", "", 4)),
-    "bytes that are no text": ("check", "\udcff", (
-        "-:2: not a move (BadLine)\n-:2: note: column 3: bytes that are no text, expected "
-        f"{ACTION}\n", "", 4)),
-})
-def test_odd_text(tracer, words, text, due):
-    """CR LF ends no line, and messages pass no escape or undecodable byte to the terminal."""
-    stdin = (f"lock mcs threads 2\n0 {text}\n" if text else "lock mcs threads 2\r\n0 acquire\r\n")
-    assert tracer.run(*words.split(), stdin=stdin, errors="surrogateescape") == due
-
-
-ABSENT = "absent: No such file or directory (os error 2)\n"
-FOLDER = ".: Is a directory (os error 21)\n"
-
-
-@cases("words, stdin, due", {
-    **{f"{command} {name}": (f"{command} {name}", "", ("", said, 3))
-       for command in ("explain", "schedule", "cover", "find")
-       for name, said in (("absent", ABSENT), (".", FOLDER))},
-    "check absent": ("check absent", "", (ABSENT, "", 3)),
-    "schedule of no header": ("schedule", "# nothing\n",
-                              ("\n", f"-:2: no header (NoHeader)\n-:2: {BEGIN}\n", 4)),
-    "explain no header": ("explain", "# nothing\n", (
-        f"2: no header (NoHeader)\n  {BEGIN}\n", "", 4)),
-    "cover no header": ("cover", "# nothing\n", (
-        "", f"-:2: no header (NoHeader)\n-:2: {BEGIN}\n", 4)),
-})
-def test_input_without_a_trace(tracer, words, stdin, due):
-    """A file that cannot be read is reported with its name and the system's reason."""
-    assert tracer.run(*words.split(), stdin=stdin) == due
-
-
 def test_cover_all_the_same(tracer):
     output, *more = tracer.run("cover", "good", "absent")
     assert more == [ABSENT, 3]
     assert output.startswith("mcs: 5 of 16 kinds of transition, in 7 moves\n")
-
-
-def test_long_schedule(tracer):
-    moves = "".join(f"0 {word}\n" for word in ROUND) * 20_000
-    trace = "# a comment\nlock ticket threads 1\n" + moves.replace("add\n", "add next_ticket\n")
-    assert tracer.run("schedule", stdin=trace) == ("\nlock ticket threads 1\n" + moves, "", 0)
-
-
-@pytest.mark.parametrize("size", [96, 97, 98, 200, 70_000])
-def test_long_header_of_a_trace(tracer, size):
-    said = ("column 23: nothing after a blank, expected the end, or 'bits'" if size == 96
-            else "no header and no move has more than 96 bytes")
-    assert tracer.run("check", stdin="lock ticket threads 2".ljust(size) + "\n") == (
-        f"-:1: not a header (BadHeader)\n-:1: note: {said}\n", "", 4)
-
-
-def test_refused_move_without_its_end(tracer):
-    assert tracer.run("check", stdin="lock mcs threads 2\n0 release") == (
-        "-:2: refused: '0 release', but thread 0 does not hold the lock in that mode (NotHolder)\n"
-        "-:2: note: held by nobody; queue empty\n"
-        "-:2: help: release a lock once, by the thread that took it, in the mode in which it did\n",
-        "", 1)
 
 
 @pytest.mark.parametrize("jobs", [2, 3, 8, 64])
