@@ -14,7 +14,7 @@ from endless import Endless
 from spaces import measured, searched, walk
 from tree import cases, ran
 
-# The arguments of `find`, and its message that no run has the lines.
+# The arguments of `find`, and its message that no run has the lines, or goes on for ever with them.
 NOWHERE = [
     (["mcs", "2", "--rounds", "1", "0 cas done", "0 swap"],
      "no run of 2 threads with 1 round each has '0 swap' after '0 cas done': "
@@ -48,6 +48,14 @@ NOWHERE = [
     (["mcs", "2", "not 1 write", "0 cas failed"],
      "no run of 2 threads with any number of rounds each has 'not 1 write', then '0 cas failed': "
      "all 89 states were searched\n"),
+    (["ticket", "2", "--bits", "2", "0 add", "again", "0 read waits", "not 0 read entered"],
+     "no run of 2 threads with any number of rounds each, on words of 2 bits, goes on for ever "
+     "with '0 read waits' and 'not 0 read entered' after '0 add': all 112 states were searched, "
+     "and in a cycle each thread moves that is in a call or holds the lock\n"),
+    (["mcs", "1", "--rounds", "1", "again", "0 cas done"],
+     "no run of 1 thread with 1 round, on words of 64 bits, goes on for ever with '0 cas done': "
+     "all 7 states were searched, and in a cycle each thread moves that is in a call or holds the "
+     "lock\n"),
 ]
 
 LINE = "not a line of a sketch (BadLine)"
@@ -283,22 +291,6 @@ def test_sketch(tracer, lockreplay, sketch):
 
 
 FROM = "# from line {} on, again and again"
-
-NEVER = [
-    (["ticket", "2", "--bits", "2", "0 add", "again", "0 read waits", "not 0 read entered"],
-     "no run of 2 threads with any number of rounds each, on words of 2 bits, goes on for ever "
-     "with '0 read waits' and 'not 0 read entered' after '0 add': all 112 states were searched, "
-     "and in a cycle each thread moves that is in a call or holds the lock\n"),
-    (["mcs", "1", "--rounds", "1", "again", "0 cas done"],
-     "no run of 1 thread with 1 round, on words of 64 bits, goes on for ever with '0 cas done': "
-     "all 7 states were searched, and in a cycle each thread moves that is in a call or holds the "
-     "lock\n"),
-]
-
-
-@pytest.mark.parametrize("words, said", NEVER, ids=str)
-def test_never(tracer, words, said):
-    assert tracer.run("find", *words) == ("", said, 1)
 
 
 @pytest.mark.parametrize("row", list(search_rows.endless()), ids=str)
