@@ -166,6 +166,7 @@ const factsDrawn = () => ({
   head: text('#now .head'), outcome: document.querySelector('#now .outcome')?.classList[1] ?? null,
   holds: pillsIn('#now [data-holders]'), does: text('#now [data-holders] > .soft'),
   queue: pillsIn('#now [data-queue]'),
+  means: attribute('#now .outcome', 'title') === text('#now .plain'),
   gaps: texts('#now [data-queue] .gap'), spoken: text('#spoken'), position: text('#position'),
 });
 

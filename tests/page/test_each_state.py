@@ -192,7 +192,7 @@ def check_facts(replay, at, state, move, shown):
         return
     who, shape = replay.name(move.thread), shape_of(move)
     assert shown["head"] == f"{at}{who}, {move.word}{'cas fails' if shape == 'fails' else shape}"
-    assert shown["outcome"] == shape
+    assert shown["outcome"] == shape and shown["means"], "its tip says what it means"
     assert shown["spoken"].startswith(
         f"Move {at} of {len(replay.moves)}. {who}, {move.word}, {move.outcome}. ")
 

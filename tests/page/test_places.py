@@ -126,6 +126,8 @@ def test_why_a_line_is_there(page, width, beside):
 def test_cards_of_the_start(page):
     """Four cards are beside each other, each with its picture, its name and its lessons."""
     page.open()
+    languages, close = boxes(page, "#lessons .languages button", "#lessons form button")
+    assert in_a_row([*languages, *close]) and 1440 - 60 < close[0]["right"] < 1440
     cards, pictures, names, lists = boxes(
         page, ".lock-card", ".lock-card .live", ".lock-card h3", ".lock-card ol")
     assert in_a_row(cards, 0) and same(cards, "top") and same(pictures, "bottom")
@@ -134,3 +136,22 @@ def test_cards_of_the_start(page):
     assert len(numbers) == len(titles) > 12
     assert all(one["right"] < other["left"] and abs(one["top"] - other["top"]) < 6
                for one, other in zip(numbers, titles))
+
+
+def test_a_notice(page):
+    """It is in the middle of the window, at its foot."""
+    page.open(LATE_LINK)
+    page.press("l")
+    page.until("text", "#notice")
+    [[notice]] = boxes(page, "#notice")
+    assert abs(notice["left"] + notice["right"] - 1440) <= 2 and 860 < notice["bottom"] < 900
+
+
+def test_what_is_said_without_the_machine(page):
+    """The button that closes it is at the right edge, beside what is said, above all parts."""
+    page.before("withoutMachine")
+    page.open(LATE_LINK)
+    [banner], [said], [close], [work] = boxes(
+        page, "#banner", "#banner span", "#banner button", "#work")
+    assert in_a_row([said, close]) and in_a_column([banner, work])
+    assert 0 <= banner["right"] - close["right"] <= 20 and said["left"] - banner["left"] <= 20

@@ -156,6 +156,7 @@ def test_it_stays_a_trace(page):
     assert page.shown(moves=3)["held"] == RIGHT
     page.go(2)
     assert page.js("recorded") == ["0 add next_ticket found 0", "next_ticket found 0 left 1, moved"]
+    assert page.shown()["spoken"].endswith(" The recorded run has the same.")
     assert page.js("texts", "#now .facts dt") == [
         "Wrote", "Recorded", "Lock here", "Holds", "Queue"]
 

@@ -53,6 +53,8 @@ def test_lesson(page, name, count, last, parts):
     assert "refused" not in page.shown()["now"]
     page.press(*["ArrowRight"] * (count + 1))
     check_scene(page, count, last, parts)
+    line = page.text("#now .refused-text").split()
+    assert page.text("#now mark.bad") == line[name != "no-such-thread"], "what is struck through"
     shown = page.shown(mode="lessons")
     place = f"#lesson=refused-{name}&move={count + 1}"
     page.becomes(place, "address")
