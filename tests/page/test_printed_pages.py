@@ -23,6 +23,7 @@ def test_a_lesson(page):
     assert all(row[4] for row in rows)
     assert page.js("count", "#paper .strip") >= 2
     assert page.js("count", "#paper .future") == 0
+    assert page.js("count", "#paper > p") == 0, "all moves are there"
 
 
 # A trace as a recorder writes it.
@@ -234,6 +235,7 @@ def test_marks_of_many_threads(page, threads):
     assert shown["askew"] == shown["overlaps"] == []
     assert shown["words"] == [[number, "acquire"] for number in range(1, threads + 1)]
     assert shown["notes"] == [f"thread {thread}" for thread in range(threads)]
+    assert page.js("count", "#paper .strip.many") == (threads > 5), "whose letters are smaller"
 
 
 def test_a_black_screen_on_paper(page):

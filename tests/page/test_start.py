@@ -126,8 +126,9 @@ def test_the_first_lesson(page):
 
 
 def test_the_point_of_a_schedule_of_ones_own(page):
-    """No card says it, so it is before the first move."""
+    """No card says it, so it is before the first move, other than in a lesson."""
     page.open("#lesson=ticket-hand-over&move=0")
+    assert page.js("count", "#now .own-say") == 0
     page.show("#! learn Who comes first.\nlock ticket threads 1\n")
     assert page.text("#now .own-say") == "Who comes first."
 
