@@ -46,7 +46,10 @@ def test_help(tracer, command):
     "order --format xml good -o made", "order thread-0.log -o ''", "tour mcs 2 -o ''",
     "tour mcs 2 -o -", "explain --moves 0..3", "explain --moves 4..3",
     "explain --moves ..3", "explain --moves x", "explain --moves ''", "order thread-0.log",
-    "explain a b"])
+    "explain a b", "find", "find mcs 2", "find mcs 2 --rounds 0 '0 cas'",
+    "find mcs 2 --rounds 256 '0 cas'", "space mcs", "space mcs 2 --format xml",
+    "space mcs 2 --limit 0", "space mcs 2 --limit 4000000001", "cover --require release",
+    "cover --format tap"])
 def test_usage(tracer, words):
     output, error, status = tracer.run(*shlex.split(words))
     assert (output, status) == ("", 2)
@@ -116,6 +119,9 @@ MOVES = "".join(f"0 {word}\n" for word in ROUND) * 20_000
        for command in ("explain", "schedule", "cover", "find")
        for name, said in (("absent", ABSENT), (".", FOLDER))},
     "check absent": ("check absent", "", (ABSENT, "", 3)),
+    "check .": ("check .", "", (FOLDER, "", 3)),
+    "the greatest status wins": ("check wrong absent faulty good", "", (
+        WRONG_LINE.format("wrong") + ABSENT + FAULTY_LINE.format("faulty"), "", 4)),
     "no header": ("check", "", (f"-:1: no header (NoHeader)\n-:1: {BEGIN}\n", "", 4)),
     "schedule of no header": ("schedule", "# nothing\n",
                               ("\n", f"-:2: no header (NoHeader)\n-:2: {BEGIN}\n", 4)),
@@ -126,18 +132,6 @@ MOVES = "".join(f"0 {word}\n" for word in ROUND) * 20_000
 })
 def test_text(tracer, words, stdin, due):
     assert tracer.run(*words.split(), stdin=stdin, errors="surrogateescape") == due
-
-
-@cases("words, status, parts", {
-    "no such file": ("check absent", 3, ("absent: ", "o such file")),
-    "a directory": ("check .", 3, (".: ", "irectory")),
-    "the greatest status wins": ("check wrong absent faulty good", 4, (
-        WRONG_LINE.format("wrong") + "absent: ", FAULTY_LINE.format("faulty"))),
-})
-def test_file_that_fails(tracer, words, status, parts):
-    output, *more = tracer.run(*words.split())
-    assert more == ["", status]
-    assert has(output, *parts)
 
 
 def test_summary(tracer):

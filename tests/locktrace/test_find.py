@@ -130,16 +130,6 @@ NO_LOCKS = [
 ]
 
 
-@pytest.mark.parametrize("words", [
-    "find", "find mcs 2", "find mcs 2 --rounds 0 '0 cas'", "find mcs 2 --rounds 256 '0 cas'",
-    "space mcs", "space mcs 2 --format xml", "space mcs 2 --limit 0",
-    "space mcs 2 --limit 4000000001", "cover --require release",
-    "cover --format tap"])
-def test_usage(tracer, words):
-    output, error, status = tracer.run(*shlex.split(words))
-    assert (output, status) == ("", 2) and error.startswith("error:")
-
-
 @pytest.mark.parametrize("lock, line, said", REFUSED)
 def test_line_that_is_refused(tracer, lock, line, said):
     """Arguments and texts with the line get the message, before any search."""
@@ -222,11 +212,6 @@ def test_not_without_a_next_line(tracer):
 })
 def test_text_that_is_no_sketch(tracer, text, said):
     assert tracer.run("find", "-", stdin=text) == ("", said, 4)
-
-
-def test_no_such_file(tracer):
-    output, error, status = tracer.run("find", "absent")
-    assert (output, status) == ("", 3) and error.startswith("absent: ") and "o such file" in error
 
 
 @pytest.mark.parametrize("words, said", NOWHERE, ids=str)
