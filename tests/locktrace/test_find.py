@@ -227,18 +227,21 @@ def test_rounds_of_the_words(tracer):
 
 WIDE = (r"; in wide words the counts have no end, and narrow ones \(--bits {}\) make the space "
         "finite")
+MORE = r" \(--limit allows more\)"
 
 
 @pytest.mark.parametrize("words, states, more", [
-    ("mcs 3 --limit 100 '0 cas done' '0 swap'", r"1\d\d", r" \(--limit allows more\)"),
+    ("find mcs 3 --limit 100 '0 cas done' '0 swap'", r"1\d\d", MORE),
+    ("space mcs 3 --limit 100", r"1\d\d", MORE),
+    ("space mcs 3 --format dot --limit 9", r"1\d+", MORE),
     # The narrowest words for four threads have three bits; words have at least two.
-    ("ticket 4 --rounds any --limit 9 '0 release'", r"\d\d", WIDE.format(3)),
-    ("rw-fifo 4 --rounds any --limit 9 '0 runlock'", r"\d\d", WIDE.format(3)),
-    ("ticket 2 --limit 50 again", "51", WIDE.format(2)),
-    ("ticket 1 --rounds any --limit 3 '0 release'", "4", WIDE.format(2))])
+    ("find ticket 4 --rounds any --limit 9 '0 release'", r"\d\d", WIDE.format(3)),
+    ("find rw-fifo 4 --rounds any --limit 9 '0 runlock'", r"\d\d", WIDE.format(3)),
+    ("find ticket 2 --limit 50 again", "51", WIDE.format(2)),
+    ("find ticket 1 --rounds any --limit 3 '0 release'", "4", WIDE.format(2))])
 def test_not_decided(tracer, words, states, more):
     """In wide words the counters grow without end, so the message proposes narrow ones."""
-    output, error, status = tracer.run("find", *shlex.split(words))
+    output, error, status = tracer.run(*shlex.split(words))
     assert (output, status) == ("", 3)
     assert re.fullmatch(
         f"locktrace: not decided: the search stopped at {states} states{more}\n", error)

@@ -66,14 +66,6 @@ def test_format(tracer, words, due):
     assert tracer.run("space", *words.split()) == (due, "", 0)
 
 
-@pytest.mark.parametrize("more", ["--limit 100", "--format dot --limit 9"])
-def test_limit(tracer, more):
-    output, error, status = tracer.run("space", "mcs", "3", *more.split())
-    assert (output, status) == ("", 3)
-    assert re.fullmatch(r"locktrace: not decided: the search stopped at 1\d*\d states "
-                        r"\(--limit allows more\)\n", error)
-
-
 def graph_of(text):
     """A map from each state's number to its moves, and from each move to the state after it."""
     graph = {int(node): {} for node in re.findall(r"^  (\d+) \[label=", text, re.MULTILINE)}
