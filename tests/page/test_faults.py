@@ -118,6 +118,7 @@ def test_it_is_said_once(page):
     page.open()
     page.js("open", "lock clh threads 2\n")
     assert page.js("places") == ["verdict"]
+    assert page.text("#verdict .found-line") == "lock clh threads 2", "the line as it is"
     page.press("e")
     assert page.js("places") == ["nothing-verdict"]
     assert "Threads: 1 to 64." in page.text("#nothing-verdict")

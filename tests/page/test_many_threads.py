@@ -150,6 +150,16 @@ def test_idle_lanes_are_folded(page):
     assert shown["lanes"] <= 6 and shown["note"].startswith(f"{20 - shown['lanes']} threads"), shown
 
 
+def test_what_is_said_of_lanes(page):
+    """How many threads have no lane, and how many lanes are out of view."""
+    page.open()
+    calls = "".join(f"{thread} acquire\n" for thread in range(30))
+    page.js("open", [f"lock ticket threads 64\n{calls}", "lessons", 30])
+    away = 30 - page.js("lanesInView")
+    assert away > 9 and page.text("#resting") == (
+        f"34 threads not drawn: no move at this time; {away} lanes above or below")
+
+
 def test_who_waits_has_a_lane(page):
     """A thread that holds or waits has a lane, even if all of its moves are out of view."""
     page.open()

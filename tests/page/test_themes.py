@@ -208,6 +208,7 @@ def test_a_link_that_is_missing(page):
     """The queue has a gap between two threads until the second has linked itself."""
     page.open("#lesson=mcs-late-link&move=12")
     assert page.js("texts", "#now [data-queue] .gap") == ["⇢"]
+    assert page.js("attribute", "#now [data-queue] .gap", "title") == "not linked"
     assert page.js("count", "#memory-picture .link.missing") == 1
     assert [page.js("isDashed", f"#memory-picture .link{kind}")
             for kind in (".missing", ":not(.missing)")] == [True, False]
@@ -310,14 +311,23 @@ OF_A_LOCK = {
 }
 
 
+MEMORY = {
+    "ticket": "Memory: who has which ticket", "mcs": "Memory, in the order of the queue",
+    "rw-simple": "Memory, and the threads beside it",
+    "rw-fifo": "Memory, and the threads beside it",
+}
+
+
 def test_what_signs_mean(page):
-    """Each legend has the signs of its lock, and the list of keys has all signs."""
+    """Each legend has the signs of its lock, beside a head on its memory, and the list of keys has
+    all signs."""
     page.open()
     for lock, own in OF_A_LOCK.items():
         page.show(f"lock {lock} threads 1\n")
         assert page.js("signs", "#legend") == {
             label: SIGNS[label] for label in [*OF_EACH_LOCK, *own]}, lock
         assert page.js("cutSigns") == [], lock
+        assert page.text("#memory-title") == MEMORY[lock]
     page.press("?")
     assert page.js("signs", "#sign-list") == {**SIGNS, **OTHER_SIGNS}
 
