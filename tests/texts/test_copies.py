@@ -47,6 +47,15 @@ def test_regions(path):
     assert generate.faults_in(path, is_check=True) == []
 
 
+@pytest.mark.parametrize("text, due", [
+    ("if (a) { x }", "if (a) {y z}"), ("if (a) { y\n    z}", "if (a) { y\n    z}"),
+    ("if (a) {}", "if (a) {y z}"), ("if (a) { x", None), ("if (b) { x }", None),
+    ("if (a) {x} if (a) {x}", None)])
+def test_filled_place(text, due):
+    """What has the same words stays as it is. A place is there once, from its begin to its end."""
+    assert places.filled(text, places.Place("", "(a) {", "}", "y z")) == due
+
+
 @pytest.mark.parametrize("place", generate.WITHOUT_MARKS, ids=lambda it: it.path)
 def test_place(place):
     assert places.faults_at(place, is_check=True) == []
