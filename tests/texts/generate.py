@@ -22,7 +22,7 @@ from catalogue import (BITS, CALLS, DAY, DIFFERS, EXPECTED, FAULTS, LIMITS, LOCK
                        RESULTS, STEPS, TOP, TRANSITIONS, VERSION, calls_of, found, is_monitor,
                        read, title_of, words_of)
 from dispatches import DISPATCHES
-from lists import LISTS as LISTS_OF_LOCKS
+from lists import LISTS_OF_LOCKS
 from phases import PHASE_TABLES
 from sentences import SENTENCES
 from steps import STEP_TABLES

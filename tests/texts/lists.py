@@ -19,7 +19,7 @@ def first_step(variant):
 
 
 OF_STEPS = "bits ws t p operation e"
-LISTS = (
+LISTS_OF_LOCKS = (
     Place(f"{PROOFS}/EachLock.antt", "Cases.{LockProof}\n", "use Rattle.lk_locks.specs",
           "".join(f"use Rattle.lk_locks.proofs.invariants.{module}\n"
                   for module in sorted(MODULES.values()))),
