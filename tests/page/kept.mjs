@@ -28,7 +28,8 @@ function begin(storage) {
 
 const listed = () => keptSchedules().map(({ name, place, title, size }) => (
   [name, place, title, size].join(' ')));
-const [ONE, TWO, THREE] = ['lock mcs threads 1\n', 'lock mcs threads 2\n', '# Three\n'].map(bytesOf);
+const [ONE, TWO, THREE] = ['lock mcs threads 1\n', 'lock mcs threads 2\n', '# Three\n']
+  .map(bytesOf);
 
 const held = begin(storageOf(Infinity));
 assert.deepEqual([listed(), keptSchedule('a'), isKept(ONE)], [[], null, false]);

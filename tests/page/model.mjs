@@ -1,7 +1,8 @@
 // Tests in Node the facts that the page reads off a lock's code, names and records: the names of
 // threads, the first difference of two runs, the activities of threads, the write that ended each
 // wait, the captions of memory, the wraps of counts, the answers of the quiz, and what is said of
-// signs that cannot be seen. The values were made by hand, from docs/LOCKS.md and reports.
+// refused moves and of signs that cannot be seen. The values were made by hand, from docs/LOCKS.md
+// and reports.
 //
 //     node tests/page/model.mjs MODULE.wasm
 
@@ -20,6 +21,7 @@ import { spansOf, unlinkedSpans } from '../../page/src/model/spans.js';
 import { learnKinds } from '../../page/src/model/kinds.js';
 import { unseenAdvice } from '../../page/src/model/unseen_signs.js';
 import { lockOf } from '../../page/src/locks/locks.js';
+import { refusalFacts } from '../../page/src/locks/refusal_facts.js';
 import { sentence } from '../../page/src/locks/sentences.js';
 import { texts } from '../../page/src/texts/texts.js';
 import { sheetPlan } from '../../page/src/view/sheet_plan.js';
@@ -222,3 +224,50 @@ for (const [sign, code] of Object.entries(CODES)) {
 assert.deepEqual(unseenAdvice('0 \u00e4dd'), { mended: null, returns: undefined,
   say: ['\u201c\u00e4\u201d is not an ASCII character, but U+00E4.'] });
 assert.equal(unseenAdvice('0 add'), null);
+
+// All that is said of a refused move: why, what is due or who holds, and what the thread could do.
+const [NO_HOLDER, NO_STEP] = ['Thread 0 does not hold what it would release.',
+  'The next step is “add”, in line 2 of the code: “ticket := add(next_ticket, 1)”.'];
+const ACQUIRE = 'Here thread 0 could call “acquire”.';
+const ADD = 'Here thread 0 could make the step “add”.';
+const HELD = 'Thread 0 holds the lock already. These locks are not reentrant.';
+/** @type {[string[], string[], object | null][]} */
+const REFUSED = [
+  [['lock ticket threads 1', '1 acquire'],
+    ['There is no thread 1: the lock has 1 thread, numbered from 0 to 0.'],
+    { line: 1, words: ['lock', 'ticket', 'threads', '1'], at: 3 }],
+  [['lock ticket threads 1', '0 rlock'], ['“rlock” is not a move of this lock.', ACQUIRE],
+    { line: 1, words: ['lock', 'ticket', 'threads', '1'], at: 1 }],
+  [['lock ticket threads 1', '0 acquire', '0 acquire'],
+    ['Thread 0 has a pending call, so it cannot begin another.', NO_STEP, ADD],
+    { move: 1, text: '0 acquire', found: '' }],
+  [['lock ticket threads 1', '0 acquire', '0 read'],
+    ['This is not the next step of thread 0.', NO_STEP, ADD],
+    { move: 1, text: '0 acquire', found: '' }],
+  [['lock ticket threads 1', '0 release'], [NO_HOLDER, 'Nobody holds the lock.', ACQUIRE],
+    { move: 0, text: 0, found: 0 }],
+  [['lock ticket threads 1', '0 read'], ['Thread 0 has no pending call, so it has no step to make.',
+    'Nobody holds the lock.', ACQUIRE], { move: 0, text: 0, found: 0 }],
+  [['lock ticket threads 1', '0 acquire', '0 add', '0 read', '0 acquire'],
+    [HELD, 'Thread 0 holds the lock.', 'Here thread 0 could call “release”.'],
+    { move: 3, text: '0 read', found: 'now_serving = 0' }],
+  [['lock rw-simple threads 1', '0 rlock', '0 section', '0 rlock'],
+    [HELD, 'Thread 0 holds the lock and reads.', 'Here thread 0 could call “runlock”.'],
+    { move: 2, text: '0 section', found: 'readers = 0' }],
+  [['lock rw-simple threads 1', '0 wlock', '0 section', '0 wlock'],
+    [HELD, 'Thread 0 holds the lock and writes.',
+      'Here thread 0 could call “wunlock” or call “downgrade”.'],
+    { move: 2, text: '0 section', found: 'flag = 0' }],
+  [['#! name 2 Ann', 'lock rw-simple threads 3', '1 rlock', '1 section', '2 rlock', '2 section',
+    '0 runlock'], [NO_HOLDER, 'Thread 1, Ann hold the lock and read.',
+    'Here thread 0 could call “rlock” or call “wlock”.'], { move: 0, text: 0, found: 0 }],
+  [['lock ticket threads 1', '0 acquire', '0 add next_ticket left 2'], [
+    'The recorded run: add next_ticket left 2. The lock here: left 1.',
+    'The step is line 2 of the code: “ticket := add(next_ticket, 1)”.'], null],
+];
+for (const [refused, said, decided] of REFUSED) {
+  const asked = new Session(machine, lines);
+  asked.open(bytesOf([...refused, ''].join('\n')));
+  const facts = refusalFacts(asked);
+  assert.deepEqual([facts.said, facts.decided], [said, decided], refused.join('; '));
+}
