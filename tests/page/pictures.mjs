@@ -363,7 +363,7 @@ assert.deepEqual(covered(ALL_BITS).text.filter((one) => one.endsWith('?')).lengt
 const standings = (lock, moves) => drawn(lock, [`#! ask ${moves.length} hide standing : Who?`,
   `#! answer ${moves.length} See.`, ...moves], wide(700, { answered: false }));
 assert.deepEqual(standings(ALL_BITS, TICKETS).text.slice(-2),
-  ['note: 24 104 Tickets in the order of the queue', 'note: 24 138 ?']);
+  ['note: 24 104 Tickets in the order of the queue', 'note: 24 138 hidden until the answer']);
 assert.deepEqual(standings(TWO_BITS, TICKETS).rect.length, 2, 'no variable');
 assert.deepEqual(standings('lock rw-simple threads 3', INSIDE.slice(0, 2)).text.slice(-4),
   ['room-name: 38 115 inside', 'note: 38 146 ?', 'room-name: 336 38 at the monitor',
