@@ -197,6 +197,11 @@ function chunksOf(bytes) {
   return { kinds, seconds };
 }
 
+// The failed polls of the lanes, as TikZ draws them.
+const failedPolls = () => all('#lanes circle.waits').map((one) => [one.cx, one.cy]
+  .map((side) => Math.round(side.baseVal.value * 100) / 100))
+  .map(([x, y]) => `(${x},${y}) circle[radius=7.5pt];`);
+
 const asks = () => byId('take-answer').checkVisibility();
 
 // Fills in the wanted moves, and returns the answer of the dialog.

@@ -151,8 +151,8 @@ def test_a_strip_says_what_memory_says(page, lesson, first, last):
     strip = xml.etree.ElementTree.fromstring(page.js("stripOf", first, last))
     pictures = [one for one in strip.findall("{*}g") if one.find(".//{*}svg") is not None]
     # Two in a row, each in a cell of 560 by 326, and 14 apart.
-    assert [one.get("transform") for one in pictures] == [
-        f"translate({x},{y})" for y in (20, 360) for x in (20, 594)]
+    assert [[part.get("transform") for part in (one, one.find("{*}g"))] for one in pictures] == [
+        [f"translate({x},{y})", "translate(0,26)"] for y in (20, 360) for x in (20, 594)]
     assert [strip.get(side) for side in ("width", "height")] == ["1188", "720"]
     for move, picture in enumerate(pictures, first):
         page.go(move)
@@ -333,11 +333,11 @@ def test_letters_for_latex(page):
 
 
 def test_dashes_for_latex(page):
-    """The two failed polls are dashed circles, and nothing else is."""
+    """The two failed polls are dashed circles where they are in the lanes, and nothing else is."""
     page.open("#lesson=mcs-late-link&move=12")
     lines = page.js("taken", "tikz", []).splitlines()
-    dashed = [line for line in lines if "dash pattern=on 3pt off 2.3pt" in line]
-    assert len(dashed) == 2 and all("circle" in line for line in dashed), dashed
+    found = [line.partition("] ")[2] for line in lines if "dash pattern=on 3pt off 2.3pt" in line]
+    assert len(found) == 2 and found == page.js("failedPolls"), found
     page.go(14)
     # The arrow to the poll that Bob's write let go on; the tail's arrow, and Ann's to Bob.
     arrows = [line for line in page.js("taken", "tikz", []).splitlines() if "-{Latex" in line]

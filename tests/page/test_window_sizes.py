@@ -118,13 +118,18 @@ def test_whose_variables(page):
 
 
 def test_how_large_memory_is(page):
-    """Where there is room, memory is drawn larger, up to 1.3 times, and else smaller."""
+    """Where there is room, memory is drawn larger, up to 1.3 times, and else smaller. That of many
+    threads is at one scale, and folded."""
     for width, height, least, most in [(1920, 1080, 1.3, 1.3), (1440, 900, 1, 1.3),
                                        (1024, 600, 0.6, 1)]:
         page.resize(width, height)
         page.open(LESSON)
         scale, fits = page.js("scaleOfMemory")
         assert least <= round(scale, 2) <= most and fits, (width, scale)
+    page.resize(1440, 900)
+    for threads, large in [(12, False), (13, True), (64, True)]:
+        page.show(f"lock ticket threads {threads}\n")
+        assert (round(page.js("scaleOfMemory")[0], 2) == 0.8) == large, threads
 
 
 def test_room_for_all_moves(page):
