@@ -1,6 +1,8 @@
 """Parts that belong together are beside each other or below each other, with nothing between."""
 import pytest
 
+from tree import cases
+
 LATE_LINK = "#lesson=mcs-late-link&move=9"
 
 
@@ -155,3 +157,41 @@ def test_what_is_said_without_the_machine(page):
         page, "#banner", "#banner span", "#banner button", "#work")
     assert in_a_row([said, close]) and in_a_column([banner, work])
     assert 0 <= banner["right"] - close["right"] <= 20 and said["left"] - banner["left"] <= 20
+
+
+BRANCH = "#lesson=mcs-late-link&move=7&play=0+cas"
+# The rows of the parts from top to bottom. A part of two rows is in both.
+ROWS = {
+    "wide": (1440, 900, LATE_LINK, ["time", "memory code now"]),
+    "medium": (1024, 768, LATE_LINK, ["time", "memory now", "memory code"]),
+    "tall": (820, 1180, LATE_LINK, ["time", "memory", "code now"]),
+    "phone": (390, 844, LATE_LINK, ["time", "now", "memory", "code"]),
+    "low": (844, 390, LATE_LINK, ["time", "memory code now"]),
+    "column": (700, 900, f"{LATE_LINK}&show=memory,code", ["memory", "code"]),
+    "hall": (1024, 768, f"{LATE_LINK}&hall", ["bar", "memory code"]),
+    "two runs": (1440, 900, BRANCH, ["other", "time", "there memory now"]),
+    "two runs in a hall": (1024, 768, f"{BRANCH}&hall", ["bar", "other there", "time memory"])}
+
+
+def are_near(parts, side, other_side):
+    """Whether the gaps from each part to the next one are narrow."""
+    return all(0 < other[other_side] - one[side] < 14 for one, other in zip(parts, parts[1:]))
+
+
+@cases("width, height, link, rows", ROWS)
+def test_the_parts_of_the_page(page, width, height, link, rows):
+    """Parts fill the page's width and the room above its foot, with narrow gaps between them."""
+    page.resize(width, height)
+    page.open(link)
+    grid = [*(row.split() for row in rows), ["foot"]]
+    names = sorted({name for row in grid for name in row} - {"foot"})
+    found = dict(zip([*names, "foot"], boxes(page, *(f"#{name}" for name in names), "footer")))
+    found = {name: one for name, [one] in found.items()}
+    for before, row in zip([[], *grid], grid):
+        parts = [found[name] for name in row]
+        assert same([parts[0], found["foot"]], "left") and same([parts[-1], found["foot"]], "right")
+        assert are_near(parts, "right", "left"), row
+        begun = [found[name] for name in row if name not in before]
+        ended = [found[name] for name in before if name not in row]
+        assert same(begun, "top"), row
+        assert all(are_near([one, other], "bottom", "top") for one in ended for other in begun), row
