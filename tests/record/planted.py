@@ -1,6 +1,7 @@
 """Planted mistakes in the recorded locks in C: how to build a lock with one, and the tables of
 mistakes/README.md, which say how many runs of each mode notice it.
 """
+import os
 import re
 import shutil
 import subprocess
@@ -78,6 +79,12 @@ def write(found):
     lines = [line for lock in LOCKS for line in table(lock, rows)]
     TABLES.write_text(f"{text.split(BEGIN)[0]}{BEGIN}\n" + "\n".join(lines)
                       + END + text.split(END)[1])
+
+
+def on_one_core(name, program):
+    """The command of a program in which one thread runs at a time: one core is fastest."""
+    cores = sorted(os.sched_getaffinity(0))
+    return ["taskset", "-c", cores[len(name) % len(cores)], program]
 
 
 def build(lock, name, mode, library, folder, *flags):

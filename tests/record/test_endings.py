@@ -72,33 +72,23 @@ def test_run_that_hangs(ended):
         assert trace.count(end) == 1
 
 
-def test_sections_that_wait(ended):
-    """A thread that only has sections which wait polls, as one does that only reads."""
-    program, logs = ended("SEED", "for (;;) LR_LOCK((void)0), LR_SECTION(1, waits), "
-                          "LR_UNLOCK((void)0)", "-DLR_PATIENCE=99")
-    done = ran(program, 2, 9, 1, logs)
-    assert re.search(r"the run hangs: .*thread 1 polls \('section 1 waits' at ", done.stderr)
+@pytest.mark.parametrize("mode, body, more, said", [
+    # A thread that only has sections which wait polls, as one does that only reads.
+    ("SEED", "for (;;) LR_LOCK((void)0), LR_SECTION(1, waits), LR_UNLOCK((void)0)",
+     ["-DLR_PATIENCE=99"], r"the run hangs: .*thread 1 polls \('section 1 waits' at "),
+    ("VALUES", "for (;;) sched_yield()", [],
+     r"[12] of 2 threads have not ended, and made no move for 1 s: (thread 0 \(.*\), )?"
+     r"thread 1 \('read now_serving found \d+' at ticket\.h:14\)\n$"),
+    # Thread 1 ends inside `release`, and the message names the call.
+    ("SEED", "LR_CALL(release); lr_end(&lr_self->run->logs[1]); pthread_exit(NULL)",
+     ["-DLR_CHECK"], r"thread 1 has ended inside a call \('release' at endings\.c:\d+\)")])
+def test_thread_that_does_not_end(ended, mode, body, more, said):
+    program, logs = ended(mode, body, *more)
+    done = ran(program, 2, 9, 1, logs, *([1] if mode == "VALUES" else []))
+    assert re.match(f"lockreplay_record: {said}", done.stderr), done.stderr
     assert done.returncode == 1
-
-
-def test_threads_that_stand_still(ended):
-    program, logs = ended("VALUES", "for (;;) sched_yield()")
-    done = ran(program, 2, 9, 1, logs, 1)
-    assert re.match(r"lockreplay_record: [12] of 2 threads have not ended, and made no move for 1 "
-                    r"s: (thread 0 \(.*\), )?thread 1 \('read now_serving found \d+' at "
-                    r"ticket\.h:14\)\n$", done.stderr)
-    assert done.returncode == 1
-    assert (logs / "thread-1.log").read_text().endswith("# thread 1 has not ended\n")
-
-
-def test_thread_that_ends_in_a_call(ended):
-    """Thread 1 ends inside `release`, and the message names the call."""
-    program, logs = ended("SEED", "LR_CALL(release); lr_end(&lr_self->run->logs[1]); "
-                          "pthread_exit(NULL)", "-DLR_CHECK")
-    done = ran(program, 2, 9, 1, logs)
-    assert re.sub(r":\d+", ":LINE", done.stderr).startswith(
-        "lockreplay_record: thread 1 has ended inside a call ('release' at endings.c:LINE)")
-    assert done.returncode == 1
+    if mode == "VALUES":
+        assert (logs / "thread-1.log").read_text().endswith("# thread 1 has not ended\n")
 
 
 def test_thread_that_goes_on(built, tmp_path):
@@ -147,11 +137,18 @@ def test_full_log_of_a_thread_that_goes_on(ended):
     assert (logs / "thread-1.log").read_text().endswith("\n# thread 1 was stopped\n")
 
 
-def test_no_room_on_the_disk(ended):
-    """The program removes a file that it cannot write to the end."""
-    program, logs = ended("SEED", "(void)0")
-    assert answer("sh", "-c", f"trap '' XFSZ; ulimit -f 4; exec {program} 3 400 1 {logs}")[1:] == (
-        refusal(f"{logs}/thread-0.log: File too large")[1:])
+NO_MEMORY = "no memory for 5120000 moves of each of 2 threads: Cannot allocate memory"
+
+
+@pytest.mark.parametrize("mode, limit, words, said", [
+    ("SEED", "trap '' XFSZ; ulimit -f 4", "3 400 1", "{}/thread-0.log: File too large"),
+    # Free threads would have had their notes in the folder.
+    *((mode, "ulimit -v 100000", "2 40000 1", NO_MEMORY) for mode in ("VALUES", "SEED"))])
+def test_no_room(ended, mode, limit, words, said):
+    """The program removes a file that it cannot write to the end, and leaves nothing else."""
+    program, logs = ended(mode, "(void)0")
+    assert answer("sh", "-c", f"{limit}; exec {program} {words} {logs}") == refusal(
+        said.format(logs))
     assert list(logs.iterdir()) == []
 
 
@@ -202,15 +199,6 @@ def test_no_thread(built, refusing, tmp_path, mode, words):
     done = ran(built(SOURCES / "mcs.c", mode, *refuses), *words, cwd=tmp_path)
     assert "no memory for thread 1\n" in done.stdout + done.stderr
     assert "way: " not in done.stderr and done.returncode == 3
-
-
-@pytest.mark.parametrize("mode", ["VALUES", "SEED"])
-def test_no_memory(ended, mode):
-    """Nothing is left in the folder, where free threads would have had their notes."""
-    program, logs = ended(mode, "(void)0")
-    assert answer("sh", "-c", f"ulimit -v 100000; exec {program} 2 40000 1 {logs}") == refusal(
-        "no memory for 5120000 moves of each of 2 threads: Cannot allocate memory")
-    assert list(logs.iterdir()) == []
 
 
 def test_no_memory_for_a_saved_run(built, refusing, tmp_path):

@@ -3,7 +3,6 @@
 The results of deterministic modes have to equal the tables of mistakes/README.md, and no mode may
 refuse a right lock. --write-planted also tries the modes of real threads, and writes the tables.
 """
-import os
 import re
 
 import pytest
@@ -76,9 +75,7 @@ def test_planted(library, locktrace, tour, tmp_path, pytestconfig, record_proper
         pytest.skip("what real threads do differs from run to run")
     logs, program = tmp_path / "logs", planted.build(lock, name, mode, library, tmp_path)
     logs.mkdir()
-    # If one thread runs at a time, one core is fastest.
-    cores = sorted(os.sched_getaffinity(0))
-    on_one = ["taskset", "-c", cores[len(name) % len(cores)], program]
+    on_one = planted.on_one_core(name, program)
     if mode in REAL_MODES:
         said = str(sum(is_noticed(locktrace, program, seed, logs) for seed in range(1, RUNS + 1)))
     elif mode == "EXPLORE":

@@ -9,7 +9,7 @@ import re
 import pytest
 
 from mistakes import IN_RUST
-from planted import EXPLORED, MISTAKES, build
+from planted import EXPLORED, LOCKS, MISTAKES, build
 from recorders import SOURCES
 from tree import PATIENCE, TOP, environment, ran
 
@@ -21,7 +21,6 @@ RUNS_IN_C = {"mcs": (7188, 525), "ticket": (5616, 264), "rw_simple": (2954, 2696
              "rw_fifo": (2898, 2640)}
 RUNS_IN_RUST = {"mcs": (5316, 525), "ticket": (4164, 264), "rw_simple": (976, 246),
                 "rw_fifo": (972, 248)}
-NAMED = ("mcs", "ticket", "rw_fifo")  # the locks whose runs docs/PLANTED.md counts
 SEARCHES = ("explore-all", "explore")
 
 
@@ -77,7 +76,7 @@ def test_document_has_the_runs():
     text = " ".join((TOP / "docs" / "PLANTED.md").read_text().split())
     [counted] = re.findall(r"With `LR_REDUCE=0` (.*?)\. `FOLLOW`", text)
     numbers = [int(number.replace(",", "")) for number in re.findall(r"\b\d[\d,]*\b", counted)]
-    assert numbers == [runs for table in (RUNS_IN_C, RUNS_IN_RUST) for lock in NAMED
+    assert numbers == [runs for table in (RUNS_IN_C, RUNS_IN_RUST) for lock in LOCKS
                        for runs in table[lock]]
 
 

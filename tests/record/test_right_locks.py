@@ -3,13 +3,12 @@
 If one thread runs at a time, the trace is checked; the logs of free threads have to have an order.
 A lock follows the first 100 schedules of its tour, or all if the tour has fewer.
 """
-import os
 import re
 import shutil
 
 import pytest
 
-from planted import MODES, REAL_MODES
+from planted import MODES, REAL_MODES, on_one_core
 from recorders import HERE, IN_C_PLUS_PLUS, RECORDERS, SOURCES, compile_c
 from tree import ran
 
@@ -34,12 +33,9 @@ LOCKS = [
 
 
 def program_in_c(library, target, compiler, source, mode):
-    """Builds a lock. If one thread runs at a time, one core is fastest."""
     assert compile_c(compiler, source, target, *MODES[mode],
                      library=None if mode in FREE else library) == ""
-    cores = sorted(os.sched_getaffinity(0))
-    on_one = ["taskset", "-c", cores[len(mode + source.name) % len(cores)]]
-    return [*([] if mode in FREE else on_one), target]
+    return [target] if mode in FREE else on_one_core(mode + source.name, target)
 
 
 def first_schedules(tour, lock, folder):

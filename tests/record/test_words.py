@@ -7,7 +7,7 @@ import re
 import pytest
 
 from recorders import HEAD, HERE, IN, SOURCES, compile_c, once, refusal
-from tree import answer, ran
+from tree import PATIENCE, answer, ran
 
 pytestmark = pytest.mark.slow
 
@@ -178,11 +178,11 @@ CALLS = [
 
 @pytest.fixture
 def called(built):
-    """Builds calls.c with a BODY in a mode, and runs it."""
-    def call(body, mode):
+    """Builds calls.c with a BODY in a mode, and runs it for at most so many seconds."""
+    def call(body, mode, seconds=30):
         mode, *options = mode.split()
-        return ran("timeout", "30", built(HERE / "calls.c", mode, *options, "-O1", "-Wno-unused",
-                                          f"-DBODY={body}"))
+        return ran("timeout", seconds, built(HERE / "calls.c", mode, *options, "-O1",
+                                             "-Wno-unused", f"-DBODY={body}"))
     return call
 
 
@@ -271,38 +271,34 @@ def test_noise(called, option, one_in, make):
 
 
 @pytest.mark.parametrize("mode, turns", [("SEED", 20002), ("EXPLORE", 1002)])
-def test_patience(built, mode, turns):
+def test_patience(called, mode, turns):
     """By itself a run hangs after so many turns with nothing but polls, its first and its last."""
-    body = f'{ALONE} start(polls_for_ever, 1); lr_wait_for(run, 60); printf("%zu", run->turns);'
-    done = ran(built(HERE / "calls.c", mode, "-Wno-unused", f"-DBODY={body}"))
+    done = called(f"{ALONE} start(polls_for_ever, 1); lr_wait_for(run, 60); "
+                  'printf("%zu", run->turns);', mode, PATIENCE)
     assert (done.stdout, done.stderr) == (str(turns), "")
 
 
 @pytest.mark.parametrize("work, threads", [("comes_and_goes", 64), ("signals_nothing", 1)])
-def test_progress(built, work, threads):
+def test_progress(called, work, threads):
     """Neither the end of a thread nor LR_SWITCH is a turn in vain."""
-    body = (f'run = lr_open("mcs", {threads}, 64, 9, 1, NULL); start({work}, {threads}); '
-            "return (int)lr_await(run, 20);")
-    assert answer(built(HERE / "calls.c", "SEED", "-DLR_PATIENCE=9", "-Wno-unused",
-                        f"-DBODY={body}"))[1:] == ("", 0)
+    done = called(f'run = lr_open("mcs", {threads}, 64, 9, 1, NULL); start({work}, {threads}); '
+                  "return (int)lr_await(run, 20);", "SEED -DLR_PATIENCE=9", PATIENCE)
+    assert (done.stderr, done.returncode) == ("", 0)
 
 
-@pytest.mark.parametrize("flags, mean", [
-    ([], 8), (["-DLR_SPURIOUS=8"], 8), (["-DLR_SPURIOUS=40"], 40)], ids=str)
-def test_rate_of_wakes(built, flags, mean):
+@pytest.mark.parametrize("mode, mean", [
+    ("SEED", 8), ("SEED -DLR_SPURIOUS=8", 8), ("SEED -DLR_SPURIOUS=40", 40)])
+def test_rate_of_wakes(called, mode, mean):
     """One turn in so many wakes a thread. The bounds are six standard deviations from the mean of
     400 waits, and a thread that was woken may have to wait for its turn."""
-    program = built(HERE / "calls.c", "SEED", *flags, "-Wno-unused",
-                    "-DBODY=wakes_for_nothing(400)")
+    turns = int(called("wakes_for_nothing(400);", mode, PATIENCE).stdout)
     bound = 6 * mean / 400 ** 0.5
-    assert mean - bound < int(ran(program).stdout) / 400 < mean + bound + 2
+    assert mean - bound < turns / 400 < mean + bound + 2
 
 
-def test_who_is_woken_for_nothing(built):
+def test_who_is_woken_for_nothing(called):
     """Of two threads that wait one is woken. Before another one sees it, the seed may wake both."""
-    program = built(HERE / "calls.c", "SEED", "-DLR_SPURIOUS=20", "-Wno-unused",
-                    "-DBODY=wakes_one_for_nothing(50)")
-    done = ran(program)
+    done = called("wakes_one_for_nothing(50);", "SEED -DLR_SPURIOUS=20", PATIENCE)
     assert done.stdout.count("1\n") > 25 and done.returncode == 0, done.stdout
 
 
