@@ -205,18 +205,6 @@ def test_room_of_a_search(planted, tmp_path):
     assert done.returncode == 3
 
 
-@pytest.mark.parametrize("threads", [2, 3])
-def test_driver_that_changes(noting, tmp_path, threads):
-    """In the first run each thread makes three stores, and then thread 0 none and the others six.
-    Of two threads a choice that is due does not come up, of three it is not possible."""
-    stores = ("static _Atomic int word; int stores = runs == 1 ? 3 : thread ? 6 : 0; "
-              "while (stores--) atomic_store(&word, (int)round)")
-    program = noting("ticket", stores, "-DRESET=(void)0")
-    done = ran(program, threads, 1, 1, tmp_path / "logs")
-    assert "\nthe driver does not do the same after the same turns\n" in done.stdout, done.stdout
-    assert done.returncode == 1
-
-
 def test_again_without_a_trace(in_c, tmp_path):
     """The one message is about the trace, or if that is there about the number of threads."""
     (tmp_path / "a.trace").write_text("# way 1\n")
@@ -301,35 +289,39 @@ def test_who_is_woken(noting, tmp_path):
     assert sorted(woken) == sorted(4 * [f"woken: {thread}" for thread in range(3)])
 
 
-# What two threads do. In the first run thread 0 comes first, when both are inside. It leaves a note
-# and a signal, or each leaves a record. In the second run thread 1 comes first.
-SECOND = [
-    ("thread ? (void)0 : lr_self->run->inside == 3 ? (LR_CALL(rlock), LR_SECTION(1, entered), "
-     "LR_SIGNAL(NULL, (void)0)) : LR_WAIT(NULL, (void)0, (void)0, (void)0)",
-     "the last one is refused\nthe run hangs: thread 0 waits for a signal; nobody has signalled"),
-    ("static int of[2]; lr_self->run->inside == 3 && "
+LOOK = "(void)__atomic_load_n(&words[thread], 5)"
+# A lock, what its threads do, (threads, rounds, preemptions), and what is said.
+SEARCHED = [
+    # In the first run each thread makes three stores, and then thread 0 none and the others six. Of
+    # two threads a choice that is due does not come up, of three it is not possible.
+    *(("ticket", "static _Atomic int word; int stores = runs == 1 ? 3 : thread ? 6 : 0; "
+       "while (stores--) atomic_store(&word, (int)round)", (threads, 1, 1),
+       "\nthe driver does not do the same after the same turns\n") for threads in (2, 3)),
+    # A run knows nothing of the one before it. In the first run thread 0 comes first, when both are
+    # inside. It leaves a note and a signal, or each leaves a record. In the second run thread 1
+    # comes first.
+    ("rw-fifo", "thread ? (void)0 : lr_self->run->inside == 3 ? (LR_CALL(rlock), "
+     "LR_SECTION(1, entered), LR_SIGNAL(NULL, (void)0)) : LR_WAIT(NULL, (void)0, (void)0, (void)0)",
+     (2, 1, 0), "2 runs with up to 0 preemptions, the last one is refused\nthe run hangs: thread 0 "
+     "waits for a signal; nobody has signalled\n"),
+    ("rw-fifo", "static int of[2]; lr_self->run->inside == 3 && "
      "lr_thread_at(lr_self, (uintptr_t)&of[!thread]) != LR_UNKNOWN ? _Exit(9) : "
-     "lr_set_record(&of[thread], sizeof of[0])", "all of them accepted"),
+     "lr_set_record(&of[thread], sizeof of[0])", (2, 1, 0),
+     "2 runs with up to 0 preemptions, all of them accepted\n"),
+    # Thread 0 has another record after its step. The one preemption is tried after which thread 1
+    # finds that the first is still its own.
+    ("mcs", f"static int words[2], of[2]; if (thread) {{ {LOOK}; "
+     "if (lr_thread_at(lr_self, (uintptr_t)&of[0]) == 0) LR_CALL(release); } "
+     f"for (int i = 0; i < 2 && !thread; i++) {{ {LOOK}; lr_set_record(&of[i], sizeof of[i]); }}",
+     (2, 1, 1), "'1 release': NotHolder"),
 ]
 
 
-@pytest.mark.parametrize("notes, said", SECOND)
-def test_second_run(noting, tmp_path, notes, said):
-    """A run knows nothing of the one before it."""
-    done = ran(noting("rw-fifo", notes), 2, 1, 0, tmp_path / "logs")
-    assert done.stdout.startswith(f"2 runs with up to 0 preemptions, {said}\n"), done.stdout
-
-
-def test_record_that_changes(noting, tmp_path):
-    """Thread 0 has another record after its step. The one preemption is tried after which thread 1
-    finds that the first is still its own."""
-    look = "__atomic_load_n(&words[thread], 5)"
-    notes = (f"static int words[2], of[2]; if (thread) {{ (void){look}; "
-             "if (lr_thread_at(lr_self, (uintptr_t)&of[0]) == 0) LR_CALL(release); } "
-             f"for (int i = 0; i < 2 && !thread; i++) {{ (void){look}; "
-             "lr_set_record(&of[i], sizeof of[i]); }")
-    done = ran(noting("mcs", notes), 2, 1, 1, tmp_path / "logs")
-    assert "'1 release': NotHolder" in done.stdout and done.returncode == 1, done.stdout
+@pytest.mark.parametrize("lock, notes, counts, said", SEARCHED)
+def test_search_of_notes(noting, tmp_path, lock, notes, counts, said):
+    done = ran(noting(lock, notes, "-DRESET=(void)0"), *counts, tmp_path / "logs")
+    assert said in done.stdout
+    assert done.returncode == (0 if said.endswith("all of them accepted\n") else 1)
 
 
 @pytest.mark.parametrize("lock, name, threads, warned", [
