@@ -21,7 +21,7 @@ from pathlib import Path
 TOP = Path(__file__).resolve().parent.parent
 sys.path += [str(TOP / "tests"), str(TOP / "tests" / "record")]
 from mistakes import PATCHES  # noqa: E402
-from recorders import plant  # noqa: E402
+from recorders import copied  # noqa: E402
 from tree import ran  # noqa: E402
 
 RUNS, SECONDS = 3, 2
@@ -66,11 +66,7 @@ def main(headers):
     for patch in (None, *sorted((PATCHES / "c" / "mcs").glob("*.patch"))):
         with tempfile.TemporaryDirectory() as name:
             folder = Path(name)
-            (folder / EXAMPLE).parent.mkdir(parents=True)
-            (folder / EXAMPLE).write_text((TOP / EXAMPLE).read_text())
-            (folder / "record").symlink_to(TOP / "record")
-            if patch:
-                plant(patch, folder)
+            copied(folder, EXAMPLE.stem, patch and patch.stem)
             print(f"| `{patch.stem if patch else 'none'}` | {by_relacy(folder, headers)} | "
                   f"{by_sanitizer(folder)} |", flush=True)
 
