@@ -99,19 +99,8 @@ def log(lock, thread, lines, threads=2):
     return "\n".join([f"lock {lock} threads {threads} thread {thread}", *lines, ""])
 
 
-def named(rows):
-    return cases("row", {row[0]: row[1:] for row in rows})
-
-
-@named(ENDINGS)
-def test_logs_without_an_order(tracer, row):
-    lock, *logs, status, error = row
-    assert order(tracer, *(log(lock, t, moves) for t, moves in enumerate(logs))) == (
-        "", error, status)
-
-
 @pytest.mark.parametrize("t", [0, 1])
-@named(SUSPECTS)
+@cases("row", {row[0]: row[1:] for row in SUSPECTS})
 def test_step_that_is_named(tracer, row, t):
     lock, less, more, said, placed, standing, (at, step, wrong) = row
     logs = (less, more) if t else (more, less)
@@ -123,32 +112,27 @@ def test_step_that_is_named(tracer, row, t):
 
 
 HEADER = "lock ticket threads 2{} thread {}\n"
+FIRST, SECOND = HEADER.format("", 0) + TAKEN, HEADER.format("", 1)
 LONGEST = "lock rw-simple threads 64 bits 64 thread 63\ndropped 0\n"
 
 
 @cases("first, second, status, error", {
-    **{name: (HEADER.format("", 0) + TAKEN, HEADER.format("", 1) + text, status, error)
-       for name, text, status, error in TEXTS},
+    **{name: (log(lock, 0, moves), log(lock, 1, others), status, error)
+       for name, lock, moves, others, status, error in ENDINGS},
+    **{name: (FIRST, SECOND + text, status, error) for name, text, status, error in TEXTS},
     "other bits": (HEADER.format(" bits 8", 0) + TAKEN, HEADER.format(" bits 9", 1) + "dropped 0\n",
                    4, "1.log: of another lock than the first log's\n"),
-    "the same bits": (HEADER.format("", 0) + TAKEN, HEADER.format(" bits 64", 1) + "dropped 0\n",
-                      0, ""),
+    "the same bits": (FIRST, HEADER.format(" bits 64", 1) + "dropped 0\n", 0, ""),
     "long headers": (LONGEST, LONGEST.replace("63", "62"), 4, "locktrace: no log of thread 0\n"),
+    # A line has more bytes than a header or a move may have, so its first words do not save it.
+    **{f"{name} of {size} bytes": (FIRST, text.format(line.ljust(size)), 4, error)
+       for size in (96, 97, 98, 200, 70_000) for name, text, line, error in (
+           ("a header", "{}\ndropped 0\n", SECOND.rstrip(), BAD_HEADER),
+           ("a move", SECOND + "{}\ndropped 0\n", "acquire", BAD_MOVE.format(2)),
+           ("a last line", SECOND + "{}\n", "dropped 0", BAD_MOVE.format(2)))},
 })
 def test_text_of_a_log(tracer, first, second, status, error):
     assert order(tracer, first, second) == ("", error, status)
-
-
-@pytest.mark.parametrize("size", [96, 97, 98, 200, 70_000])
-@cases("before, line, after, error", {
-    "a header": ([], HEADER.format("", 1).rstrip(), ["dropped 0"], BAD_HEADER),
-    "a move": ([HEADER.format("", 1).rstrip()], "acquire", ["dropped 0"], BAD_MOVE.format(2)),
-    "a last line": ([HEADER.format("", 1).rstrip()], "dropped 0", [], BAD_MOVE.format(2)),
-})
-def test_long_line(tracer, size, before, line, after, error):
-    """A line has more bytes than a header or a move may have, so its first words do not save it."""
-    text = "\n".join([*before, line.ljust(size), *after, ""])
-    assert order(tracer, HEADER.format("", 0) + TAKEN, text) == ("", error, 4)
 
 
 def test_order(tracer):
