@@ -1,14 +1,17 @@
-"""The places of `lk_locks` and `lk_lines` that list the locks: the types by name, the proofs that
-differ only by the module of a lock, and the names in definitions.
+"""The places that list the locks: in `lk_locks` and `lk_lines` the types by name, the proofs that
+differ only by the module of a lock, and the names in definitions; the files of the oracle and of
+the page.
 """
+import re
+
 from catalogue import CARRIED, LOCKS, code_of, found
-from dispatches import MONITORS, QUEUES
+from dispatches import MODULE_LIST, MONITORS, QUEUES
 from places import Place
 from steps import VARIABLE
 from tables import COUNT, MODULES, TYPE, VARIANTS, uses
 
 PROOFS, TYPES = "crates/lk_locks/proofs", "crates/lk_locks/specs/Types.antt"
-LINES = "crates/lk_lines"
+LINES, ORACLE, PAGE = "crates/lk_lines", "tests/oracle/locks/__init__.py", "page/src/locks/locks.js"
 
 
 def first_step(variant):
@@ -47,4 +50,9 @@ LISTS_OF_LOCKS = (
         f'lock_name {variant} = codes "{name}"\n' for variant, name in LOCKS.items())),
     Place(f"{LINES}/specs/Vocabulary.antt", "bytes_eq name (lock_name kind)) (", ")", " ∷ ".join(
         [*VARIANTS, "[]"])),
+    Place(ORACLE, "from locks import ", "\n", MODULE_LIST),
+    Place(ORACLE, "for file in (", ")", ", ".join(MODULES.values())),
+    Place(PAGE, "gives its sentences.\n\n", "\n/**", "".join(
+        f"import {{ {re.sub('_(.)', lambda it: it[1].upper(), module)} }} from './{module}.js';\n"
+        for module in sorted(MODULES.values()))),
 )
