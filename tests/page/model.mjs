@@ -19,6 +19,7 @@ import { Run } from '../../page/src/model/run.js';
 import { Session } from '../../page/src/model/session.js';
 import { spansOf, unlinkedSpans } from '../../page/src/model/spans.js';
 import { learnKinds } from '../../page/src/model/kinds.js';
+import { faultAdvice } from '../../page/src/model/fault_advice.js';
 import { unseenAdvice } from '../../page/src/model/unseen_signs.js';
 import { lockOf } from '../../page/src/locks/locks.js';
 import { refusalFacts } from '../../page/src/locks/refusal_facts.js';
@@ -92,6 +93,10 @@ assert.equal(differs(runOf(...BEGUN), runOf(...BEGUN)), 0);
 assert.equal(differs(runOf(...BEGUN, '0 read'), runOf(...BEGUN, '1 acquire')), 3);
 assert.equal(differs(runOf(...BEGUN), runOf(...BEGUN, '0 read')), 3);
 assert.equal(differs(runOf(...BEGUN, '0 read'), runOf(...BEGUN)), 3);
+// Of refused moves after the last one the thread, the word and the reason count.
+assert.equal(differs(runOf('0 read'), runOf('0 read')), 0);
+assert.deepEqual(['1 read', '0 add', '0 release'].map((move) => (
+  differs(runOf('0 read'), runOf(move)))), [1, 1, 1]);
 
 const CAPTIONS = {
   'ticket-hand-over': {
@@ -238,6 +243,9 @@ const REFUSED = [
     { line: 1, words: ['lock', 'ticket', 'threads', '1'], at: 3 }],
   [['lock ticket threads 1', '0 rlock'], ['“rlock” is not a move of this lock.', ACQUIRE],
     { line: 1, words: ['lock', 'ticket', 'threads', '1'], at: 1 }],
+  [['lock ticket threads 1', '0 acquire', '0 rlock'],
+    ['“rlock” is not a move of this lock.', ADD],
+    { line: 1, words: ['lock', 'ticket', 'threads', '1'], at: 1 }],
   [['lock ticket threads 1', '0 acquire', '0 acquire'],
     ['Thread 0 has a pending call, so it cannot begin another.', NO_STEP, ADD],
     { move: 1, text: '0 acquire', found: '' }],
@@ -264,6 +272,10 @@ const REFUSED = [
   [['lock ticket threads 1', '0 acquire', '0 add next_ticket left 2'], [
     'The recorded run: add next_ticket left 2. The lock here: left 1.',
     'The step is line 2 of the code: “ticket := add(next_ticket, 1)”.'], null],
+  [['lock rw-simple threads 2', '0 rlock', '0 section 3 entered', '1 wlock', '1 section waits',
+    '1 section 3 waits'], [
+    'The recorded run: section 3, after section 3. The counts of sections grow.',
+    'The count may be taken outside the monitor, or two lines are in the wrong order.'], null],
 ];
 for (const [refused, said, decided] of REFUSED) {
   const asked = new Session(machine, lines);
@@ -271,3 +283,13 @@ for (const [refused, said, decided] of REFUSED) {
   const facts = refusalFacts(asked);
   assert.deepEqual([facts.said, facts.decided], [said, decided], refused.join('; '));
 }
+
+// The line of a fault: 0 for the whole text, and the line after the last if a header is missing.
+const fault = (...all) => {
+  const run = new Run(machine, bytesOf(all.join('\n')));
+  const { line, mended, say } = faultAdvice(run, ['acquire', 'add']);
+  return [line, mended, say[0]];
+};
+const { TooLong, NoHeader } = texts.faults;
+assert.deepEqual(fault('lock ticket threads 1', '#'.repeat(1048576)), [0, null, TooLong]);
+assert.deepEqual(fault('# a', '', '# b'), [4, null, NoHeader]);

@@ -8,7 +8,7 @@ from tree import TESTS, output, ran
 
 
 @pytest.mark.parametrize("script", ["module", "bytes", "moments", "known", "lib", "model",
-                                    "session", "texts", "pictures", "kept"])
+                                    "session", "texts", "pictures", "kept", "answers"])
 def test_in_node(module, script):
     done = ran("node", TESTS / "page" / f"{script}.mjs", module)
     assert done.returncode == 0, done.stderr
