@@ -3,15 +3,6 @@
 set -l commands check explain order schedule find tour space why cover help
 set -l none "not __fish_seen_subcommand_from $commands"
 set -l help '__fish_seen_subcommand_from help'
-set -l check "__fish_seen_subcommand_from check; and not $help"
-set -l explain "__fish_seen_subcommand_from explain; and not $help"
-set -l order "__fish_seen_subcommand_from order; and not $help"
-set -l schedule "__fish_seen_subcommand_from schedule; and not $help"
-set -l find "__fish_seen_subcommand_from find; and not $help"
-set -l tour "__fish_seen_subcommand_from tour; and not $help"
-set -l space "__fish_seen_subcommand_from space; and not $help"
-set -l why "__fish_seen_subcommand_from why; and not $help"
-set -l cover "__fish_seen_subcommand_from cover; and not $help"
 # generated: locks
 set -l locks ticket mcs rw-simple rw-fifo
 # end
@@ -38,6 +29,11 @@ function __locktrace_kinds
     # end
 end
 
+# Whether one of these commands is given, and no help is asked for.
+function __locktrace
+    __fish_seen_subcommand_from $argv; and not __fish_seen_subcommand_from help
+end
+
 complete -c locktrace -f
 complete -c locktrace -n $none -a check -d 'Check each move and each value of traces'
 complete -c locktrace -n $none -a explain -d 'Tell of each move what it found and left'
@@ -51,39 +47,39 @@ complete -c locktrace -n $none -a cover -d 'Count which kinds of transition trac
 complete -c locktrace -n $none -a help -d 'Print help'
 complete -c locktrace -n $none -s V -l version -d 'Print the version'
 complete -c locktrace -n "not $help" -s h -l help -d 'Print help'
-complete -c locktrace -n $check -l format -x -a 'text tap json' -d 'The form of the reports'
-complete -c locktrace -n $check -l color -x -a 'auto always never' -d 'When the text has colors'
-complete -c locktrace -n $check -s q -l quiet -d 'Write no report'
-complete -c locktrace -n $check -l summary -d 'Count moves, waits and more'
-complete -c locktrace -n $check -s j -l jobs -x -a '(seq 64)' -d 'How many threads share the files'
-complete -c locktrace -n $check -l page -r -F -d 'Write the page with the trace in it'
-complete -c locktrace -n $check -l from -r -F -d 'The page that takes the trace'
-complete -c locktrace -n $explain -l moves -x -d 'Only the moves in these lines, as 5..10'
-complete -c locktrace -n $explain -l names -x -d 'What the threads are called'
-complete -c locktrace -n $order -s o -x -a '(__fish_complete_directories)' \
+complete -c locktrace -n '__locktrace check' -l format -x -a 'text tap json' \
+    -d 'The form of the reports'
+complete -c locktrace -n '__locktrace check' -l color -x -a 'auto always never' \
+    -d 'When the text has colors'
+complete -c locktrace -n '__locktrace check order' -s q -l quiet -d 'Write no report'
+complete -c locktrace -n '__locktrace check' -l summary -d 'Count moves, waits and more'
+complete -c locktrace -n '__locktrace check' -s j -l jobs -x -a '(seq 64)' \
+    -d 'How many threads share the files'
+complete -c locktrace -n '__locktrace check' -l page -r -F -d 'Write the page with the trace in it'
+complete -c locktrace -n '__locktrace check' -l from -r -F -d 'The page that takes the trace'
+complete -c locktrace -n '__locktrace explain' -l moves -x \
+    -d 'Only the moves in these lines, as 5..10'
+complete -c locktrace -n '__locktrace explain' -l names -x -d 'What the threads are called'
+complete -c locktrace -n '__locktrace order' -s o -x -a '(__fish_complete_directories)' \
     -d 'Where the trace and the schedules are written'
-complete -c locktrace -n $order -l format -x -a 'text tap json' -d 'The form of the report'
-complete -c locktrace -n $order -s q -l quiet -d 'Write no report'
-for search in $tour $why
-    complete -c locktrace -n $search -l rounds -x -d 'How many times each thread takes the lock'
-end
-for search in $find $space
-    complete -c locktrace -n $search -l rounds -x -a any \
-        -d 'How many times each thread takes the lock'
-end
-for search in $find $tour $space $why
-    complete -c locktrace -n $search -l bits -x -d 'How many bits a word has'
-    complete -c locktrace -n $search -l limit -x -d 'How many states are searched at most'
-    complete -c locktrace -n "$search; and not __fish_seen_subcommand_from $locks" -a "$locks"
-end
-complete -c locktrace -n $tour -s o -x -a '(__fish_complete_directories)' \
+complete -c locktrace -n '__locktrace order' -l format -x -a 'text tap json' \
+    -d 'The form of the report'
+complete -c locktrace -n '__locktrace tour why' -l rounds -x \
+    -d 'How many times each thread takes the lock'
+complete -c locktrace -n '__locktrace find space' -l rounds -x -a any \
+    -d 'How many times each thread takes the lock'
+complete -c locktrace -n '__locktrace find tour space why' -l bits -x -d 'How many bits a word has'
+complete -c locktrace -n '__locktrace find tour space why' -l limit -x \
+    -d 'How many states are searched at most'
+complete -c locktrace -a "$locks" \
+    -n "__locktrace find tour space why; and not __fish_seen_subcommand_from $locks"
+complete -c locktrace -n '__locktrace tour' -s o -x -a '(__fish_complete_directories)' \
     -d 'Where the schedules are written'
-complete -c locktrace -n $space -l format -x -a 'text json dot' -d 'The form of the counts'
-complete -c locktrace -n $why -l runs -d 'Write the moves of each run'
-complete -c locktrace -n $cover -l format -x -a 'text json' -d 'The form of the counts'
-complete -c locktrace -n $cover -l require -x -a '(__locktrace_kinds)' \
+complete -c locktrace -n '__locktrace space' -l format -x -a 'text json dot' \
+    -d 'The form of the counts'
+complete -c locktrace -n '__locktrace why' -l runs -d 'Write the moves of each run'
+complete -c locktrace -n '__locktrace cover' -l format -x -a 'text json' -d 'The form of the counts'
+complete -c locktrace -n '__locktrace cover' -l require -x -a '(__locktrace_kinds)' \
     -d 'Kinds that may not be missing, or all'
-for files in $check $explain $order $schedule $find $cover
-    complete -c locktrace -n $files -F
-end
+complete -c locktrace -n '__locktrace check explain order schedule find cover' -F
 complete -c locktrace -n $help -a "$commands"
