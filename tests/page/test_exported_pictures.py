@@ -50,6 +50,8 @@ def test_what_was_chosen(page):
     here = [one for one in whole.iter("{http://www.w3.org/2000/svg}text")
             if "code-text here" in (one.get("class") or "")]
     assert ["".join(one.itertext()).strip() for one in here] == ["cas(tail, me, nil), or else:"]
+    bands = [float(one.get("y")) for one in whole.findall(".//{*}rect") if one.get("x") == "-8"]
+    assert bands == [float(one.get("y")) - 16 for one in here], "its ground is behind it"
 
 
 def test_each_part_by_its_label(page):
@@ -103,8 +105,7 @@ def test_the_theme(page):
     for theme in ["light", "dark"]:
         page.open(f"{LATE_LINK}&theme={theme}")
         grounds.append(luminance(page.js("groundOf", [])))
-    light, dark = grounds
-    assert light > 0.8 and dark < 0.05, grounds
+    assert grounds[0] > 0.8 and grounds[1] < 0.05, grounds
 
 
 def test_an_open_question_is_asked_about(page):
@@ -264,8 +265,7 @@ def test_frames_have_one_size(page):
     page.go(7)
     assert float(tree_of(page).get("height")) > low + 20
     shown = page.js("animation", 1, 7)
-    size, *frames = shown["sizes"]
-    assert frames == [size] * 7
+    assert len(shown["sizes"]) == 8 and len(set(shown["sizes"])) == 1
     assert shown["corner"] == [255, 255, 255, 255], "below a low picture is the card"
 
 

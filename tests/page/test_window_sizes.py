@@ -151,6 +151,17 @@ def test_a_line_out_of_view(page, lesson, move):
     assert before > 0 and after > 0 and abs(before - after) <= 1, (before, after)
 
 
+@pytest.mark.parametrize("width, height, look", [
+    (1024, 768, ""), (1366, 650, ""), (390, 844, ""), (1024, 768, "&hall&show=time,now")])
+def test_letters_of_another_move(page, width, height, look):
+    """How large letters are does not depend on the move that was shown before."""
+    page.resize(width, height)
+    page.open(f"{LESSON}{look}")
+    moves = list(range(17))
+    forward, back = page.js("sizesAt", moves), page.js("sizesAt", moves[::-1])
+    assert forward == back[::-1] and len({one[0] for one in forward}) > 1, forward
+
+
 def test_memory_keeps_its_room(page):
     """Whatever is said below it at a move, memory has the same room."""
     page.open(LESSON)

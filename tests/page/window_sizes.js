@@ -102,6 +102,12 @@ function linesAround() {
   return [seen.indexOf(first), seen.length - 1 - seen.indexOf(all('.code-line.here').at(-1))];
 }
 
+// How the sentences on each of these moves fit, and how far lines of code are apart there.
+const sizesAt = (moves) => moves.map((move) => {
+  go(move);
+  return [byId('now').dataset.fit ?? '', lineHeight()];
+});
+
 const heightsOfMemory = (last) => Array.from({ length: last + 1 }, (_, move) => {
   go(move);
   return byId('memory-picture').clientHeight;
