@@ -51,4 +51,7 @@ async function saved(name) {
   return [file, await blob.text()];
 }
 
+// Whether the history has this name, which a browser keeps even if it is ended.
+const isNoted = (name) => JSON.stringify(history.state).includes(name);
+
 const today = () => new Date().toISOString().slice(0, 10);

@@ -58,7 +58,7 @@ def test_a_name_is_asked_for_once(page):
     page.js("focus", "#quiz-name")
     page.press(*"Ada", "Tab")
     page.js("blur")
-    page.js("leave")
+    page.until("isNoted", "Ada")
     page.reload()
     assert page.js("value", "#quiz-name") == "Ada", "before any further move"
     page.press("End")
