@@ -205,15 +205,15 @@ def test_room_of_a_search(planted, tmp_path):
     assert done.returncode == 3
 
 
-def test_again_without_a_trace(in_c, tmp_path):
+@pytest.mark.parametrize("threads, name, said", [
+    (2, "no.trace", "no.trace: No such file or directory"),
+    (16, "a.trace",
+     "16 threads and counters of 4 bits: there have to be fewer threads than values")])
+def test_again_without_a_trace(in_c, tmp_path, threads, name, said):
     """The one message is about the trace, or if that is there about the number of threads."""
     (tmp_path / "a.trace").write_text("# way 1\n")
-    for threads, name, said in (
-            (2, "no.trace", f"{tmp_path}/no.trace: No such file or directory"),
-            (16, "a.trace", "16 threads and counters of 4 bits: there have to be fewer threads than"
-                            " values")):
-        assert answer(*in_c.command("ticket", "EXPLORE"), threads, 1, "again",
-                      tmp_path / name) == refusal(said)
+    assert answer(*in_c.command("ticket", "EXPLORE"), threads, 1, "again", name,
+                  cwd=tmp_path) == refusal(said)
 
 
 @pytest.mark.parametrize("example, name, rounds, choices", [

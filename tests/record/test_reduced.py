@@ -80,15 +80,6 @@ def test_document_has_the_runs():
                        for runs in table[lock]]
 
 
-@pytest.mark.slow
-@pytest.mark.parametrize("example", RUNS_IN_C)
-def test_right_lock_in_c(built, tmp_path, example):
-    for reduces, runs in enumerate(RUNS_IN_C[example]):
-        program = built(SOURCES / f"{example}.c", "EXPLORE", f"-DLR_REDUCE={reduces}")
-        done = ran(program, *EXPLORED, tmp_path / "logs", MOST, timeout=LONG)
-        assert done.stdout == f"{runs} runs with up to 2 preemptions, all of them accepted\n"
-
-
 # Each operation is on a word of the thread's own, and what the lock does has no point.
 OWN_WORDS = """#include <stdatomic.h>
 #undef atomic_load
@@ -107,15 +98,19 @@ static int own_words[64];
 """
 
 
+OTHER_WORDS = ["-include", "own.h", "-Wno-unused-value"]
+
+
 @pytest.mark.slow
-@pytest.mark.parametrize("example", ["mcs", "ticket"])
-def test_steps_on_other_words(built, tmp_path, example):
-    """Steps are dependent by the words of their notes alone, so there are as many runs."""
+@pytest.mark.parametrize("example, flags, runs", [
+    *((example, [f"-DLR_REDUCE={reduces}"], runs) for example, both in RUNS_IN_C.items()
+      for reduces, runs in enumerate(both)),
+    # Steps are dependent by the words of their notes alone, so there are as many runs.
+    *((example, OTHER_WORDS, RUNS_IN_C[example][1]) for example in ("mcs", "ticket"))], ids=str)
+def test_right_lock_in_c(built, tmp_path, example, flags, runs):
     (tmp_path / "own.h").write_text(OWN_WORDS)
-    program = built(SOURCES / f"{example}.c", "EXPLORE", "-include", tmp_path / "own.h",
-                    "-Wno-unused-value")
+    program = built(SOURCES / f"{example}.c", "EXPLORE", "-I", tmp_path, *flags)
     done = ran(program, *EXPLORED, tmp_path / "logs", MOST, timeout=LONG)
-    runs = RUNS_IN_C[example][1]
     assert done.stdout == f"{runs} runs with up to 2 preemptions, all of them accepted\n"
 
 

@@ -326,18 +326,16 @@ def test_two_schedules(in_c, tmp_path):
         ["b.trace"], 1)
 
 
-def test_schedule_that_cannot_be_read(in_c, tmp_path):
+@pytest.mark.parametrize("folder, said", [
+    ("none", "none: No such file or directory"),
+    ("some", "some/a.schedule: No such file or directory\n"
+     "lockreplay_record: some: Invalid argument")], ids=["none", "some"])
+def test_schedule_that_cannot_be_read(in_c, tmp_path, folder, said):
     """Neither a folder nor a file that is not there passes for a schedule that was followed."""
     (tmp_path / "some").mkdir()
     (tmp_path / "some" / "a.schedule").symlink_to(tmp_path / "nothing")
-    for folder, said, last in (("none", "", "No such file or directory"),
-                               ("some", "some/a.schedule: No such file or directory\n",
-                                "Invalid argument")):
-        done = ran(*in_c.command("mcs", "FOLLOW"), folder, ".", cwd=tmp_path)
-        assert done.stdout == "0 schedules of 0 moves, 0 not followed\n"
-        assert done.stderr == "".join(f"lockreplay_record: {line}\n" for line in (
-            *said.splitlines(), f"{folder}: {last}"))
-        assert done.returncode == 3
+    assert answer(*in_c.command("mcs", "FOLLOW"), folder, ".", cwd=tmp_path) == refusal(
+        said, "0 schedules of 0 moves, 0 not followed\n")
 
 
 def test_number_of_a_seed(in_c, tmp_path):
