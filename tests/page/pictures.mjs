@@ -227,6 +227,9 @@ check('mcs, folded', 'lock mcs threads 6', QUEUE, { width: 336, height: 270, tig
     'mono value middle: 285.5 178 0', 'mono value middle: 255.5 225 pred = T4',
     'note middle: 255.5 251 own variable', 'missing-text middle: 166 131 no link'],
 });
+// A second row of records has room from 412 units on.
+assert.deepEqual([411, 412].map((height) => drawn('lock mcs threads 6', QUEUE,
+  { width: 336, height, tight: true }).height), [258, 428]);
 // Records and the tail's box are as wide as the longest name needs, as a value or in a head beside
 // the longest standing, up to 240 and 170.
 const named = (name) => drawn('lock mcs threads 2', [`#! name 0 ${name}`, ...SWAPPED], wide(700))
