@@ -11,6 +11,7 @@ import { LOCK_NAMES, PHASES } from '../../page/src/machine/codes.js';
 import { codeOf, linesOf, wordsOf } from '../../page/src/machine/locks_code.js';
 import { learnWords } from '../../page/src/machine/word_names.js';
 import { LOCKS } from '../../page/src/locks/locks.js';
+import { choicesOf, hasRoom, mayGoOn } from '../../page/src/model/choices.js';
 import { commonMoves, otherLock } from '../../page/src/model/compare_runs.js';
 import { firstOf, kindsOf, learnKinds } from '../../page/src/model/kinds.js';
 import {
@@ -120,6 +121,24 @@ assert.equal(isCovered(session.view({ answered: true }, 3), 'facts'), false);
 // The refused move hides nothing of the question on the move before it.
 const askedLast = opened('#! ask 6 Why?', '#! answer 6 So.', ...TWO.slice(5));
 assert.deepEqual([6, 7].map((place) => isAsked(askedLast.view({}, place))), [true, false]);
+
+// A line of a move may have 32 bytes, and a schedule 65,536 moves. What a thread may do is due, or
+// is one of its calls; with every move nothing shows which of them are accepted.
+const HEAD = ['lock ticket threads 1', '0 acquire'];
+const filled = (size) => opened('#'.repeat(size - text(...HEAD).length - 1), ...HEAD);
+const rooms = [1048544, 1048545].map((size) => {
+  const one = filled(size);
+  one.go(1);
+  return [hasRoom(one), one.run.text.length === size];
+});
+assert.deepEqual(rooms, [[true, true], [false, true]]);
+assert.deepEqual([mayGoOn(65535), mayGoOn(65536), mayGoOn(65534, 2), mayGoOn(65534, 3)],
+  [true, false, true, false]);
+const next = (move, thread, every = false) => choicesOf({ ...session, run, move }, thread, every)
+  .map(({ word, look }) => `${word} ${look}`);
+assert.deepEqual([next(0, 0), next(1, 1), next(3, 1), next(3, 2)],
+  [['acquire may'], ['add due'], ['release may'], []]);
+assert.deepEqual(next(0, 0, true).sort(), ['acquire ', 'add ', 'read ', 'release ', 'write ']);
 
 // Where a trace differs, these are the words of the move that wrote the word last, here of a swap.
 const differs = opened('lock mcs threads 2', '0 acquire', '0 write', '0 swap', '1 acquire',
