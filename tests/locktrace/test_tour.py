@@ -109,6 +109,16 @@ def test_files_of_an_earlier_tour(tracer):
     assert (tracer.folder / "outside.schedule").read_text() == "outside\n"
 
 
+def test_file_beside_an_earlier_tour(tracer):
+    """A tour of three schedules finds the place of the second one taken. Nothing is written, and
+    the earlier tour is gone, with its list."""
+    tracer.run("tour", "ticket", "1", "-o", "own")
+    tracer.write(**{"own/0002.schedule": "own\n"})
+    assert tracer.run("tour", "rw-simple", "1", "-o", "own") == (
+        "", "locktrace: own/0002.schedule is not of an earlier tour\n", 3)
+    assert files_in(tracer.folder / "own") == {"0002.schedule": "own\n"}
+
+
 @cases("words, status, said", {
     "no folder is named": ("ticket 1", 2, "error:"),
     "no lock": ("tickets 1 -o none", 2,
