@@ -26,16 +26,22 @@ LINKS = [*(("order", name) for name in NEW), ("tour", "made/0001.schedule.new"),
          ("tour", "made/tour.list.new"), ("check", "made.html.new")]
 
 
+def known_of(path):
+    """Which file is there, and when it was changed; not when it was read."""
+    found = path.lstat()
+    return found.st_ino, found.st_mode, found.st_size, found.st_mtime_ns, found.st_ctime_ns
+
+
 @pytest.mark.parametrize("command, name, what", IN_PLACES)
 def test_something_in_its_place(tracer, command, name, what):
     """Nothing is written, and nothing is checked."""
     path = tracer.folder / name
     path.parent.mkdir(exist_ok=True)
     PUT[what](path)
-    before = path.lstat(), set(path.parent.iterdir())
+    before = known_of(path), set(path.parent.iterdir())
     assert tracer.run(*WRITES[command]) == (
         "", f"locktrace: {name} is not of an earlier {command}\n", 3)
-    assert (path.lstat(), set(path.parent.iterdir())) == before
+    assert (known_of(path), set(path.parent.iterdir())) == before
 
 
 @pytest.mark.parametrize("command, name", LINKS)
