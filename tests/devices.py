@@ -4,8 +4,9 @@ import os
 import pty
 import resource
 import signal
+import subprocess
 
-from tree import TESTS, output
+from tree import PATIENCE, TESTS, output
 
 
 def closing(*descriptors):
@@ -23,6 +24,28 @@ def refusing_library(folder):
     assert output("cc", "-O2", "-Wall", "-Wextra", "-shared", "-fPIC", "-o", folder / "refuse.so",
                   TESTS / "refuse" / "refuse.c") == ""
     return folder / "refuse.so"
+
+
+class Refusing:
+    """Runs a program with refuse.c preloaded, which refuses one request for memory."""
+
+    NEVER = 999_999  # the number of a request that no run reaches
+
+    def __init__(self, program, folder):
+        self.program, self.folder = program, folder
+        self.library, self.log = refusing_library(folder), folder / "log"
+
+    def run(self, number, words, text=b"", cwd=None):
+        """The answer, whether request `number` was refused, and how many requests were made."""
+        self.log.unlink(missing_ok=True)
+        done = subprocess.run([self.program, *words], input=text, capture_output=True, check=False,
+                              cwd=cwd or self.folder, timeout=PATIENCE,
+                              env={"LD_PRELOAD": str(self.library), "REFUSE_NTH": str(number),
+                                   "REFUSE_LOG": str(self.log)})
+        answer = done.stdout, done.stderr, done.returncode
+        assert self.log.exists(), f"request {number}: {answer}"
+        request, requests = self.log.read_text().splitlines()
+        return answer, request.endswith(" refused"), int(requests.split()[1])
 
 
 def short_files(size):

@@ -2,13 +2,11 @@
 
 The program gives the same answer as with ample memory, or nothing but its out-of-memory line.
 """
-import subprocess
-
 import pytest
 
-from devices import little_memory, refusing_library
+from devices import Refusing, little_memory
 from oracle import batch_of
-from tree import PATIENCE, Program, cases
+from tree import Program, cases
 from worked_rows import most_moves, rows
 
 MEMORY = (b"", b"lockreplay: out of memory\n", 3)
@@ -78,35 +76,16 @@ def test_fault_of_a_header_needs_no_memory_for_moves(replayer, needed_by_a_late_
     assert needed(replayer, text, fault) < needed_by_a_late_fault
 
 
-class Refusing:
-    """Runs the program with refuse.c preloaded, which refuses one request for memory."""
-
-    def __init__(self, program, folder):
-        self.program, self.folder = program, folder
-        self.library = refusing_library(folder)
-
-    def run(self, number, words, text):
-        """The answer, whether request `number` was refused, and how many requests were made."""
-        log = self.folder / "log"
-        log.unlink(missing_ok=True)
-        done = subprocess.run([self.program, *words], input=text, capture_output=True, check=False,
-                              cwd=self.folder, timeout=PATIENCE,
-                              env={"LD_PRELOAD": str(self.library), "REFUSE_NTH": str(number),
-                                   "REFUSE_LOG": str(log)})
-        request, requests = log.read_text().splitlines()
-        return ((done.stdout, done.stderr, done.returncode), request.endswith(" refused"),
-                int(requests.split()[1]))
-
-    def refuse_each(self, words, text, is_due, first=1):
-        """Refuses request `first`, then the next one, until a run makes fewer requests."""
-        memory_was_short = False
-        for number in range(first, 100_000):
-            answer, refused, _ = self.run(number, words, text)
-            memory_was_short |= refused and answer == MEMORY
-            assert is_due(*answer) or refused and answer == MEMORY, f"request {number}: {answer}"
-            if not refused:
-                break
-        assert memory_was_short and not refused
+def refuse_each(refusing, words, text, is_due, first=1):
+    """Refuses request `first`, then the next one, until a run makes fewer requests."""
+    memory_was_short = False
+    for number in range(first, refusing.NEVER):
+        answer, refused, _ = refusing.run(number, words, text)
+        memory_was_short |= refused and answer == MEMORY
+        assert is_due(*answer) or refused and answer == MEMORY, f"request {number}: {answer}"
+        if not refused:
+            break
+    assert memory_was_short and not refused
 
 
 @pytest.fixture(scope="module")
@@ -144,14 +123,14 @@ ENDED = b"file 1\nend 0\nfile 2\nrefused line 2 NotHolder\nfile 3\nfault line 1 
                         answers(ENDED, 1)) for n in "128"},
 })
 def test_requests_of_command_lines(refusing, words, text, is_due):
-    refusing.refuse_each(words, text, is_due)
+    refuse_each(refusing, words, text, is_due)
 
 
 @pytest.fixture(scope="module")
 def made_before(refusing):
     """How many requests the program makes before it reads a schedule: as many for every row."""
-    return {"replay": refusing.run(100_000, ["replay"], b"")[2],
-            "batch": refusing.run(100_000, ["batch", "--workers", "1", "missing"], b"")[2]}
+    return {"replay": refusing.run(Refusing.NEVER, ["replay"])[2],
+            "batch": refusing.run(Refusing.NEVER, ["batch", "--workers", "1", "missing"])[2]}
 
 
 @pytest.mark.parametrize("command", ["replay", "batch"])
@@ -167,4 +146,4 @@ def test_requests_of_rows(refusing, made_before, row, command):
         return (output.startswith(before) and row.is_met_by(output[len(before):])
                 and (error, status) == (b"", row.status()))
 
-    refusing.refuse_each(words, text, is_due, made_before[command])
+    refuse_each(refusing, words, text, is_due, made_before[command])

@@ -35,7 +35,7 @@
  *
  * REFUSE_NTH=N arms the library for a program that does not speak to it: the Nth request since the
  * start is refused. When the program ends, the library appends the line of that round, and a line
- * `requests K` with the number of requests. test_memory.py runs the built program in this way.
+ * `requests K` with the number of requests. `Refusing` of devices.py runs a built program so.
  *
  * The library would misread a program that itself asks for exactly one of these sizes. No test here
  * leads to such a request.

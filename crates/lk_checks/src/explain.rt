@@ -9,7 +9,7 @@ use crate::transitions::put_sentence;
 use lk_lines::{MOVE_NAMES, move_named, move_text, outcome_text};
 use lk_locks::{Machine, Move, Outcome, SectionEffect};
 use lk_text::follow::follow_file;
-use lk_text::formats::{BARE, PLAIN, put_text};
+use lk_text::formats::{BARE, PLAIN, lose_with, put_text};
 use lk_text::phrases::{Lock, put_standing};
 use lk_text::report::{Ending, Report};
 use lk_text::{Failure, Text, Value};
@@ -171,6 +171,7 @@ fn put_end(text: &mut Text, report: &Report) {
         for note in report.notes.as_slice() {
             put_more(text, more, note.line, &note.text);
         }
+        lose_with(text, &report.notes);
     }
     if !report.standing.is_empty() {
         put_more(text, MORE, 0, &report.standing);

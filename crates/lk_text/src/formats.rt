@@ -71,8 +71,8 @@ pub fn put_notes(text: &mut Text, name: &str, notes: &Notes, colors: Colors, for
     lose_with(text, notes);
 }
 
-// A text for which some of the notes are missing is not whole.
-fn lose_with(text: &mut Text, notes: &Notes) {
+/// Loses a text for which some of these notes are missing.
+pub fn lose_with(text: &mut Text, notes: &Notes) {
     if !notes.is_whole() {
         text.lose();
     }

@@ -2,7 +2,7 @@
 
 use std::alloc::{AllocError, Global};
 use std::fs;
-use std::io::Error;
+use std::io::{Error, ErrorKind};
 use std::rt::Files;
 
 // Whether a file has the name of a trace or a schedule.
@@ -40,9 +40,10 @@ fn files_of<R: Files + Alloc + Clone + Drop>(
     name: &str,
 ) -> Result<Vec<String>, AllocError> {
     if name != "-" {
-        let files = runs_in(rt, alloc, name).unwrap_or(Vec::new(alloc));
-        if !files.is_empty() {
-            return Ok(files);
+        match runs_in(rt, alloc, name) {
+            Ok(files) if !files.is_empty() => return Ok(files),
+            Err(error) if error.kind() == ErrorKind::OutOfMemory => return Err(AllocError),
+            _ => {}
         }
     }
     Ok(vec![in alloc; String::from_str(alloc, name)?]?)

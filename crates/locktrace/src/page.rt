@@ -68,6 +68,7 @@ fn page_beside(alloc: Global, program: Path<'_>) -> Result<String, AllocError> {
 fn installed<R: Runtime>(rt: &R, alloc: Global) -> Result<String, AllocError> {
     match env::current_exe(rt) {
         Ok(program) => page_beside(alloc, program.as_path()),
+        Err(error) if error.kind() == ErrorKind::OutOfMemory => Err(AllocError),
         Err(_) => page_beside(alloc, Path::new("/usr/bin/locktrace")),
     }
 }
@@ -102,25 +103,27 @@ fn empty_page<R: Runtime>(
 }
 
 // Whether a file is a page with a trace.
-fn has_trace<R: Files>(rt: &R, alloc: Global, file: &str) -> bool {
+fn has_trace<R: Files>(rt: &R, alloc: Global, file: &str) -> Result<bool, AllocError> {
     match page_text(rt, alloc, file) {
-        Ok(text) => text.contains(FRONT) && !text.contains(EMPTY),
-        Err(_) => false,
+        Ok(text) => Ok(text.contains(FRONT) && !text.contains(EMPTY)),
+        Err(error) if error.kind() == ErrorKind::OutOfMemory => Err(AllocError),
+        Err(_) => Ok(false),
     }
 }
 
 // Fails if something is in the place of a page, but for a page of an earlier check.
 fn leave_other<R: Files>(rt: &R, alloc: Global, file: &str) -> Result<(), Failure> {
-    match fs::symlink_metadata(rt, file) {
-        Err(error) if error.kind() == ErrorKind::NotFound => Ok(()),
-        Err(error) => Err(Failure::of_file(alloc, "read", file, &error)),
-        Ok(found) if found.is_file() && has_trace(rt, alloc, file) => Ok(()),
-        Ok(_) => {
-            let file = escaped(alloc, file)?;
-            let text = format!(in alloc; "{file} is not of an earlier check")?;
-            Err(Failure::InPlace(text))
-        }
+    let found = match fs::symlink_metadata(rt, file) {
+        Ok(found) => found,
+        Err(error) if error.kind() == ErrorKind::NotFound => return Ok(()),
+        Err(error) => return Err(Failure::of_file(alloc, "read", file, &error)),
+    };
+    if found.is_file() && has_trace(rt, alloc, file)? {
+        return Ok(());
     }
+    let file = escaped(alloc, file)?;
+    let text = format!(in alloc; "{file} is not of an earlier check")?;
+    Err(Failure::InPlace(text))
 }
 
 /// A page, and the trace that it takes.
