@@ -1,11 +1,10 @@
 -- Definitions. The contention of a run, counted move by move. A count stays at its greatest value.
 use Rattle.std.specs.Prelude.{ℕ, ◌+◌, ◌-◌, ◌^◌, ◌||◌, List, [], ◌∷◌, ◌++◌, codes, length, max, min}
 use Rattle.std.specs.Prelude.{set, replicate, slice_index, nat_lt, Bool, true, false, count_by}
-use Rattle.std.specs.Prelude.{◌==◌, if◌then◌else◌}
+use Rattle.std.specs.Prelude.{◌==◌, if◌then◌else◌, Option, Some}
 use Rattle.std.specs.Fmt.{decimal}
 use Rattle.lk_locks.specs.Play.{Tracked, waiting_in}
 use Rattle.lk_locks.specs.declared.kinds.LockKind.{LockKind}
-use Rattle.lk_locks.specs.declared.kinds.LockKind.TheVariants.{Ticket, RwFifo}
 use Rattle.lk_locks.specs.declared.kinds.Move.{Move}
 use Rattle.lk_locks.specs.declared.kinds.Move.TheVariants.{Call, Step}
 use Rattle.lk_locks.specs.declared.kinds.Outcome.{Outcome}
@@ -14,8 +13,11 @@ use Rattle.lk_locks.specs.declared.kinds.Phase.{Phase}
 use Rattle.lk_locks.specs.declared.kinds.Phase.TheVariants.{AwaitLink}
 use Rattle.lk_locks.specs.declared.kinds.StepKind.{StepKind}
 use Rattle.lk_locks.specs.declared.kinds.StepKind.TheVariants.{Cas, Add, Swap, Section}
+use Rattle.lk_trace.specs.Names.{name_at}
 use Rattle.lk_trace.specs.declared.checker.Made.{Made}
 use Rattle.lk_trace.specs.declared.line.TraceLine.{TraceLine}
+use Rattle.lk_trace.specs.declared.names.WordName.{WordName}
+use Rattle.lk_trace.specs.declared.names.WordName.TheVariants.{NextTicket, ReadAcquires}
 use Rattle.lk_text.specs.Filled.{in_groups}
 use Rattle.lk_text.specs.declared.summary.Summary.{Summary}
 
@@ -35,11 +37,15 @@ new_summary = record {
   counter = 0;
 }
 
+-- a word of this name counts without end
+abbrev pub is_counter : Option WordName → Bool
+is_counter (Some NextTicket) = true
+is_counter (Some ReadAcquires) = true
+is_counter name = false
+
 -- the first word of the lock counts without end
 abbrev pub has_counter : LockKind → Bool
-has_counter Ticket = true
-has_counter RwFifo = true
-has_counter kind = false
+has_counter kind = is_counter (name_at kind 0)
 
 -- a failed poll of a thread in this phase
 abbrev pub after_wait : Summary → Phase → Summary

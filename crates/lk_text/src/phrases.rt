@@ -7,7 +7,7 @@ ghost use Rattle.lk_text.specs.Texts.{Adds, Grows};
 
 use crate::{Text, Value};
 use lk_lines::{move_text, outcome_text};
-use lk_locks::{Holders, LockKind, Move, Tracker};
+use lk_locks::{Family, Holders, Move, Tracker, family_of};
 use lk_trace::{Seen, TraceLine, WordName};
 use lk_words::WordArray;
 use std::fmt::InlineText;
@@ -104,11 +104,11 @@ fn put_threads(text: &mut Text, front: &str, threads: &[u8]) {
 // Writes who is in the queue of a lock.
 fn put_queue(text: &mut Text, lock: &Lock) {
     let queue = lock.queue();
-    match lock.kind() {
-        LockKind::RwSimple => {}
-        LockKind::RwFifo => put_threads(text, "; announced ", queue.as_slice()),
-        _ if queue.is_empty() => text.put("; queue empty"),
-        LockKind::Ticket | LockKind::Mcs => put_threads(text, "; queue ", queue.as_slice()),
+    match family_of(lock.kind()) {
+        Family::ReadWrite => {}
+        Family::FifoReadWrite => put_threads(text, "; announced ", queue.as_slice()),
+        Family::Queue if queue.is_empty() => text.put("; queue empty"),
+        Family::Queue => put_threads(text, "; queue ", queue.as_slice()),
     }
 }
 

@@ -12,7 +12,7 @@ ghost use Rattle.lk_text.specs.Summaries.{after_lock, after_step, after_wait, is
 use crate::fills::Value;
 use crate::texts::Text;
 use lk_locks::{LockKind, Move, Outcome, Phase, StepKind, Tracker};
-use lk_trace::{Made, TraceLine};
+use lk_trace::{Made, TraceLine, WordName, name_at};
 use lk_words::WordArray;
 
 /// Counts along a trace. They stay at their greatest value.
@@ -32,11 +32,14 @@ pub struct Summary {
 const COUNTS: &str = "{threads}, {moves}, {waits}, {failed}, {late}, longest queue {longest}, \
     {wraps}";
 
-/// Whether the first word of the lock counts without end: `next_ticket`, or `readAcquires`.
+/// Whether the first word of the lock counts without end.
 pub fn has_counter(kind: LockKind) -> bool
     ensures { result ≡ has_counter kind }
 {
-    matches!(kind, LockKind::Ticket | LockKind::RwFifo)
+    matches!(
+        name_at(kind, 0),
+        Some(WordName::NextTicket | WordName::ReadAcquires)
+    )
 }
 
 // The number of the threads that moved.
