@@ -341,13 +341,13 @@ def test_little_memory(tracer):
 
 
 @pytest.mark.parametrize("command, rounds", [
-    ("check", 100_000), ("schedule", 100_000), ("explain", 10_000)])
+    ("check", 200_000), ("schedule", 200_000), ("explain", 20_000)])
 def test_memory_does_not_grow(tracer, command, rounds):
-    """Inputs and outputs of 4 MB or more are read and written within 8 MB."""
+    """The input or the output has more than 9 MB. A text that holds it all takes 16 MB."""
     text = "lock ticket threads 1\n" + "".join(f"0 {word}\n" for word in ROUND) * rounds
     due = tracer.run(command, stdin=text)
     assert due[1:] == ("", 0)
-    assert tracer.run(command, stdin=text, preexec_fn=little_memory(8 << 20)) == due
+    assert tracer.run(command, stdin=text, preexec_fn=little_memory(12 << 20)) == due
 
 
 def test_progress_on_a_terminal(tracer):

@@ -98,18 +98,17 @@ class Job:
     def refuse(self, number):
         """Refuses a request, and gives whether the program said that memory is out."""
         answer, refused, _ = self.run(number)
-        short = is_short(answer, self.due)
-        assert refused and (short or answer == self.due), f"request {number}: {answer}"
-        halves = [str(path) for path, text in files_in(self.folder).items()
-                  if text not in (self.before.get(path), self.after.get(path))
-                  and path.suffix != ".new"]
+        left, short = files_in(self.folder), refused and is_short(answer, self.due)
+        assert short or (answer, left) == (self.due, self.after), f"request {number}: {answer}"
+        halves = [str(path) for path, text in left.items() if path.suffix != ".new"
+                  and text not in (self.before.get(path), self.after.get(path))]
         assert not halves, f"request {number}"
         return short
 
     def end(self):
         """Runs the program to its end with ample memory, for the jobs that follow."""
-        answer, refused, requests = self.run(self.refusing.NEVER)
-        assert (answer, refused, requests) == (self.due, False, self.requests)
+        answer, refused, _ = self.run(self.refusing.NEVER)
+        assert (answer, refused) == (self.due, False)
         shutil.rmtree(self.kept)
 
 
