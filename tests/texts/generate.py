@@ -23,6 +23,7 @@ from catalogue import (BITS, CALLS, DAY, DIFFERS, EXPECTED, FAULTS, LIMITS, LOCK
                        read, title_of, words_of)
 from dispatches import DISPATCHES
 from lists import LISTS_OF_LOCKS
+from orders import ORDERS
 from phases import PHASE_TABLES
 from sentences import SENTENCES
 from steps import STEP_TABLES
@@ -170,7 +171,8 @@ REGIONS = {
 }
 
 
-WITHOUT_MARKS = SENTENCES + TABLES + STEP_TABLES + DISPATCHES + PHASE_TABLES + LISTS_OF_LOCKS
+WITHOUT_MARKS = (SENTENCES + TABLES + STEP_TABLES + DISPATCHES + PHASE_TABLES + LISTS_OF_LOCKS
+                 + ORDERS)
 
 
 def due_in(lists, form, margin):
