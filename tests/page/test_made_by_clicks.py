@@ -74,7 +74,7 @@ def test_what_is_offered(page):
 
 
 @pytest.mark.parametrize("move, hint", [
-    (9, "A choice here is the next move after move 9."),
+    (9, "Choose who moves next, in place of the moves after move 9."),
     (16, "Choose who moves next. The machine plays what you choose.")], ids=["branch", "end"])
 def test_where_a_choice_goes_on(page, move, hint):
     """The hint says whether a choice begins a branch or adds a move at the end."""
