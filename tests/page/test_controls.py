@@ -249,3 +249,13 @@ def test_copying_the_text(page, allowed, said):
     copied = page.js("copiedBy", "#copy", allowed)
     assert copied == (EXAMPLES / "mcs-late-link.schedule").read_text("ascii")
     page.becomes(said, "text", "#notice")
+
+
+@pytest.mark.parametrize("rounds, ticks", [(60, 60), (200, 0)])
+def test_ticks_that_are_too_close(page, rounds, ticks):
+    """The slider has a tick for each entry, but none if they are closer than ten pixels to each
+    other, which would be a bar."""
+    page.open()
+    page.show("lock ticket threads 1\n" + rounds * (
+        "0 acquire\n0 add\n0 read\n0 release\n0 read\n0 write\n"), 6 * rounds)
+    assert page.js("count", "#slider-picture .tick.enters") == ticks

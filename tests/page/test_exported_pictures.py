@@ -292,7 +292,7 @@ def test_shapes_for_latex(page):
     page.open()
     page.show("lock ticket threads 1\n0 acquire\n", 1)
     text = page.js("taken", "tikz", [])
-    assert "\\pagestyle{empty}\n\\begin{document}\n" in text, "no number of a page"
+    assert "[T1]{fontenc}\n" in text and "\\pagestyle{empty}\n\\begin{document}\n" in text
     lines = [line for line in text.splitlines()
              if line.startswith("\\path") or line.startswith("\\node") and not line.endswith("{};")]
     assert {shape: sum(shape in line for line in lines) for shape in SHAPES} == SHAPES, lines

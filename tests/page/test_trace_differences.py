@@ -83,6 +83,11 @@ DIFFERENT = {
         "lock rw-fifo threads 2",
         "0 wlock; 0 section; 0 downgrade; 0 section; 1 rlock; 1 section waits", "waits",
         "OtherOutcome", ["Thread 0 wrote flag last, in line 5: it left 0."]),
+    "an outcome after a write and an earlier one of two words": (
+        "lock rw-simple threads 3",
+        "0 wlock; 0 section; 0 downgrade; 0 section; 0 runlock; 0 section; 1 wlock; 1 section; "
+        "2 rlock; 2 section entered", "entered", "OtherOutcome", [
+            "Thread 1 wrote flag last, in line 9: it left 1."]),
     "an outcome of a section that looks at two words": (
         "lock rw-simple threads 2", "0 rlock; 0 section; 1 wlock; 1 section entered",
         "entered", "OtherOutcome", [
