@@ -55,6 +55,9 @@ def test_lines_of_code(page):
     page.press("a")
     [code], lines, words, discs = boxes(
         page, "#code-lines", ".code-line", ".code-line code", ".code-line .discs:has(.disc)")
+    [round_ones] = boxes(page, "#code .disc")
+    assert len(round_ones) == 3 and all(
+        abs(one["right"] - one["left"] - one["bottom"] + one["top"]) <= 2 for one in round_ones)
     assert in_a_column(lines) and same(words, "left") and len(discs) == 3
     assert all(0 <= code["right"] - one["right"] <= 24 for one in discs)
     # After a bar of 4 and an edge of 4, three letters of a number.
@@ -72,6 +75,15 @@ def test_the_text_and_its_verdict(page):
     assert band["left"] == gutter["right"] and text["right"] - text["left"] > 180
     assert all(side["left"] <= one["left"] and one["right"] <= side["right"]
                for one in (tools, field, verdict))
+
+
+def test_room_for_the_text(page):
+    """In a low window at least five lines of the text have room, and the rest is scrolled."""
+    page.resize(1366, 600)
+    page.open("#lesson=mcs-third-linked-before-second&move=12")
+    page.press("g")
+    [[field], [text]] = boxes(page, "#field", "#text")
+    assert all(one["bottom"] - one["top"] >= 5 * 22 for one in (field, text))
 
 
 def test_choices_of_threads(page):
