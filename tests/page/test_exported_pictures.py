@@ -51,7 +51,7 @@ def test_what_was_chosen(page):
             if "code-text here" in (one.get("class") or "")]
     assert ["".join(one.itertext()).strip() for one in here] == ["cas(tail, me, nil), or else:"]
     bands = [float(one.get("y")) for one in whole.findall(".//{*}rect") if one.get("x") == "-8"]
-    assert bands == [float(one.get("y")) - 16 for one in here], "its ground is behind it"
+    assert bands == [float(one.get("y")) - 16 for one in here], "its ground is below it"
 
 
 def test_each_part_by_its_label(page):
