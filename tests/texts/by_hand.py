@@ -1,5 +1,5 @@
-"""Compares the words of the catalogue with files that `make generate` does not fill: messages, and
-lists that explain each word or stand in a crate.
+"""Compares the words of the catalogue with files that `make generate` does not fill: messages,
+lists that explain their words, and lists of the crates.
 """
 from catalogue import (ANSWERS, DIFFERS, FAULTS, HOLDERS, MESSAGES, MOVES, OF, OF_TEXTS, OUTCOMES,
                        PARTS, PLACES, REFUSED, RELEASE, RESULTS, STEPS, VERSION, between, found,
