@@ -23,8 +23,11 @@ BEGIN = "help: begin with a header, as in: lock mcs threads 2"
 
 def test_version_and_help(tracer):
     assert tracer.run("--version") == (f"locktrace {VERSION}\n", "", 0)
-    output, error, status = tracer.run("--help")
-    assert (error, status) == ("", 0) and "check" in output and "order" in output
+    said, listed = tracer.output("--help").split("\n\nUsage: locktrace <COMMAND>\n\nCommands:\n")
+    assert said == "Checks runs of locks, explains and orders them, and searches all runs of a lock"
+    words = [" ".join(line.split()) for line in listed.partition("\n\n")[0].splitlines()]
+    assert words == [*(lines[0].replace(":", "", 1) for lines in helps().values()),
+                     "help Print this message or the help of the given subcommand(s)"]
 
 
 def helps():

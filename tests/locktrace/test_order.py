@@ -3,6 +3,8 @@ names the step that has no place.
 
 Expected texts are worked out by hand from docs/FORMATS.md and packaging/man/locktrace.1.
 """
+import socket
+
 import pytest
 
 from devices import Terminal, little_memory, short_files
@@ -207,6 +209,23 @@ def test_ten_million_moves(tracer):
         assert sum(1 for _ in trace) == 10_000_003
     assert tracer.run(*words, preexec_fn=little_memory(200 << 20)) == (
         "", "locktrace: out of memory\n", 3)
+
+
+def test_pieces_of_a_trace(tracer):
+    """A trace is written in pieces of 64 KiB and a line, so that memory does not grow with it."""
+    lines = [line for ticket in range(700) for line in (
+        "acquire", f"add next_ticket found {ticket}", f"read now_serving found {ticket}",
+        "release", f"read now_serving found {ticket}", f"write now_serving left {ticket + 1}")]
+    tracer.write(**{"one.log": log("ticket", 0, [*lines, *WHOLE], 1)})
+    # A socket of this kind keeps apart what each call writes, and the process is not to wait.
+    ours, theirs = socket.socketpair(socket.AF_UNIX, socket.SOCK_SEQPACKET)
+    with ours, theirs:
+        assert tracer.run("order", "one.log", "-o", "-", stdout=theirs) == ("", "", 0)
+        theirs.close()
+        pieces = list(iter(lambda: ours.recv(1 << 20), b""))
+    trace = "lock ticket threads 1\n" + "".join(f"0 {line}\n" for line in lines)
+    assert b"".join(pieces) == trace.encode()
+    assert [len(piece) // 65_536 for piece in pieces] == [1, 0]
 
 
 MOST = 65_536  # moves of a schedule
