@@ -5,21 +5,17 @@
 //     node tests/page/answers.mjs MODULE.wasm
 
 import assert from 'node:assert/strict';
-import { readFileSync } from 'node:fs';
-import { codeOf, linesOf, wordsOf } from '../../page/src/machine/locks_code.js';
 import { learnWords } from '../../page/src/machine/word_names.js';
 import { Quiz } from '../../page/src/model/quiz.js';
 import { Session } from '../../page/src/model/session.js';
-import { bytesOf, machineOf } from './node.mjs';
+import { lines, machineOf, textOf, words } from './node.mjs';
 
-const document = readFileSync(new URL('../../docs/LOCKS.md', import.meta.url), 'utf8');
-learnWords(wordsOf(document));
-const [lines, machine] = [linesOf(codeOf(document)), machineOf()];
+learnWords(words);
 const READERS = [0, 1, 2, 3].flatMap((thread) => [`${thread} rlock`, `${thread} section`]);
-const ALL = ['lock rw-simple threads 4', ...READERS, '0 runlock', '0 section', '1 runlock', ''];
+const ALL = ['lock rw-simple threads 4', ...READERS, '0 runlock', '0 section', '1 runlock'];
 
-const session = new Session(machine, lines);
-session.open(bytesOf(ALL.join('\n')));
+const session = new Session(machineOf(), lines);
+session.open(textOf(...ALL));
 const quiz = new Quiz();
 const now = (place) => {
   session.go(place);

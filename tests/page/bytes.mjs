@@ -8,10 +8,7 @@
 
 import assert from 'node:assert/strict';
 import { RECORD_BYTES, STATE_BYTES } from '../../page/src/machine/machine.js';
-import { bytesOf, machineOf } from './node.mjs';
-
-// The byte that fills the lent memory before a call.
-const OLD = 0x99;
+import { bytesOf, machineOf, OLD, playInto } from './node.mjs';
 
 // Thread 1 of an MCS lock is in the queue, and its record is not linked yet.
 const LATE_LINK = `lock mcs threads 2
@@ -142,28 +139,8 @@ const ROWS = [
   },
 ];
 
-// The text, the state and the records, in this order, in the lent memory.
-function play(machine, { text, most, records, state }) {
-  const bytes = bytesOf(text);
-  const stateAt = (bytes.length + 7) & ~7;
-  const recordsAt = stateAt + STATE_BYTES;
-  machine.text = null;
-  machine.lend(recordsAt + records + RECORD_BYTES).fill(OLD, machine.base);
-  const { memory } = machine.exports;
-  new Uint8Array(memory.buffer, machine.base).set(bytes);
-  const base = BigInt(machine.base);
-  const answer = machine.exports.play(base, BigInt(bytes.length), BigInt(most),
-    base + BigInt(recordsAt), BigInt(records), base + BigInt(stateAt), BigInt(state));
-  const written = (place, length) => new Uint8Array(memory.buffer, machine.base + place, length);
-  return {
-    answer: Number(answer),
-    state: written(stateAt, STATE_BYTES),
-    records: written(recordsAt, records + RECORD_BYTES),
-  };
-}
-
 function checkRow(machine, row) {
-  const played = play(machine, row);
+  const played = playInto(machine, bytesOf(row.text), row);
   assert.equal(played.answer, row.answer, row.what);
   const check = (expected = {}, bytes) => Object.entries(expected).forEach(([place, value]) => {
     assert.equal(bytes[place], value, `${row.what}: byte ${place}`);

@@ -7,9 +7,8 @@
 //     node tests/page/model.mjs MODULE.wasm
 
 import assert from 'node:assert/strict';
-import { readFileSync } from 'node:fs';
 import { LOCK_NAMES } from '../../page/src/machine/codes.js';
-import { awaitedLines, codeOf, linesOf, wordsOf } from '../../page/src/machine/locks_code.js';
+import { awaitedLines } from '../../page/src/machine/locks_code.js';
 import { learnWords } from '../../page/src/machine/word_names.js';
 import { arrowsBetween, arrowsOf } from '../../page/src/model/arrows.js';
 import { firstDifference } from '../../page/src/model/compare_runs.js';
@@ -27,7 +26,7 @@ import { sentence } from '../../page/src/locks/sentences.js';
 import { texts } from '../../page/src/texts/texts.js';
 import { sheetPlan } from '../../page/src/view/sheet_plan.js';
 import { kindsOf } from '../../page/build/kinds.mjs';
-import { bytesOf, examples, machineOf, module } from './node.mjs';
+import { bytesOf, examples, lines, machineOf, module, textOf, words } from './node.mjs';
 
 // From the write to the move that found what it waited for.
 const ARROWS = {
@@ -39,9 +38,6 @@ const ARROWS = {
   // a reader waits. If a thread compares two counts, the one that changed last ends its wait.
   'fifo-reader-waits-behind-writer': ['9 11', '14 15'],
 };
-
-const document = readFileSync(new URL('../../docs/LOCKS.md', import.meta.url), 'utf8');
-const [lines, words] = [linesOf(codeOf(document)), wordsOf(document)];
 
 // A mark is a name's first letter, or the number if other names begin with it.
 const names = new Names(new Map([[0, 'Ann'], [1, 'bert'], [2, 'Bob'], [9, 'Tom']]));
@@ -85,8 +81,7 @@ for (const { name, text } of examples().filter((one) => SPANS[one.name])) {
 }
 
 // The first move at which two runs differ, which may be a move of only one run; 0 if none differs.
-const runOf = (...moves) => new Run(machine,
-  bytesOf(['lock ticket threads 2', ...moves, ''].join('\n')));
+const runOf = (...moves) => new Run(machine, textOf('lock ticket threads 2', ...moves));
 const differs = (one, other) => firstDifference(one, other, (move) => Math.min(move, other.last));
 const BEGUN = ['0 acquire', '0 add'];
 assert.equal(differs(runOf(...BEGUN), runOf(...BEGUN)), 0);
@@ -99,19 +94,14 @@ assert.deepEqual(['1 read', '0 add', '0 release'].map((move) => (
   differs(runOf('0 read'), runOf(move)))), [1, 1, 1]);
 
 const CAPTIONS = {
-  'ticket-hand-over': {
-    0: 'No ticket is in use.',
-    6: 'It is the turn of ticket 0.',
-    10: 'It is the turn of ticket 1.',
-  },
+  'ticket-hand-over': { 0: 'No ticket is in use.', 6: 'It is the turn of ticket 0.',
+    10: 'It is the turn of ticket 1.' },
   'mcs-late-link': {
     0: 'The queue is empty.', 3: 'Ann is alone in the queue.',
     12: 'Ann is followed by Bob, and only Bob knows.', 14: 'Every link of the queue is written.',
   },
   'simple-reader-passes-writer': { 0: 'Nobody is inside, readers 0, flag 0.' },
-  'fifo-writer-enters-at-once': {
-    2: 'Thread 0 writes, readAcquires 0, readReleases 0, flag 1.',
-  },
+  'fifo-writer-enters-at-once': { 2: 'Thread 0 writes, readAcquires 0, readReleases 0, flag 1.' },
 };
 learnWords(words);
 for (const { name, text } of examples().filter((one) => CAPTIONS[one.name])) {
@@ -127,16 +117,16 @@ for (const { name, text } of examples().filter((one) => CAPTIONS[one.name])) {
 // The fourth ticket is the last in words of two bits, so both counters wrap to 0 in that round.
 learnKinds(kindsOf(module));
 const ROUND = ['acquire', 'add', 'read', 'release', 'read', 'write'].map((word) => `0 ${word}`);
-const four = new Run(machine, bytesOf(
-  ['lock ticket threads 1 bits 2', ...ROUND, ...ROUND, ...ROUND, ...ROUND, ''].join('\n')));
+const four = new Run(machine, textOf('lock ticket threads 1 bits 2', ...ROUND, ...ROUND, ...ROUND,
+  ...ROUND));
 const WRAPS = 'After 3 comes 0: the numbers wrap around.';
 const wraps = Array.from({ length: four.count }, (_, at) => at + 1)
   .filter((move) => sentence({ run: four, names: new Names() }, move).endsWith(WRAPS));
 assert.deepEqual(wraps, [20, 24]);
 
 // A sentence has the whole names of threads that have none of their own.
-const joins = new Run(machine, bytesOf(['lock mcs threads 2', '0 acquire', '0 write', '0 swap',
-  '1 acquire', '1 write', '1 swap', '1 write', '1 write', ''].join('\n')));
+const joins = new Run(machine, textOf('lock mcs threads 2', '0 acquire', '0 write', '0 swap',
+  '1 acquire', '1 write', '1 swap', '1 write', '1 write'));
 assert.deepEqual([6, 8].map((move) => sentence({ run: joins, names: new Names() }, move)), [
   'Thread 1 swaps the tail and finds thread 0; it is in the queue from here on, though no word of '
     + "thread 0's record says so.",
@@ -158,16 +148,14 @@ assert.ok(asked > 60, String(asked));
 // Of three rounds of one thread each step has a question, the kinds in turn, if possible on what
 // changes. The queue is 0 four times, so the last three of these are left out, and so is the last
 // of three questions who holds, of which two are answered with 0.
-const THREE = new Run(machine, bytesOf(
-  ['lock ticket threads 1', ...ROUND, ...ROUND, ...ROUND, ''].join('\n')));
+const THREE = new Run(machine, textOf('lock ticket threads 1', ...ROUND, ...ROUND, ...ROUND));
 assert.deepEqual([...questionsOf(THREE).values()].map(({ move, kind, truth, same }) => (
   [move, kind, truth, same])), [
   [6, 'outcome', 'left', false], [9, 'outcome', 'entered', false], [11, 'outcome', 'moved', true],
   [15, 'outcome', 'entered', false], [3, 'holders', '0', false], [12, 'holders', '-', false],
   [2, 'queue', '0', false], [18, 'queue', '-', false]]);
 // Questions come from the first 400 moves.
-const eighty = new Run(machine, bytesOf(
-  ['lock ticket threads 1', ...Array(80).fill(ROUND).flat(), ''].join('\n')));
+const eighty = new Run(machine, textOf('lock ticket threads 1', ...Array(80).fill(ROUND).flat()));
 const lastAsked = Math.max(...questionsOf(eighty).keys());
 assert.ok(lastAsked > 300 && lastAsked <= 400, String(lastAsked));
 
@@ -279,7 +267,7 @@ const REFUSED = [
 ];
 for (const [refused, said, decided] of REFUSED) {
   const asked = new Session(machine, lines);
-  asked.open(bytesOf([...refused, ''].join('\n')));
+  asked.open(textOf(...refused));
   const facts = refusalFacts(asked);
   assert.deepEqual([facts.said, facts.decided], [said, decided], refused.join('; '));
 }

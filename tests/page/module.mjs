@@ -20,25 +20,11 @@ import {
 import { Records, RECORD_BYTES, STATE_BYTES } from '../../page/src/machine/machine.js';
 import { lastLine, reportOf } from '../../page/src/model/report.js';
 import { Run } from '../../page/src/model/run.js';
-import { bytesOf, examples, machineOf, module } from './node.mjs';
+import { bytesOf, examples, machineOf, module, OLD, playInto, textOf } from './node.mjs';
 
 const MOST_WORDS = 129;
 const A_WRITER = 3;
 const MCS = 1;
-
-// Calls `play` with room for so many bytes, and returns the contents of the lent memory.
-function playRaw(machine, text, recordBytes, stateBytes) {
-  const recordsAt = STATE_BYTES + 64;
-  machine.text = null;
-  machine.lend(recordsAt + 4096).fill(0xaa, machine.base, machine.base + recordsAt + 4096);
-  const bytes = new Uint8Array(machine.exports.memory.buffer, machine.base, recordsAt + 4096);
-  bytes.set(text, STATE_BYTES);
-  const base = BigInt(machine.base);
-  const answer = machine.exports.play(base + BigInt(STATE_BYTES), BigInt(text.length), 9n,
-    base + BigInt(recordsAt), BigInt(recordBytes), base, BigInt(stateBytes));
-  const [state, records] = [bytes.slice(0, STATE_BYTES), bytes.slice(recordsAt)];
-  return { answer: Number(answer), records, state };
-}
 
 // The words that a record names change as it says, and all other words stay.
 function checkWords(records, move, before, after) {
@@ -197,21 +183,18 @@ function checkRoom(machine) {
   const long = new Run(machine, new Uint8Array(1048577).fill(10));
   assert.equal(reportOf(long), 'fault TooLong\n');
   // The moves before the one that is too many can be stepped through.
-  const many = new Run(machine, bytesOf(`lock ticket threads 2
-0 acquire
-0 add
-1 acquire
-1 add
-${'1 read\n'.repeat(65533)}`));
+  const many = new Run(machine, textOf('lock ticket threads 2', '0 acquire', '0 add', '1 acquire',
+    '1 add', ...Array(65533).fill('1 read')));
   assert.equal(many.count, 65536);
   assert.equal(lastLine(many), 'fault line 65538 TooManyMoves');
-  const text = bytesOf('lock mcs threads 2\n0 acquire\n0 write\n');
-  const short = playRaw(machine, text, 0, STATE_BYTES - 1);
+  const text = textOf('lock mcs threads 2', '0 acquire', '0 write');
+  const short = playInto(machine, text, { most: 9, records: 0, state: STATE_BYTES - 1 });
   assert.equal(short.answer, ANSWER.short);
-  assert.ok(short.state.every((byte) => byte === 0xaa), 'a state that is too short was written to');
-  const one = playRaw(machine, text, 2 * RECORD_BYTES - 1, STATE_BYTES);
+  assert.ok(short.state.every((byte) => byte === OLD), 'a state that is too short was written to');
+  const one = playInto(machine, text,
+    { most: 9, records: 2 * RECORD_BYTES - 1, state: STATE_BYTES });
   assert.equal(one.answer, ANSWER.accepted);
-  assert.ok(one.records.subarray(RECORD_BYTES).every((byte) => byte === 0xaa),
+  assert.ok(one.records.subarray(RECORD_BYTES).every((byte) => byte === OLD),
     'a record was written that does not fit wholly');
 }
 

@@ -4,13 +4,11 @@
 //     node tests/page/pictures.mjs MODULE.wasm
 
 import assert from 'node:assert/strict';
-import { readFileSync } from 'node:fs';
-import { codeOf, linesOf, wordsOf } from '../../page/src/machine/locks_code.js';
 import { learnWords } from '../../page/src/machine/word_names.js';
 import { lockOf } from '../../page/src/locks/locks.js';
 import { Session } from '../../page/src/model/session.js';
 import { looks } from '../../page/src/model/looks.js';
-import { bytesOf, machineOf } from './node.mjs';
+import { lines, machineOf, textOf, words } from './node.mjs';
 
 // A pen whose letters are eight units wide, and nine in the font of values.
 const pen = {
@@ -22,9 +20,8 @@ Object.assign(globalThis, {
   getComputedStyle: () => ({ getPropertyValue: (name) => name }),
 });
 
-const document = readFileSync(new URL('../../docs/LOCKS.md', import.meta.url), 'utf8');
-learnWords(wordsOf(document));
-const [lines, machine] = [linesOf(codeOf(document)), machineOf()];
+learnWords(words);
+const machine = machineOf();
 
 const TAG = /<(?<end>\/?)(?<name>\w+)(?<rest>[^>]*?)(?<single>\/?)>|(?<text>[^<]+)/g;
 const SHIFT = /transform="translate\((?<x>[\d.-]+),(?<y>[\d.-]+)\)"/;
@@ -59,12 +56,17 @@ const SHAPES = {
   path: (tag) => `${tag.x || tag.y ? `${tag.x} ${tag.y} ` : ''}${ofTag(tag, 'd')}`,
 };
 
+// The view of a schedule at its end.
+function viewOf(lock, moves, wishes) {
+  const session = new Session(machine, lines);
+  session.open(textOf(lock, ...moves), null, Infinity);
+  return session.view(wishes);
+}
+
 // The shapes of a picture by their names: of each its class, at which side of a text its place is
 // if not at the left, and where it is.
 function drawn(lock, moves, wishes) {
-  const session = new Session(machine, lines);
-  session.open(bytesOf([lock, ...moves, ''].join('\n')), null, Infinity);
-  const view = session.view({ scale: 1, answered: true, ...wishes });
+  const view = viewOf(lock, moves, { scale: 1, answered: true, ...wishes });
   const picture = lockOf(view.run).draw(view, view.run.state(view.move));
   const shapes = { height: picture.height, note: picture.note };
   for (const tag of tagsOf(picture.text).filter(({ name }) => name in SHAPES)) {
@@ -378,9 +380,7 @@ assert.deepEqual([unsaid.text.filter((one) => one.startsWith('standing')), unsai
 // How wide a picture has to be to be drawn at its full size: four records at most, each as wide as
 // its head needs, or names.
 const least = (lock, moves = []) => {
-  const session = new Session(machine, lines);
-  session.open(bytesOf([lock, ...moves, ''].join('\n')), null, Infinity);
-  const view = session.view();
+  const view = viewOf(lock, moves);
   return lockOf(view.run).leastWidth(view, view.run.state(view.move));
 };
 assert.deepEqual([TWO_BITS, ALL_BITS, 'lock rw-simple threads 2', `${FIFO} 2`, `${FIFO} 8`]

@@ -6,9 +6,7 @@
 //     node tests/page/session.mjs MODULE.wasm
 
 import assert from 'node:assert/strict';
-import { readFileSync } from 'node:fs';
 import { LOCK_NAMES, PHASES } from '../../page/src/machine/codes.js';
-import { codeOf, linesOf, wordsOf } from '../../page/src/machine/locks_code.js';
 import { learnWords } from '../../page/src/machine/word_names.js';
 import { LOCKS } from '../../page/src/locks/locks.js';
 import { choicesOf, hasRoom, mayGoOn } from '../../page/src/model/choices.js';
@@ -25,15 +23,12 @@ import { Run, runOf } from '../../page/src/model/run.js';
 import { headerLine, Session } from '../../page/src/model/session.js';
 import { unlinkedAfter } from '../../page/src/model/spans.js';
 import { kindsOf as moduleKinds } from '../../page/build/kinds.mjs';
-import { bytesOf, machineOf, module } from './node.mjs';
+import { bytesOf, lines, machineOf, module, textOf as text, words } from './node.mjs';
 
-const document = readFileSync(new URL('../../docs/LOCKS.md', import.meta.url), 'utf8');
-const lines = linesOf(codeOf(document));
-learnWords(wordsOf(document));
+learnWords(words);
 const machine = machineOf();
 learnKinds(moduleKinds(module));
 const letters = (bytes) => new TextDecoder().decode(bytes);
-const text = (...all) => bytesOf([...all, ''].join('\n'));
 const opened = (...all) => {
   const session = new Session(machine, lines);
   session.open(text(...all));
