@@ -17,15 +17,14 @@ function ring() {
 function lane() {
   const chosen = byId(byId('lanes').getAttribute('aria-activedescendant'));
   return [chosen?.getAttribute('aria-label'), chosen?.getAttribute('aria-selected'),
-    port.state().place, focused()];
+    place(), focused()];
 }
 
 // Controls and parts without a name, and pictures without a text.
 function nameless() {
   const isNamed = (one) => one.getAttribute('aria-label') || one.textContent.trim()
     || one.labels?.length || one.hidden;
-  const parts = [...all('button, select, input, textarea, summary'),
-    ...all('section, [role]').filter((one) => one.checkVisibility())];
+  const parts = [...all('button, select, input, textarea, summary'), ...visible('section, [role]')];
   const pictures = all('svg').filter((one) => !one.closest('[aria-hidden]')
     && !one.getAttribute('aria-label'));
   return [...parts.filter((one) => !isNamed(one)), ...pictures].map((one) => one.outerHTML);
@@ -99,10 +98,6 @@ function colours() {
 // What a screen reader says without being asked: the role of each part, or how it interrupts.
 const liveRegions = () => Object.fromEntries(all('[role=status], [role=alert], [aria-live]')
   .map((one) => [one.id, one.getAttribute('role') ?? one.getAttribute('aria-live')]));
-
-// The signs of the button that plays.
-const signOfRun = () => all('#run path').filter((one) => getComputedStyle(one).display !== 'none')
-  .map((one) => one.classList[0]);
 
 // The grounds of the lines of the move, and of the others.
 const groundsOfLines = () => [':is(.here)', ':not(.here)'].map((which) => (

@@ -7,19 +7,18 @@ function shows(letters, place) {
 }
 
 function goAndLeave(move, name) {
-  port.go(move);
-  port.open({ lesson: name });
+  go(move);
+  lesson(name);
 }
 
 function showAndLeave(letters, move, name) {
   show(letters, move);
-  port.open({ lesson: name });
+  lesson(name);
 }
 
 // Shows a text of so many bytes after its title, which is no schedule.
 const showLarge = (size, title = '') => show(title + '#'.repeat(size));
 
-const notice = () => text('#notice');
 const keptNames = () => all('[data-kept]').map((one) => one.dataset.kept);
 const keptAt = (move) => location.hash.match(`^#kept=(\\w+)&move=${move}$`)?.[1];
 const keysOfTexts = () => Object.keys(localStorage)

@@ -4,6 +4,7 @@ A browser sees only the fonts of fonts.conf. It sees no user's settings, and not
 the language of the machine.
 """
 import contextlib
+import functools
 import json
 import re
 import subprocess
@@ -103,10 +104,7 @@ def listening(words, home):
         process.wait(PATIENCE)
 
 
-@contextlib.contextmanager
-def folder():
-    with tempfile.TemporaryDirectory(ignore_cleanup_errors=True) as home:
-        yield home
+folder = functools.partial(tempfile.TemporaryDirectory, ignore_cleanup_errors=True)
 
 
 @contextlib.contextmanager

@@ -8,7 +8,7 @@ const isLinked = (letters) => {
 const edit = (old, other) => write(value('#text').replace(old, other));
 
 function compared() {
-  const mark = (id) => document.querySelector(`#${id} [data-different]`)?.dataset.different;
+  const mark = (id) => pick(`#${id} [data-different]`)?.dataset.different;
   return {
     shown: !byId('other').hidden, there: mark('other'), here: mark('time'),
     lines: texts('#other .compared code'), differs: count('#other .differs'),

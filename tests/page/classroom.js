@@ -1,22 +1,12 @@
 // Hall mode in a class: the quiz, a black screen, and how much of code and memory is visible.
 
-const place = () => port.state().place;
 const isHall = () => document.body.classList.contains('hall');
 
 // The question of the quiz, or false if part of it is off the screen.
 function asked() {
   const form = byId('quiz-form');
-  const screen = { left: 0, top: 0, right: innerWidth, bottom: innerHeight };
-  return form && all('input, button', form).every((one) => inside(rect(one), screen))
+  return form && all('input, button', form).every((one) => inside(rect(one), screenBox()))
     && { move: Number(form.dataset.move), kind: form.dataset.kind };
-}
-
-function answer(given) {
-  const form = byId('quiz-form');
-  const radio = form.querySelector('input[type=radio]');
-  if (radio) radio.checked = true;
-  else form.querySelector('input[name=answer]').value = given;
-  form.requestSubmit();
 }
 
 // Whether the whole screen is black.
@@ -29,8 +19,8 @@ function isBlack() {
 function code() {
   const box = rect(byId('code-lines'));
   const lines = all('#code-lines .code-line').map(rect);
-  return [lines.length, lines.filter(({ top, bottom }) => top >= box.top - 1
-    && bottom <= box.bottom + 1).length];
+  const isSeen = ({ top, bottom }) => top >= box.top - 1 && bottom <= box.bottom + 1;
+  return [lines.length, lines.filter(isSeen).length];
 }
 
 // The texts of the memory picture that are cut or partly out of view.
@@ -42,13 +32,9 @@ function cut() {
 
 // The name and the text of the file with the answers.
 async function saved(name) {
-  let blob;
-  let file;
   byId('quiz-name').value = name;
-  URL.createObjectURL = (one) => { blob = one; return 'data:,'; };
-  HTMLAnchorElement.prototype.click = function click() { file = this.download; };
-  click('[data-save-quiz]');
-  return [file, await blob.text()];
+  const { name: file, bytes } = await caught(() => click('[data-save-quiz]'));
+  return [file, new TextDecoder().decode(bytes)];
 }
 
 // Whether the history has this name, which a browser keeps even if it is ended.

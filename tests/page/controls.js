@@ -5,36 +5,32 @@ const hasFocus = (selector) => document.activeElement.matches(selector);
 const pressed = () => all('.tools [aria-pressed=true]').map(({ id }) => id);
 
 // The parts that are ticked in the list, and those that are shown.
-function viewed() {
-  const parts = ['time', 'memory', 'code', 'now'];
-  return [parts.filter((name) => document.querySelector(`#view [name=${name}]`).checked),
-    parts.filter((name) => byId(name).checkVisibility())];
-}
+const viewed = () => [(name) => pick(`#view [name=${name}]`).checked,
+  (name) => byId(name).checkVisibility()]
+  .map((isSo) => ['time', 'memory', 'code', 'now'].filter(isSo));
 
 // What is wrong with the open dialog: what is cut, off the screen, or on another control.
 function wrongInDialog() {
-  const dialog = document.querySelector('dialog[open]');
+  const dialog = pick('dialog[open]');
   const box = rect(dialog);
-  const screen = { left: 0, top: 0, right: innerWidth, bottom: innerHeight };
-  const seen = all('*', dialog).filter((one) => one.checkVisibility() && rect(one).width > 0
-    && !one.closest('svg, option'));
+  const seen = visible('*', dialog)
+    .filter((one) => rect(one).width > 0 && !one.closest('svg, option'));
   const named = (what, those) => those.map((one) => (
-    `${what}: ${one.tagName} ${plain(one.textContent).slice(0, 40)}`));
+    `${what}: ${one.tagName} ${saidBy(one).slice(0, 40)}`));
   const isCut = (one) => one.clientWidth > 0 && one.scrollWidth > one.clientWidth + 1
     && !one.matches('textarea, input, select, .live');
   const isOff = (one) => rect(one).left < box.left - 1 || rect(one).right > box.right + 1;
-  const controls = seen
-    .filter((one) => one.matches('button, input, select, textarea, summary, h2'));
+  const controls = seen.filter((it) => it.matches('button, input, select, textarea, summary, h2'));
   const [head, close] = ['h2', 'form button'].map((one) => dialog.querySelector(one)).map(rect);
   return [...named('cut', seen.filter(isCut)), ...named('off', seen.filter(isOff)),
-    ...overlapsOf(controls), ...(inside(box, screen) ? [] : ['off the screen']),
+    ...overlapsOf(controls), ...(inside(box, screenBox()) ? [] : ['off the screen']),
     ...(close.left >= head.right && close.top < head.bottom ? [] : ['the button that closes']),
   ];
 }
 
 // The keys that the page takes for itself on a control.
 function actsOf(selector, names, held) {
-  const node = document.querySelector(selector);
+  const node = pick(selector);
   return names.filter((name) => !node.dispatchEvent(new KeyboardEvent('keydown', {
     key: name, [held]: true, bubbles: true, cancelable: true,
   })));
@@ -42,7 +38,7 @@ function actsOf(selector, names, held) {
 
 // Selects a line of code, and clicks it.
 function clickSelected() {
-  const line = document.querySelector('#code-lines .code-line code');
+  const line = pick('#code-lines .code-line code');
   getSelection().selectAllChildren(line);
   line.click();
   getSelection().removeAllRanges();

@@ -8,10 +8,8 @@ const titleIn = (node) => node.querySelector('title').textContent;
 
 // By the name of a word, which in a record has its thread: the value, and how the move used it.
 function wordsDrawn() {
-  const boxAfter = (label) => {
-    const box = label.nextElementSibling;
-    return [titleIn(box), kindOf(box.querySelector('.word'))];
-  };
+  const boxAfter = ({ nextElementSibling: box }) => (
+    [titleIn(box), kindOf(box.querySelector('.word'))]);
   const plain = all(`${PICTURE} .word-name`).map((label) => [label.textContent, boxAfter(label)]);
   const fields = all(`${PICTURE} .record`).flatMap((record) => all('.field', record)
     .map((label) => [`${label.textContent} of ${record.dataset.record}`, boxAfter(label)]));
@@ -47,8 +45,8 @@ function barsDrawn(lanes, box = byId('lanes')) {
     return { left, right, top: top - half, bottom: top, kind: '⇢' };
   });
   return all('.move:not([data-refused])', box).map((one) => {
-    const target = rect(one.querySelector('.target'));
-    const x = (target.left + target.right) / 2 + 0.2 * target.width;
+    const target = one.querySelector('.target');
+    const x = middleX(target) + 0.2 * rect(target).width;
     const isThere = (lane, { left, right, top, bottom }) => x > left && x < right
       && middleY(lane) > top - 1 && middleY(lane) < bottom + 1;
     return [Number(one.dataset.move), lanes.map((lane) => [...bars, ...lines]
@@ -71,15 +69,9 @@ function placeNear(x, y) {
   return Number(places[0].textContent);
 }
 
-function endOf(path) {
-  const end = path.getPointAtLength(path.getTotalLength());
-  return end.matrixTransform(path.getScreenCTM());
-}
-
 // Whether the middle of a token is outside the rim of a wheel and its numbers.
 function isOutside(token) {
-  const [rim, dot] = [`${PICTURE} .rim`, `${PICTURE} .place circle`]
-    .map((one) => document.querySelector(one));
+  const [rim, dot] = [`${PICTURE} .rim`, `${PICTURE} .place circle`].map(pick);
   const far = Math.hypot(middleX(token) - middleX(rim), middleY(token) - middleY(rim));
   return 2 * far > rect(rim).width + rect(dot).width;
 }
@@ -88,16 +80,13 @@ function isOutside(token) {
 function wheelDrawn() {
   if (!count(`${PICTURE} .place`)) return null;
   const hand = (name) => {
-    const { x, y } = endOf(document.querySelector(`${PICTURE} .rim ~ .hand.${name}`));
+    const { x, y } = endOf(pick(`${PICTURE} .rim ~ .hand.${name}`));
     return placeNear(x, y);
   };
-  const tokens = all(`${PICTURE} .rim ~ .token`).slice(0, count(`${PICTURE} .rim ~ .own`));
-  const discs = tokens.map((one) => one.querySelector('circle'));
-  return {
-    inner: hand('inner'), outer: hand('outer'),
-    tokens: discs.filter(isOutside).map((one) => [titleIn(one.parentNode),
-      placeNear(middleX(one), middleY(one))]),
-  };
+  const tokens = all(`${PICTURE} .rim ~ .token`).slice(0, count(`${PICTURE} .rim ~ .own`))
+    .map((one) => one.querySelector('circle')).filter(isOutside)
+    .map((one) => [titleIn(one.parentNode), placeNear(middleX(one), middleY(one))]);
+  return { inner: hand('inner'), outer: hand('outer'), tokens };
 }
 
 // The threads whose tokens have their middle in the room of a read-write lock.
@@ -128,13 +117,10 @@ const threadsDrawn = () => ({
     one.querySelector('.name').textContent]),
 });
 
-const beginOf = (path) => path.getPointAtLength(0).matrixTransform(path.getScreenCTM());
-
 // The move in whose column a point is, or null.
 function moveAt(x) {
-  const marks = all('#lanes .move .target').filter((one) => rect(one).left < x
-    && x < rect(one).right);
-  return marks.length ? Number(marks[0].parentNode.dataset.move) : null;
+  const mark = all('#lanes .move .target').find((one) => rect(one).left < x && x < rect(one).right);
+  return mark ? Number(mark.parentNode.dataset.move) : null;
 }
 
 // Each arrow: the lanes and the columns from which and to which it leads.
@@ -154,16 +140,16 @@ function numbersDrawn() {
 // How far from the mark of the shown move the bands of the lanes and of the numbers are, and its
 // number.
 function farFromMark(move) {
-  const mark = document.querySelector(`#lanes [data-move="${move}"] .target`);
+  const mark = pick(`#lanes [data-move="${move}"] .target`);
   return mark && ['#lanes .here-column', '#numbers .here-column', '#numbers .here']
-    .map((one) => Math.round(middleX(document.querySelector(one)) - middleX(mark)));
+    .map((one) => Math.round(middleX(pick(one)) - middleX(mark)));
 }
 
 const pillsIn = (list) => all(`${list} .pill`).map((one) => [one.textContent, kindOf(one)]);
 
 // What is said of the move beside its sentence.
 const factsDrawn = () => ({
-  head: text('#now .head'), outcome: document.querySelector('#now .outcome')?.classList[1] ?? null,
+  head: text('#now .head'), outcome: pick('#now .outcome')?.classList[1] ?? null,
   holds: pillsIn('#now [data-holders]'), does: text('#now [data-holders] > .soft'),
   queue: pillsIn('#now [data-queue]'),
   means: attribute('#now .outcome', 'title') === text('#now .plain'),
@@ -172,7 +158,7 @@ const factsDrawn = () => ({
 
 // The moves at which the slider has these signs.
 function placesOnSlider(selector, xOf = middleX) {
-  const svg = document.querySelector('#slider-picture svg');
+  const svg = pick('#slider-picture svg');
   const [{ left, width }, edge] = [rect(svg), 12 * rect(svg).width / svg.viewBox.baseVal.width];
   return all(`#slider-picture ${selector}`).map((one) => (
     Math.round((xOf(one) - left - edge) / (width - 2 * edge) * port.state().last)));
@@ -181,7 +167,7 @@ function placesOnSlider(selector, xOf = middleX) {
 // The empty room below the picture of memory, in its own units; and which texts, discs and marks
 // lie on another one.
 function roomDrawn() {
-  const svg = document.querySelector(`${PICTURE} svg`);
+  const svg = pick(`${PICTURE} svg`);
   const box = svg.getBBox();
   const beside = (one, other) => one.parentNode === other.parentNode;
   return { below: svg.viewBox.baseVal.height - box.y - box.height, overlaps: [
@@ -211,8 +197,8 @@ function askewInMemory() {
   const missing = all(`${PICTURE} .missing-text`)
     .filter((one) => !isIn(one, one.previousElementSibling, 8, 30));
   const heads = all(`${PICTURE} .record`).filter((one) => {
-    const [name, standing, frame, own] = ['.name', '.standing', '.frame', '.own'].map((part) => (
-      one.querySelector(part)));
+    const [name, standing, frame, own] = ['.name', '.standing', '.frame', '.own']
+      .map((part) => one.querySelector(part));
     return !isIn(name, standing, 999, 3) || !inside(rect(standing), rect(frame))
       || (own && (rect(own).top < rect(frame).bottom || !isIn(own, frame, 2, 999)));
   });
@@ -220,15 +206,15 @@ function askewInMemory() {
     .map(({ textContent }) => textContent);
 }
 
-// Marks and words of the lanes, and numbers above them, that are not in their column.
 // Whether a word is above a mark, or below it where there is no room above.
 const isOff = (word, mark) => boxOf(word).bottom <= rect(mark).top + 4
   || (boxOf(word).top >= rect(mark).bottom - 4 && middleY(mark) - rect(byId('lanes')).top < 30);
 
+// Marks and words of the lanes, and numbers above them, that are not in their column.
 function askewInLanes() {
   const marks = all('#lanes .move:not([data-refused])').flatMap((one) => {
     const [target, mark] = ['.target', '.step, .call-mark'].map((part) => one.querySelector(part));
-    const number = document.querySelector(`#numbers .number[data-move="${one.dataset.move}"]`);
+    const number = pick(`#numbers .number[data-move="${one.dataset.move}"]`);
     const [word, found] = [one.querySelector('.word-label'), one.querySelector('.found')];
     return [isIn(mark, target, 4, 2) || 'mark',
       !number || isIn(number, target, 2, 999) || 'number',
@@ -241,8 +227,7 @@ function askewInLanes() {
     !isIn(one.querySelector('.lane-name'), one.querySelector('.lane-line'), 9999, 12)));
   const arrows = all('#lanes .arrow:not(.halo)').filter((path) => {
     const { x } = endOf(path);
-    const mark = document.querySelector(`#lanes [data-move="${moveAt(x)}"] :is(.step, .call-mark)`);
-    return x > rect(mark).left + 2;
+    return x > rect(`#lanes [data-move="${moveAt(x)}"] :is(.step, .call-mark)`).left + 2;
   }).map(() => 'arrow');
   const words = all('#lanes .span-text').filter((one) => kindOf(one) !== one.textContent
     || !all(`#lanes .span.${kindOf(one)}`).some((bar) => inside(rect(one), rect(bar))));
@@ -258,7 +243,7 @@ const linksDrawn = () => all(`${PICTURE} .link`).map((path) => {
   const from = records.find((one) => Math.abs(middleY(one.querySelector('.word')) - begin.y) < 4
     && begin.x > rect(one.querySelector('.word')).right - 9
     && begin.x < rect(one.querySelector('.frame')).right + 9);
-  const tail = document.querySelector(`${PICTURE} .word-name + g .word`);
+  const tail = pick(`${PICTURE} .word-name + g .word`);
   const to = records.find((one) => one !== from && isNear(endOf(path), rect(
     one.querySelector('.frame'))));
   return [from ? Number(from.dataset.record) : isNear(begin, rect(tail)) && 'tail',
@@ -270,43 +255,38 @@ function stateDrawn() {
   return {
     words: wordsDrawn(), marks: marksDrawn(lanes), bars: barsDrawn(lanes), ...linesDrawn(),
     ...threadsDrawn(), wheel: wheelDrawn(), caption: text('#memory-says'),
-    wrote: document.querySelector('dd.wrote')?.textContent ?? null,
+    wrote: pick('dd.wrote')?.textContent ?? null,
     names: texts('#lanes .lane-name title'), notes: texts('#lanes .lane-name + .note'),
     label: attribute(`${PICTURE} svg`, 'aria-label'),
     enters: placesOnSlider('.tick.enters'), fails: placesOnSlider('.tick.fails'),
     slider: [...placesOnSlider('.knob'), ...placesOnSlider('.done', (one) => endOf(one).x)],
     arrows: arrowsDrawn(lanes), ...numbersDrawn(),
-    far: farFromMark(port.state().place), ...factsDrawn(), ...roomDrawn(),
+    far: farFromMark(place()), ...factsDrawn(), ...roomDrawn(),
     askew: [...askewInMemory(), ...askewInLanes()], links: linksDrawn(),
   };
 }
 
 // Each state up to a move, with the answers to questions.
-const eachState = (last) => Array.from({ length: last + 1 }, (_, move) => {
-  go(move);
-  if (document.querySelector('#now .question details:not([open])')) key('a');
+const eachState = (last) => atEach(movesTo(last), () => {
+  if (pick('#now .question details:not([open])')) key('a');
   return stateDrawn();
 });
 
 // In Play: for each thread its name, how its disc looks, whether it moved last, and its choices.
-const choicesAt = (moves) => moves.map((move) => {
-  go(move);
-  return all('#choices .threads li').map((row) => {
-    const [who, buttons] = [row.querySelector('.who').textContent, all('[data-word]', row)];
-    return [who, kindOf(row.firstChild), 'here' in row.dataset,
-      buttons.map((one) => one.dataset.word), [...new Set(buttons.map(kindOf))].join()];
-  });
-});
+const choicesAt = (moves) => atEach(moves, () => all('#choices .threads li').map((row) => {
+  const [who, buttons] = [row.querySelector('.who').textContent, all('[data-word]', row)];
+  return [who, kindOf(row.firstChild), 'here' in row.dataset,
+    buttons.map((one) => one.dataset.word), [...new Set(buttons.map(kindOf))].join()];
+}));
 
 // On paper: the marks and the bars of all strips, and the rows of the table.
 function paperDrawn() {
-  dispatchEvent(new Event('beforeprint'));
+  drawPaper();
   byId('paper').style.display = 'block';
   const strips = all('#paper .strip').map((one) => [one, all('.lane-line', one)]);
   const marks = strips.flatMap(([box, lanes]) => marksDrawn(lanes, box));
   const bars = strips.flatMap(([box, lanes]) => barsDrawn(lanes, box));
-  const rows = all('#paper tbody tr').map((row) => [...row.cells].map(({ textContent }) => (
-    plain(textContent))));
+  const rows = all('#paper tbody tr').map((row) => [...row.cells].map(saidBy));
   byId('paper').style.display = '';
   return { marks, bars, rows };
 }

@@ -4,34 +4,24 @@ function tick(parts) {
   for (const box of all('#take [type=checkbox]')) box.checked = parts.includes(box.name);
 }
 
-// The bytes of the file that an act saves.
-async function caught(act) {
-  const saved = new Promise((done) => {
-    URL.createObjectURL = (blob) => { blob.arrayBuffer().then(done); return 'data:,'; };
-  });
-  HTMLAnchorElement.prototype.click = () => {};
-  act();
-  return new Uint8Array(await saved);
-}
+// The bytes of what the dialog exports, and their text.
+const bytesTaken = async (what) => (await caught(() => click(`[data-take=${what}]`))).bytes;
+const textTaken = async (what) => new TextDecoder().decode(await bytesTaken(what));
 
-async function taken(what, parts, moves) {
+function taken(what, parts, moves) {
   click('#show-take');
   tick(parts);
   if (moves) askMoves(...moves);
-  return new TextDecoder().decode(await caught(() => click(`[data-take=${what}]`)));
+  return textTaken(what);
 }
 
 // Chooses only the part with this label.
 function chooseOnly(label) {
   click('#show-take');
   tick([]);
-  all('#take label').find((one) => plain(one.textContent) === label).click();
-  byId('take').close();
+  all('#take label').find((one) => saidBy(one) === label).click();
+  closeDialog('take');
 }
-
-// The picture with the parts that were chosen.
-const takenAsChosen = async () => new TextDecoder().decode(
-  await caught(() => click('[data-take=svg]')));
 
 // Where the corners of a picture are drawn. The style of the page may make its frame larger.
 function areaOf(svg) {
@@ -40,13 +30,18 @@ function areaOf(svg) {
   return { left: e, top: f, right: e + a * width, bottom: f + d * height };
 }
 
-// Draws a picture in a frame of its own: the font families of its texts, the bands under the move,
-// and the texts that are inside the picture and those that are not.
-async function alone(parts, what = 'svg', moves = null) {
+// Draws a picture in a frame of its own.
+function framed(picture) {
   const frame = document.createElement('iframe');
   document.body.append(frame);
-  frame.contentDocument.body.innerHTML = await taken(what, parts, moves);
-  const inFrame = (selector) => all(selector, frame.contentDocument);
+  frame.contentDocument.body.innerHTML = picture;
+  return [frame, (selector) => all(selector, frame.contentDocument)];
+}
+
+// Of a picture in a frame of its own: the font families of its texts, the bands under the move,
+// and the texts that are inside the picture and those that are not.
+async function alone(parts, what = 'svg', moves = null) {
+  const [frame, inFrame] = framed(await taken(what, parts, moves));
   const families = inFrame('text')
     .map((one) => frame.contentWindow.getComputedStyle(one).fontFamily.split(',')[0]);
   const bandColour = frame.contentWindow.getComputedStyle(inFrame('.here-column')[0]
@@ -67,11 +62,12 @@ async function alone(parts, what = 'svg', moves = null) {
   };
 }
 
-const around = (areas) => ({
-  left: Math.min(...areas.map(({ left }) => left)), top: Math.min(...areas.map(({ top }) => top)),
-  right: Math.max(...areas.map(({ right }) => right)),
-  bottom: Math.max(...areas.map(({ bottom }) => bottom)),
-});
+function around(areas) {
+  const [left, top, right, bottom] = ['left', 'top', 'right', 'bottom']
+    .map((side) => areas.map((one) => one[side]));
+  return { left: Math.min(...left), top: Math.min(...top),
+    right: Math.max(...right), bottom: Math.max(...bottom) };
+}
 
 // Where a picture in a picture is, by its size and the place of its group.
 function placeOf(svg) {
@@ -83,14 +79,11 @@ function placeOf(svg) {
 // How large a picture is drawn.
 const scaleOf = (svg) => (
   Math.round(100 * Number(svg.getAttribute('width')) / svg.viewBox.baseVal.width) / 100);
-const scaleOfMemory = () => scaleOf(document.querySelector('#memory-picture svg'));
+const scaleOfMemory = () => scaleOf(pick('#memory-picture svg'));
 
 // Where the title, the numbers, the lanes, the signs, memory, the code and the whole picture are.
 async function partsOf(parts) {
-  const frame = document.createElement('iframe');
-  document.body.append(frame);
-  frame.contentDocument.body.innerHTML = await taken('svg', parts);
-  const inFrame = (selector) => all(selector, frame.contentDocument);
+  const [frame, inFrame] = framed(await taken('svg', parts));
   const [svg] = inFrame('body > svg');
   const { a, e, f } = svg.getScreenCTM();
   const whole = svg.viewBox.baseVal;
@@ -116,16 +109,14 @@ async function groundOf(parts) {
 // The chunks of an animated picture, and its width in the browser.
 async function animation(from, to) {
   click('#show-take');
-  byId('take-from').value = from;
-  byId('take-to').value = to;
-  const bytes = await caught(() => click('[data-take=animated]'));
+  askMoves(from, to);
+  const bytes = await bytesTaken('animated');
   const image = new Image();
   image.src = `data:image/png;base64,${btoa(lettersOf(bytes))}`;
   await image.decode();
   return {
     ...chunksOf(bytes), width: image.naturalWidth, sizes: await sizesOf(bytes),
-    corner: cornerOf(image),
-    data: await Promise.all(framesOf(bytes).map(markOf)),
+    corner: cornerOf(image), data: await Promise.all(framesOf(bytes).map(markOf)),
   };
 }
 
@@ -182,7 +173,7 @@ async function markOf(frame) {
 // The picture of the shown state as points.
 async function pointsOf() {
   click('#show-take');
-  return markOf(framesOf(await caught(() => click('[data-take=png]')))[0]);
+  return markOf(framesOf(await bytesTaken('png'))[0]);
 }
 
 // The kind of each chunk, and for how many seconds each frame is shown.
@@ -206,18 +197,13 @@ const asks = () => byId('take-answer').checkVisibility();
 
 // Fills in the wanted moves, and returns the answer of the dialog.
 function askMoves(from, to) {
-  for (const [id, move] of [['take-from', from], ['take-to', to]]) {
-    byId(id).value = move;
-    byId(id).dispatchEvent(new Event('input', { bubbles: true }));
-  }
+  input('take-from', from);
+  input('take-to', to);
   return askedCut();
 }
 
 // What the dialog says of moves that are not drawn.
-function askedCut() {
-  const box = byId('take-cut');
-  return box.checkVisibility() ? plain(box.textContent) : '';
-}
+const askedCut = () => seen('#take-cut');
 
 // Saves these moves, and returns the notice.
 async function noticed(what, from, to) {
@@ -225,13 +211,13 @@ async function noticed(what, from, to) {
   byId('notice').textContent = '';
   click('#show-take');
   askMoves(from, to);
-  await caught(() => click(`[data-take=${what}]`));
+  await bytesTaken(what);
   return text('#notice');
 }
 
 // The strip of these moves.
-async function stripOf(from, to) {
+function stripOf(from, to) {
   click('#show-take');
   askMoves(from, to);
-  return new TextDecoder().decode(await caught(() => click('[data-take=strip]')));
+  return textTaken('strip');
 }

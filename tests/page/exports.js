@@ -1,29 +1,9 @@
 // Exports, as the page passes them to the browser or to the clipboard.
 
-// Saves an export, and returns the name of the file and its bytes as letters.
+// Saves an export: the name of the file, its bytes as letters, and its type.
 async function take(what) {
-  const taken = {};
-  const caught = new Promise((done) => {
-    URL.createObjectURL = (blob) => {
-      blob.arrayBuffer().then(done);
-      window.typeTaken = blob.type;
-      return 'data:,';
-    };
-  });
-  HTMLAnchorElement.prototype.click = function click() { taken.name = this.download; };
-  click(`[data-take=${what}]`);
-  const letters = lettersOf(new Uint8Array(await caught));
-  return [taken.name, letters];
-}
-
-const typeTaken = () => window.typeTaken;
-
-function copied(what) {
-  let text;
-  const clipboard = { writeText: async (given) => { text = given; } };
-  Object.defineProperty(navigator, 'clipboard', { value: clipboard, configurable: true });
-  click(`[data-take=${what}]`);
-  return text;
+  const { name, type, bytes } = await caught(() => click(`[data-take=${what}]`));
+  return [name, lettersOf(bytes), type];
 }
 
 const tips = () => all('footer button, footer select').map((one) => one.title);
@@ -34,7 +14,7 @@ const fills = () => [styleOf('#back path').fill, styleOf('#forward path').fill,
 
 // Where the buttons of steps point: their sign has its tip, or its bar, on that side.
 const waysOfArrows = () => Object.fromEntries(['first', 'back', 'forward', 'last'].map((id) => {
-  const path = document.querySelector(`#${id} path`);
+  const path = pick(`#${id} path`);
   const isChevron = path.matches('.chevron');
   const at = path.getPointAtLength(isChevron ? path.getTotalLength() / 2 : 0);
   const { x, width } = path.getBBox();

@@ -3,23 +3,19 @@
 const open = (letters) => show(lettersOf(new TextEncoder().encode(letters)));
 
 // The text that the page offers in place of a line.
-const offered = () => document.querySelector('#verdict [data-mend]')?.dataset.mend ?? null;
+const offered = () => pick('#verdict [data-mend]')?.dataset.mend ?? null;
 
 // Signs that the page took text for markup: elements that it does not have, and a script that ran.
 const markup = () => [count('img, h1 b, main b b, i, main h1, #paper b, main script, main style'),
   window.broken ?? null, byId('title').textContent];
 
 // The top and the bottom of the band of a wrong line, and those of its number.
-const bandAndNumber = () => ['#band .fault', '#gutter .fault']
-  .map((one) => rect(document.querySelector(one))).map(({ top, bottom }) => [top, bottom]);
+const bandAndNumber = () => ['#band .fault', '#gutter .fault'].map(rect)
+  .map(({ top, bottom }) => [top, bottom]);
 
 // The parts that say what is wrong.
-const places = () => all('.verdict.bad').filter((one) => one.checkVisibility())
-  .map((one) => one.closest('[id]').id);
-
-const drawPaper = () => dispatchEvent(new Event('beforeprint'));
-const allText = () => ['main', '#verdict']
-  .map((one) => document.querySelector(one).textContent).join('');
+const places = () => visible('.verdict.bad').map((one) => one.closest('[id]').id);
+const allText = () => ['main', '#verdict'].map((one) => pick(one).textContent).join('');
 
 // Elements that are wider than the panel or than their own box.
 function wide() {

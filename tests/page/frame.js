@@ -19,25 +19,22 @@ const helps = (id) => ['spellcheck', 'autocapitalize', 'autocomplete', 'wrap'].m
 const attributesOf = (selector, names) => names.map((name) => attribute(selector, name));
 
 // The tools that are shown, and how far they are from the right edge.
-const tools = () => [all('.tools button').filter((one) => one.checkVisibility())
-  .map(({ id }) => id), innerWidth - rect(document.querySelector('.tools')).right < 30];
+const tools = () => [visible('.tools button').map(({ id }) => id),
+  innerWidth - rect('.tools').right < 30];
 
 // Where a control is: the edges at which it begins and ends.
-const across = (selectors) => selectors.map((one) => {
-  const { left, right } = rect(document.querySelector(one));
-  return [left, right].map(Math.round);
-});
+const across = (selectors) => selectors.map(rect)
+  .map(({ left, right }) => [left, right].map(Math.round));
 
 // What the style gives each of these for these properties.
 const looksOf = (selectors, names) => selectors.map((one) => (
   names.map((name) => styleOf(one)[name])));
 
 // Where the sign of each button of the foot is in its box of 16 by 16.
-const signsOfTheFoot = () => Object.fromEntries(all('footer svg.icon path')
-  .filter((one) => one.checkVisibility()).map((one) => {
-    const { x, y, width, height } = one.getBBox();
-    return [one.closest('button').id, [x, y, width, height]];
-  }));
+const signsOfTheFoot = () => Object.fromEntries(visible('footer svg.icon path').map((one) => {
+  const { x, y, width, height } = one.getBBox();
+  return [one.closest('button').id, [x, y, width, height]];
+}));
 
 const groundsOf = (selectors) => selectors.map((one) => styleOf(one).backgroundColor);
 const numbersOf = (selector) => all(selector).map((one) => [...one.attributes]

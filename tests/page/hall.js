@@ -25,21 +25,20 @@ function letters() {
 }
 
 const parts = () => {
-  const page = { left: 0, top: 0, right: innerWidth, bottom: innerHeight };
-  return PARTS.map(byId).filter((part) => part.checkVisibility() && rect(part).height > 40
-    && inside(rect(part), page)).map((part) => part.id);
+  const isShown = (part) => part.checkVisibility() && rect(part).height > 40
+    && inside(rect(part), screenBox());
+  return PARTS.filter((id) => isShown(byId(id)));
 };
 
 // Whether the current line is in view, in the code or, without the code, in the bar.
 function line() {
-  const page = { left: 0, top: 0, right: innerWidth, bottom: innerHeight };
-  const lines = all('.code-line.here').filter((one) => one.checkVisibility());
-  const bar = document.querySelector('#current code');
+  const lines = visible('.code-line.here');
+  const bar = pick('#current code');
   return lines.length ? lines.every((one) => inside(rect(one), rect(byId('code-lines'))))
-    : bar !== null && inside(rect(bar), page);
+    : bar !== null && inside(rect(bar), screenBox());
 }
 
-const isSeen = (selector) => document.querySelector(selector).checkVisibility();
+const isSeen = (selector) => pick(selector).checkVisibility();
 const lanesHeight = () => rect(byId('lanes')).height;
 const header = () => isSeen('header');
 
@@ -63,10 +62,7 @@ function blockLetters() {
 function answerWrongly() {
   const form = byId('quiz-form');
   if (!form) return false;
-  const [radio] = all('input[value=left]', form);
-  if (radio) radio.checked = true;
-  else form.querySelector('input[name=answer]').value = '1,1';
-  form.requestSubmit();
+  answer(form.dataset.kind === 'outcome' ? 'left' : '1,1');
   return form.dataset.kind;
 }
 

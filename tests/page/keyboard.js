@@ -8,11 +8,11 @@ const wideSigns = () => all('#sign-list svg')
   .filter((one) => one.getBBox().x + one.getBBox().width > one.clientWidth)
   .map((one) => one.nextSibling.textContent);
 
-const columnWidth = () => rect(document.querySelector('#numbers .here-column')).width;
+const columnWidth = () => rect('#numbers .here-column').width;
 
 // The ends of a part of the slider, without the ends of its pen.
 function endsOf(selector) {
-  const { x, width } = document.querySelector(`#slider-picture ${selector}`).getBBox();
+  const { x, width } = pick(`#slider-picture ${selector}`).getBBox();
   return [x, x + width].map(Math.round);
 }
 
@@ -23,7 +23,3 @@ function track() {
 }
 
 const passed = () => endsOf('.track.done');
-
-// What the button that plays shows.
-const signsOfRun = () => all('#run path').filter((one) => one.checkVisibility())
-  .map((one) => one.classList[0]);

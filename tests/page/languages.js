@@ -2,18 +2,14 @@
 
 function atEachPlace(name, take) {
   lesson(name);
-  const { last } = port.state();
-  return Array.from({ length: last + 1 }, (_, place) => {
-    go(place);
-    return take();
-  });
+  return atEach(movesTo(port.state().last), take);
 }
 
 const untranslated = () => port.untranslated();
 const language = () => document.documentElement?.lang;
 // Before it begins, a page has the language of its frame, English.
 const hasBegunIn = (name) => isThere() && language() === name;
-const said = (name) => atEachPlace(name, () => document.querySelector('main').textContent);
+const said = (name) => atEachPlace(name, () => pick('main').textContent);
 
 function cutNow() {
   const { left, right } = rect(byId('memory-picture'));
@@ -25,15 +21,11 @@ function cutNow() {
 const cut = (name) => atEachPlace(name, cutNow);
 
 // A map from the kind of a stretch of a lane to its meaning in the legend.
-const signs = () => Object.fromEntries(all('#legend > span').filter((one) => (
-  one.querySelector('.span'))).map((one) => [one.querySelector('.span').classList[1],
-  plain(one.textContent)]));
+const signs = () => Object.fromEntries(all('#legend > span:has(.span)').map((one) => [
+  one.querySelector('.span').classList[1], saidBy(one)]));
 
 // The plain words on each of these moves.
-const plainAt = (moves) => moves.map((move) => {
-  go(move);
-  return text('#now .plain');
-});
+const plainAt = (moves) => atEach(moves, () => text('#now .plain'));
 
 // Each marked term, with what is said of it while it has the focus.
 const meanings = (terms) => all(terms).map((one) => {

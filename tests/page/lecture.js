@@ -1,23 +1,20 @@
 // A lecture by a plan: the current step, and the window of the lecturer.
 
 const PARTS = ['time', 'memory', 'code', 'now'];
-const isOpen = () => byId('plans').open;
 
 function step() {
-  const screen = { left: 0, top: 0, right: innerWidth, bottom: innerHeight };
   const asked = all('#bar .question, #bar .plan-say, #lecture, #position, #current b');
   const now = byId('now');
   return {
-    place: port.state().place, hall: document.body.classList.contains('hall'),
+    place: place(), hall: document.body.classList.contains('hall'),
     parts: PARTS.filter((id) => byId(id).checkVisibility()), compares: !byId('other').hidden,
     question: text('#bar .question p'), answers: count('#bar .question details[open]'),
     answer: text('#bar .question details[open] p'),
     step: text('#lecture span'), clock: text('#lecture-clock'), sheet: byId('sheets').open,
-    isSeen: asked.every((one) => inside(rect(one), screen))
+    isSeen: asked.every((one) => inside(rect(one), screenBox()))
       && now.scrollHeight <= now.clientHeight + 1
       && document.documentElement.scrollHeight <= innerHeight + 1,
-    cut: all('#memory-picture text').filter((one) => one.checkVisibility())
-      .map((one) => plain(one.textContent)).filter((one) => one.endsWith('…')),
+    cut: visible('#memory-picture text').map(saidBy).filter((one) => one.endsWith('…')),
     discs: count('#code-lines .disc'),
   };
 }
@@ -37,11 +34,11 @@ const wordsOffMarks = () => all('#lanes [data-move], #other [data-move]').filter
   const [word, mark] = ['.word-label', ':is(.step, .call-mark)'].map((name) => (
     one.querySelector(name)?.getBBox()));
   return word && mark && word.y < mark.y + mark.height && mark.y + 4 < word.y + word.height;
-}).map((one) => plain(one.textContent));
+}).map(saidBy);
 
 // The texts of the memory picture that are wholly in view.
 const seenOfMemory = () => all('#memory-picture text')
-  .filter((one) => inside(rect(one), rect(byId('memory')))).map((one) => plain(one.textContent));
+  .filter((one) => inside(rect(one), rect('#memory'))).map(saidBy);
 
 // Moves the clock of the browser on by minutes.
 function wait(minutes) {
@@ -79,30 +76,26 @@ const stylesThere = () => window.opened.document.querySelectorAll('style').lengt
 const languageThere = () => window.opened.document.documentElement.lang;
 const windowThere = () => {
   const { title, body, head } = window.opened.document;
-  return [title, body.className, head.textContent.includes(
-    document.querySelector('style').textContent)];
+  return [title, body.className, head.textContent.includes(pick('style').textContent)];
 };
 const themeThere = () => window.opened.document.documentElement.dataset.theme;
-const closeThere = () => window.opened.close();
+const closeThere = () => window.opened?.close();
 
 // The sentence on each move, with the answer to its question shown.
-const sentences = (last) => Array.from({ length: last }, (_, at) => {
-  go(at + 1);
-  if (document.querySelector('#now .question details:not([open])')) key('a');
+const sentences = (last) => atEach(movesTo(last).slice(1), () => {
+  if (pick('#now .question details:not([open])')) key('a');
   return text('#now .say:not(.own-say), #now details.aside > p.aside');
 });
 
 // The second window at each move: the paragraphs below each heading; and the facts there and here.
-const presentedAt = (last) => Array.from({ length: last + 1 }, (_, move) => {
-  go(move);
+const presentedAt = (last) => atEach(movesTo(last), () => {
   const { body } = window.opened.document;
   const parts = { '': [] };
   let heading = '';
   for (const one of all('h1, h2, p', body)) {
-    if (one.tagName === 'H2') heading = plain(one.textContent);
-    (parts[heading] ??= []).push(...(one.tagName === 'H2' ? [] : [plain(one.textContent)]));
+    if (one.tagName === 'H2') heading = saidBy(one);
+    (parts[heading] ??= []).push(...(one.tagName === 'H2' ? [] : [saidBy(one)]));
   }
-  const facts = [body.querySelector('.facts'), document.querySelector('#now .facts')];
-  return [parts, facts.map((one) => all('[data-holders], [data-queue]', one)
-    .map((fact) => plain(fact.textContent)))];
+  const facts = [body.querySelector('.facts'), pick('#now .facts')];
+  return [parts, facts.map((one) => all('[data-holders], [data-queue]', one).map(saidBy))];
 });

@@ -52,14 +52,8 @@ function edits(rounds) {
 }
 
 // Types a letter at the caret, and returns the function that plays the text after a pause.
-function typedAtCaret(letter) {
-  const later = window.setTimeout;
-  let settle;
-  window.setTimeout = (act) => { settle = act; };
-  document.execCommand('insertText', false, letter);
-  window.setTimeout = later;
-  return settle;
-}
+const typedAtCaret = (letter) => (
+  delayedBy(() => document.execCommand('insertText', false, letter)));
 
 // Types a line several times at the end of 10,004 moves: the least time of each key, and of the
 // pause after it, in which the page plays the text.

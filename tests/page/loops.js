@@ -1,21 +1,19 @@
 // Runs that go on for ever: the sentence, the signs, and what is cut of them.
 
 const said = () => texts('#now .loop-said, #current .loop-said');
-const at = () => [port.state().place, ...said()];
+const at = () => [place(), ...said()];
 const isSaid = (part) => said().some((one) => one.includes(part));
 
 // Whether the arrow back reaches at least to the middle of the number of a move.
 function endsBehind(move) {
   const number = rect(all('#numbers text').find((one) => one.textContent === String(move)));
-  return rect(document.querySelector('#numbers .loop')).right >= (number.left + number.right) / 2;
+  return rect('#numbers .loop').right >= (number.left + number.right) / 2;
 }
 
 // How many columns the line at which the moves begin is before the mark of a move.
 function beforeMark(move) {
-  const [one, next] = [move, move + 1].map((at) => (
-    rect(document.querySelector(`#lanes [data-move="${at}"] .target`))));
-  return (one.left + one.width / 2 - rect(document.querySelector('.loop-begins')).left)
-    / (next.left - one.left);
+  const [one, next] = [move, move + 1].map((at) => rect(`#lanes [data-move="${at}"] .target`));
+  return (one.left + one.width / 2 - rect('.loop-begins').left) / (next.left - one.left);
 }
 
 // How many arrows back and heads of arrows there are, and the moves before which there is a line.
@@ -24,8 +22,7 @@ const signs = () => [count('#numbers .loop'), count('#numbers .loop-tip'),
 
 // The sentences that are not wholly in view.
 function cut() {
-  const screen = { left: 0, top: 0, right: innerWidth, bottom: innerHeight };
-  return all('.loop-said').filter((one) => one.checkVisibility()).flatMap((one) => (
-    [rect(one.closest('#now, #bar')), screen].every((box) => inside(rect(one), box))
-      ? [] : [plain(one.textContent)]));
+  return visible('.loop-said').filter((one) => (
+    ![rect(one.closest('#now, #bar')), screenBox()]
+      .every((box) => inside(rect(one), box)))).map(saidBy);
 }

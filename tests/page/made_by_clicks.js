@@ -7,7 +7,7 @@ const offered = () => choices().map(({ dataset: { thread, word } }) => `${thread
 
 // Opens the form of a new lock, and chooses this lock.
 function openNew(lock) {
-  document.querySelector('#play details:has(#new)').open = true;
+  pick('#play details:has(#new)').open = true;
   byId('new-lock').value = lock;
 }
 

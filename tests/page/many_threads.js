@@ -19,15 +19,14 @@ function drawn() {
     threads: count('#memory-picture .record, #memory-picture .token')
       + folded('#memory-picture .fold > text'),
     pills: count('#now [data-queue] .pill'), listed: folded('#now [data-queue] .folded'),
-    laneInView: inside(rect(document.querySelector('#lanes .word-label.here')),
-      rect(byId('lanes'))),
+    laneInView: inside(rect('#lanes .word-label.here'), rect('#lanes')),
     lanes: count('#lanes .lane-name'), note: text('#resting'),
     overflows: now.scrollHeight > now.clientHeight + 1,
   };
 }
 
 const choiceInView = (thread) => inside(
-  rect(document.querySelector(`#choices [data-thread="${thread}"]`)), rect(byId('choices')));
+  rect(`#choices [data-thread="${thread}"]`), rect('#choices'));
 
 // How many lanes have room in their part.
 function lanesInView() {
@@ -35,16 +34,11 @@ function lanesInView() {
   return Math.floor(byId('lanes').clientHeight / (second - first) + 0.05);
 }
 
-const markInView = (move) => all(`#lanes [data-move="${move}"] .word-label`)
-  .some((one) => inside(rect(one), rect(byId('lanes'))));
-
-const lanesSeen = (threads) => threads.map((thread) => all(`#lane-${thread} .lane-name`)
-  .some((one) => inside(rect(one), rect(byId('lanes')))));
-
-const isChosenInView = (thread) => {
-  const chosen = document.querySelector(`#lane-${thread} .chosen`);
-  return chosen !== null && inside(rect(chosen), rect(byId('lanes')));
-};
+const isInLanes = (selector) => all(`#lanes ${selector}`)
+  .some((one) => inside(rect(one), rect('#lanes')));
+const markInView = (move) => isInLanes(`[data-move="${move}"] .word-label`);
+const lanesSeen = (threads) => threads.map((thread) => isInLanes(`#lane-${thread} .lane-name`));
+const isChosenInView = (thread) => isInLanes(`#lane-${thread} .chosen`);
 
 // The moves with a number above the lanes, and the moves in the lanes.
 const movesInView = () => ['numbers', 'lanes'].map((id) => all(`#${id} [data-move]`)
@@ -78,10 +72,9 @@ function memoryBeyond() {
 
 // How far each fold at the monitor is beside the column of the threads there.
 function besideColumn() {
-  const middle = (one) => (rect(one).left + rect(one).right) / 2;
   const [first] = all('#memory-picture .token:has(+ .wants) circle');
   return all('#memory-picture .fold:has(+ .wants) rect')
-    .map((one) => Math.round(middle(one) - middle(first)));
+    .map((one) => Math.round(middleX(one) - middleX(first)));
 }
 
 // How far each text of a fold is within its frame, at its left and at its right.
@@ -89,8 +82,6 @@ const folds = () => all('#memory-picture .fold > text').map((one) => {
   const [text, frame] = [one, one.parentNode.querySelector('rect')].map(rect);
   return [text.left - frame.left, frame.right - text.right];
 });
-
-const scrollLanes = () => { byId('lanes').scrollTop = byId('lanes').scrollHeight; };
 
 // Opens a schedule at its end, with a comment after so many moves that makes it so many bytes long.
 function openLarge(header, move, after, size) {

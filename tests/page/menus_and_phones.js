@@ -18,7 +18,7 @@ const openNew = () => { byId('new').parentElement.open = true; };
 
 // Whether nothing covers a control, at its top and at its bottom.
 function isFree(selector) {
-  const { left, top, bottom, width } = rect(document.querySelector(selector));
+  const { left, top, bottom, width } = rect(selector);
   return [top + 3, bottom - 3].every((y) => (
     document.elementFromPoint(left + width / 2, y)?.closest(selector)));
 }
@@ -36,12 +36,12 @@ function numbered(number) {
 function seenOfMove(parts) {
   const box = rect(byId('now'));
   return parts.filter((part) => {
-    const node = document.querySelector(`#now ${part}`);
+    const node = pick(`#now ${part}`);
     return node.checkVisibility() && inside(rect(node), box);
   });
 }
 
-const tops = (selectors) => selectors.map((one) => rect(document.querySelector(one)).top);
+const tops = (selectors) => selectors.map((one) => rect(one).top);
 const scrolled = () => [scrollX, scrollY];
 const disabled = (ids) => ids.map((id) => byId(id).disabled);
 
@@ -52,7 +52,5 @@ function withFingers() {
 }
 
 // Controls on the screen that a finger may miss.
-const small = () => all('button, select, summary').filter((one) => one.checkVisibility()
-  && rect(one).width && Math.min(rect(one).height, rect(one).width) < 43.5)
-  .map((one) => one.id || plain(one.textContent));
-const place = () => port.state().place;
+const small = () => visible('button, select, summary').filter((one) => rect(one).width
+  && Math.min(rect(one).height, rect(one).width) < 43.5).map((one) => one.id || saidBy(one));

@@ -1,22 +1,20 @@
 // A list of all that is wrong with the drawing of the page.
 
 const nameOf = (node) => `${node.closest('[id]').id}: ${node.textContent.trim().slice(0, 40)}`;
-const screen = () => ({ left: 0, top: 0, right: innerWidth, bottom: innerHeight });
-const seen = (selector) => all(selector).filter((one) => (
-  one.checkVisibility() && rect(one).width > 0));
+const drawn = (selector) => visible(selector).filter((one) => rect(one).width > 0);
 const isApart = (one, other) => one.bottom <= other.top + 1 || one.top >= other.bottom - 1;
 
 // The rectangle of a text includes its halo, and takes less time than its box, so it comes first.
 function outOfView(selector, id) {
-  const [part, whole] = [rect(byId(id)), screen()];
+  const [part, whole] = [rect(byId(id)), screenBox()];
   const isInside = (box) => inside(box, part) && inside(box, whole);
-  return seen(selector).filter((one) => !isInside(rect(one)) && !isInside(boxOf(one)))
+  return drawn(selector).filter((one) => !isInside(rect(one)) && !isInside(boxOf(one)))
     .map((one) => `out of view: ${selector} ${nameOf(one)}`);
 }
 
 // A line may be in view or out of view, but not cut.
 function cutLines() {
-  const lines = seen('.code-line, #now p, #now .head, #now dt, #now dd, #now summary');
+  const lines = drawn('.code-line, #now p, #now .head, #now dt, #now dd, #now summary');
   const isCut = (one) => {
     const box = rect(one.closest('#code-lines, #now'));
     return !inside(rect(one), box) && !isApart(rect(one), box);
@@ -30,7 +28,7 @@ const isWider = (node) => node.scrollWidth > node.clientWidth + 1;
 function namesOutOfLanes() {
   const lineOf = (one) => one.parentNode.querySelector('.lane-line');
   const isOut = (one) => rect(one).right > rect(lineOf(one)).left + 1;
-  return seen('#lanes .lane-name').filter(isOut).map((one) => `beside its lane: ${nameOf(one)}`);
+  return drawn('#lanes .lane-name').filter(isOut).map((one) => `beside its lane: ${nameOf(one)}`);
 }
 
 function wrongInParts({ place, refused }, isHidden) {
@@ -40,15 +38,15 @@ function wrongInParts({ place, refused }, isHidden) {
     ...outOfView('#now .say', 'now'), ...outOfView('#memory-picture text', 'memory-picture'),
     ...outOfView('#numbers text', 'time'), ...outOfView('#lanes text', 'lanes'),
     ...outOfView('#memory-caption', 'memory'), ...cutLines(), ...namesOutOfLanes(),
-    ...seen('#memory-picture text').filter((one) => one.textContent.endsWith('…')).map(nameOf),
+    ...drawn('#memory-picture text').filter((one) => one.textContent.endsWith('…')).map(nameOf),
     ...['code-lines', 'now', 'memory-picture'].filter((id) => isWider(byId(id)))
       .map((id) => `wider than its part: ${id}`),
   ];
   const isMade = place > 0 && !refused;
   if (isMade && !count('.code-line.here')) wrong.push('no line');
   const hasRecord = isMade && count('.record') > 0;
-  if (hasRecord && !seen('#memory-picture [data-moving]').length) wrong.push('no record');
-  const isSaid = seen('#now .say').length > 0;
+  if (hasRecord && !drawn('#memory-picture [data-moving]').length) wrong.push('no record');
+  const isSaid = drawn('#now .say').length > 0;
   if (isSaid === isHidden) wrong.push(isSaid ? 'the sentence is not hidden' : 'no sentence');
   const now = byId('now');
   if (now.scrollHeight > now.clientHeight + 1) wrong.push('now is scrolled');
@@ -58,8 +56,8 @@ function wrongInParts({ place, refused }, isHidden) {
 function wrongNow(isHidden) {
   const shown = port.state();
   const wrong = shown.threads ? wrongInParts(shown, isHidden) : [];
-  const controls = seen('h1, #subtitle, button, #position');
-  const isOff = (one) => !inside(rect(one), screen()) && !one.closest('aside');
+  const controls = drawn('h1, #subtitle, button, #position');
+  const isOff = (one) => !inside(rect(one), screenBox()) && !one.closest('aside');
   wrong.push(...controls.filter(isWider).map((one) => `cut: ${nameOf(one)}`));
   wrong.push(...controls.filter(isOff).map((one) => `off: ${nameOf(one)}`));
   if (document.documentElement.scrollWidth > innerWidth) wrong.push('wider than the screen');
@@ -70,7 +68,7 @@ function wrongNow(isHidden) {
 function wrongWithAnswer() {
   key('a');
   const wrong = outOfView('#now .say', 'now');
-  return seen('#now .say').length ? wrong : ['no sentence with the answer'];
+  return drawn('#now .say').length ? wrong : ['no sentence with the answer'];
 }
 
 // The browser loaded the page with the first of these links, and follows the others.

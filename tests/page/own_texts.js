@@ -6,7 +6,7 @@ const verdictEnds = (part) => text('#verdict').endsWith(part);
 // Of the line that is marked its number, how far that is from its line of the text, and whether it
 // is in view; and the numbers of all lines in view.
 function marked() {
-  const [area, row] = [byId('text'), document.querySelector('#gutter .here')];
+  const [area, row] = [byId('text'), pick('#gutter .here')];
   const { borderTopWidth, paddingTop, lineHeight } = getComputedStyle(area);
   const [edge, room, line] = [borderTopWidth, paddingTop, lineHeight].map(parseFloat);
   const numberOf = (one) => Number(/\d+/.exec(one.textContent)[0]);
@@ -28,21 +28,15 @@ function writeAt(top) {
   byId('text').scrollTop = top;
 }
 
-function fileOf(letters) {
-  const data = new DataTransfer();
-  data.items.add(new File([letters], 'mine.txt'));
-  return data;
-}
-
+const fileOf = (letters) => carriedFiles([['mine.txt', letters]]);
 const dropFile = (letters, selector = 'body') => bring(
-  'drop', 'dataTransfer', fileOf(letters), document.querySelector(selector));
+  'drop', 'dataTransfer', fileOf(letters), pick(selector));
 
 // Brings a text into an element. True if the browser would go on itself.
 const bringInto = (kind, selector, letters) => bring(
   kind, kind === 'paste' ? 'clipboardData' : 'dataTransfer', carried(letters),
-  document.querySelector(selector));
-const dragFileOver = (selector) => bring(
-  'dragover', 'dataTransfer', fileOf(''), document.querySelector(selector));
+  pick(selector));
+const dragFileOver = (selector) => bring('dragover', 'dataTransfer', fileOf(''), pick(selector));
 
 // From now on no file can be read, as after another program has removed it.
 function readNothing() {
@@ -50,16 +44,11 @@ function readNothing() {
 }
 
 // Drops a file of so many bytes, which begins with these letters and goes on with a comment.
-function dropLarge(letters, size) {
-  const data = new DataTransfer();
-  data.items.add(new File([letters, '#'.repeat(size - letters.length)], 'large.txt'));
-  bring('drop', 'dataTransfer', data);
-}
+const dropLarge = (letters, size) => dropFile(letters + '#'.repeat(size - letters.length));
 
 // Types a text, and opens a lesson before the page has played the text.
 function typeAndOpen(letters, name) {
-  byId('text').value = letters;
-  byId('text').dispatchEvent(new Event('input', { bubbles: true }));
+  input('text', letters);
   lesson(name);
 }
 

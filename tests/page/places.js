@@ -6,8 +6,3 @@ const places = (selectors) => Object.fromEntries(selectors.map((one) => [one, al
     const { left, right, top, bottom } = rect(node);
     return { left, right, top, bottom, middle: (top + bottom) / 2 };
   })]));
-
-function scrollDown(selector) {
-  const box = document.querySelector(selector);
-  box.scrollTop = box.scrollHeight;
-}

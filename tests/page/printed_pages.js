@@ -1,7 +1,5 @@
 // The printed pages.
 
-const drawPaper = () => dispatchEvent(new Event('beforeprint'));
-
 // Replaces printing: from now on the page only draws a sheet, and notes which one.
 function stubPrint() {
   window.print = () => {
@@ -22,7 +20,7 @@ function print(sheet) {
 const rows = () => all('#paper tbody tr').map((row) => (
   [...row.cells].map((cell) => cell.textContent)));
 const movesOfStrips = () => all('#paper .strip').map((one) => all('.move', one).length);
-const words = (selector) => document.querySelector(selector).textContent;
+const words = (selector) => pick(selector).textContent;
 
 // Applies the style for a printer: rules for the screen are off, and rules for paper are on.
 function stylePaper() {
@@ -48,8 +46,8 @@ function screenAndPaper(ids) {
   return [onScreen, shown()];
 }
 
-const pointAt = (selector) => document.querySelector(selector)
-  .dispatchEvent(new Event('pointerover', { bubbles: true }));
+const pointAt = (selector) => (
+  pick(selector).dispatchEvent(new Event('pointerover', { bubbles: true })));
 
 // What an exercise sheet draws about the outcomes of moves, and its lines to write on.
 const drawn = () => [count('#paper .strip .span, #paper .strip .found, #paper .strip .arrow'),
@@ -88,11 +86,8 @@ function bodyOnPaper() {
 function onSheet(selectors) {
   stylePaper();
   document.documentElement.style.scrollbarWidth = 'none';
-  return Object.fromEntries(selectors.map((one) => [one, all(one)
-    .filter((node) => node.checkVisibility()).map((node) => {
-      const { left, right, top, height } = rect(node);
-      return [left, right, top, height].map(Math.round);
-    })]));
+  const boxOn = ({ left, right, top, height }) => [left, right, top, height].map(Math.round);
+  return Object.fromEntries(selectors.map((one) => [one, visible(one).map(rect).map(boxOn)]));
 }
 
 // Which of these parts are not cut where a sheet ends, and which begin a sheet.
@@ -107,8 +102,9 @@ function wordsOnWords() {
   const words = all('#paper .strip .move text').filter((one) => one.textContent);
   const boxes = words.map((one) => ({ ...boxOf(one), word: one.lastChild.textContent }))
     .sort((one, other) => one.top - other.top || one.left - other.left);
-  return [boxes.filter(({ left, top }, at) => at > 0 && top === boxes[at - 1].top
-    && left < boxes[at - 1].right), boxes.filter(({ word }) => word.endsWith('…'))]
+  const touches = ({ left, top }, at) => at > 0 && top === boxes[at - 1].top
+    && left < boxes[at - 1].right;
+  return [boxes.filter(touches), boxes.filter(({ word }) => word.endsWith('…'))]
     .map((those) => those.map(({ word }) => word));
 }
 

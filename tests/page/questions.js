@@ -1,8 +1,5 @@
 // The parts beside a question.
 
-const seen = (selector) => all(selector).filter((one) => one.checkVisibility())
-  .map((one) => plain(one.textContent)).join(' ');
-
 // The machine's words are unfolded, as a reader may do.
 function beside() {
   all('#now details.aside').forEach((one) => { one.open = true; });
@@ -18,18 +15,17 @@ function beside() {
 // Signs that a reader is inside: discs, and how far the bars of lanes go beyond the move.
 function readers() {
   const ends = all('#lanes .span.reads').map((one) => rect(one).right);
-  const here = document.querySelector('#lanes .here-column');
+  const here = pick('#lanes .here-column');
   return [count('#memory-picture .token.reads, #code .disc.reads'),
     Math.max(...ends) - rect(here).right];
 }
 
 // The notice, and how many questions are marked as waiting.
-const waiting = () => [text('#notice'),
-  all('.question.waits').filter((one) => one.checkVisibility()).length];
+const waiting = () => [text('#notice'), visible('.question.waits').length];
 
 // The moves with a mark above their numbers, and the moves with a mark on the slider.
 function marked() {
-  const track = rect(document.querySelector('#slider-picture .track'));
+  const track = rect('#slider-picture .track');
   const { last } = port.state();
   return {
     numbers: all('#numbers .ask-mark').map((one) => Number(one.previousElementSibling.textContent)),
@@ -38,5 +34,4 @@ function marked() {
   };
 }
 
-const keysOf = (part) => all(`${part} kbd`).filter((one) => one.checkVisibility()).map((one) => (
-  one.textContent));
+const keysOf = (part) => visible(`${part} kbd`).map(({ textContent }) => textContent);

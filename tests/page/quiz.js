@@ -7,7 +7,7 @@ function question() {
   return {
     kind: form?.dataset.kind, move: Number(form?.dataset.move ?? 0), filled: fields.some(isFilled),
     choices: fields.filter(({ type }) => type === 'radio').map((one) => one.value),
-    future: count('#lanes .future'), place: port.state().place, position: text('#position'),
+    future: count('#lanes .future'), place: place(), position: text('#position'),
     said: text('#quiz-form .say'), marks: texts('#lanes .asked'),
     asks: text('#quiz-form legend, #quiz-form .field span'),
   };
@@ -18,17 +18,9 @@ function asked() {
   return question();
 }
 
-function answer(given) {
-  const form = byId('quiz-form');
-  const radio = form.querySelector(`input[value="${given}"]`);
-  if (radio) radio.checked = true;
-  else form.querySelector('input[name=answer]').value = given;
-  form.requestSubmit();
-}
-
 // The current holders or queue, as a report writes them.
 function now(kind) {
-  const part = document.querySelector(`#now [data-${kind}]`);
+  const part = pick(`#now [data-${kind}]`);
   const threads = part ? all('[data-thread]', part).map((one) => one.dataset.thread) : [];
   const letter = { reads: 'r', writes: 'w' }[/reads|writes/.exec(part?.textContent)?.[0]] ?? '';
   return threads.length ? `${kind === 'holders' ? letter : ''}${threads.join(',')}` : '-';
@@ -44,10 +36,5 @@ function answerBlindly(name, outcome, threads) {
 }
 
 // The file in which the page would save the answers.
-async function saved() {
-  let blob;
-  URL.createObjectURL = (one) => { blob = one; return 'data:,'; };
-  HTMLAnchorElement.prototype.click = () => {};
-  click('[data-save-quiz]');
-  return blob.text();
-}
+const saved = async () => new TextDecoder().decode(
+  (await caught(() => click('[data-save-quiz]'))).bytes);

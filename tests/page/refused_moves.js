@@ -2,22 +2,18 @@
 
 // The text on paper, and whether its picture has the refused move.
 function onPaper() {
-  dispatchEvent(new Event('beforeprint'));
+  drawPaper();
   return [text('#paper'), count('#paper .strip [data-refused]') > 0];
 }
 
 // How far the column of the shown place is from the cross of the refused move.
-function farFromColumn() {
-  const [cross, column] = ['#lanes [data-refused] .target', '#numbers .here-column']
-    .map((one) => rect(document.querySelector(one)));
-  return Math.round((cross.left + cross.right - column.left - column.right) / 2);
-}
+const farFromColumn = () => Math.round(middleX(pick('#lanes [data-refused] .target'))
+  - middleX(pick('#numbers .here-column')));
 
 // How far the last sign of a failure on the slider is from its knob.
 function lastFailure() {
   const ticks = all('#slider-picture .tick.fails');
-  return ticks.length && Math.round(middleX(ticks.at(-1))
-    - middleX(document.querySelector('#slider-picture .knob')));
+  return ticks.length && Math.round(middleX(ticks.at(-1)) - middleX(pick('#slider-picture .knob')));
 }
 
 const focusedChoice = () => ({ ...document.activeElement.dataset });

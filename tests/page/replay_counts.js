@@ -24,14 +24,12 @@ function seePlace(place, last) {
 
 // Opens a lesson, and sees each of its places in every way: the replays of both.
 function playsOfLesson(name) {
-  URL.createObjectURL = () => 'data:,';
-  HTMLAnchorElement.prototype.click = () => {};
   const opened = playsOf([['lesson', name]]);
   const [before, { last }] = [playsNow(), port.state()];
   for (let place = 0; place <= last; place += 1) seePlace(place, last);
   for (const mode of ['play', 'own', 'lessons']) inMode(mode);
   for (const one of ['h', 'h', 'f', 'f', 'q', 'q', 'End']) key(one);
-  click('[data-take=svg]');
-  dispatchEvent(new Event('beforeprint'));
+  caught(() => click('[data-take=svg]'));
+  drawPaper();
   return [opened, playsNow() - before];
 }

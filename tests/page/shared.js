@@ -4,9 +4,14 @@
 const port = window.lockreplay?.test;
 const byId = (id) => document.getElementById(id);
 const all = (selector, from = document) => [...from.querySelectorAll(selector)];
-const rect = (node) => node.getBoundingClientRect();
+const pick = (selector) => document.querySelector(selector);
+const visible = (selector, from) => all(selector, from).filter((one) => one.checkVisibility());
+// The box of a node, or of the first node of a selector.
+const rect = (one) => (typeof one === 'string' ? pick(one) : one).getBoundingClientRect();
+const screenBox = () => ({ left: 0, top: 0, right: innerWidth, bottom: innerHeight });
 const plain = (text) => text.replace(/\s+/g, ' ').trim();
-const styleOf = (selector) => getComputedStyle(document.querySelector(selector));
+const saidBy = ({ textContent }) => plain(textContent);
+const styleOf = (selector) => getComputedStyle(pick(selector));
 
 // Whether one box is inside another, up to rounding.
 const inside = (one, other) => one.left >= other.left - 1.5 && one.right <= other.right + 1.5
@@ -87,18 +92,23 @@ const reports = (texts) => texts.map((text) => port.report(bytesOf(text)));
 
 // What a reader sees
 
-const text = (selector) => plain(document.querySelector(selector)?.textContent ?? '');
-const texts = (selector) => all(selector).map((one) => plain(one.textContent));
-const value = (selector) => document.querySelector(selector).value;
-const attribute = (selector, name) => document.querySelector(selector)?.getAttribute(name) ?? null;
+const text = (selector) => plain(pick(selector)?.textContent ?? '');
+const texts = (selector) => all(selector).map(saidBy);
+const seen = (selector) => visible(selector).map(saidBy).join(' ');
+const value = (selector) => pick(selector).value;
+const attribute = (selector, name) => pick(selector)?.getAttribute(name) ?? null;
 const count = (selector) => all(selector).length;
 const address = () => location.hash;
 const addressBegins = (part) => location.hash.startsWith(part);
 const addressEnds = (part) => location.hash.endsWith(part);
 const focused = () => document.activeElement.id || document.activeElement.tagName.toLowerCase();
+const isOpen = (id) => byId(id).open;
 const isRunning = () => attribute('#run', 'aria-label') === 'Pause';
 const isMenu = () => document.body.classList.contains('menu');
 const theme = () => document.documentElement.dataset.theme ?? '';
+const place = () => port.state().place;
+// The signs of the button that plays.
+const signsOfRun = () => visible('#run path').map((one) => one.classList[0]);
 
 function shown() {
   const { lesson, text: bytes, held, threads, moves, place, refused } = port.state();
@@ -118,7 +128,7 @@ function shownWith(wanted) {
 
 // Scrolls a control into view, and returns its middle. Nothing may lie over it.
 function middle(selector) {
-  const node = document.querySelector(selector);
+  const node = pick(selector);
   node.scrollIntoView({ block: 'nearest' });
   const { left, top, width, height } = rect(node);
   const [x, y] = [Math.round(left + width / 2), Math.round(top + height / 2)];
@@ -129,17 +139,35 @@ function middle(selector) {
 
 // What a reader does, at once
 
-const click = (selector) => document.querySelector(selector).click();
+const click = (selector) => pick(selector).click();
 const choice = (thread, word) => `#choices [data-thread="${thread}"][data-word="${word}"]`;
 const choose = (thread, word) => click(choice(thread, word));
 const back = () => history.back();
 const forward = () => history.forward();
-const focus = (selector) => document.querySelector(selector).focus();
+const focus = (selector) => pick(selector).focus();
 const blur = () => document.activeElement.blur();
 const closeDialog = (id) => byId(id).close();
+const drawPaper = () => dispatchEvent(new Event('beforeprint'));
 
 function key(name) {
   document.body.dispatchEvent(new KeyboardEvent('keydown', { key: name, bubbles: true }));
+}
+
+// What a function takes at each of these moves.
+const atEach = (moves, take) => moves.map((move) => {
+  go(move);
+  return take(move);
+});
+const movesTo = (last) => Array.from({ length: last + 1 }, (_, move) => move);
+
+// Answers the question of the quiz by an outcome, or by any if none is given, or by threads.
+function answer(given) {
+  const form = byId('quiz-form');
+  const radio = form.querySelector(`input[value="${given}"]`)
+    ?? form.querySelector('input[type=radio]');
+  if (radio) radio.checked = true;
+  else form.querySelector('input[name=answer]').value = given;
+  form.requestSubmit();
 }
 
 // Opens a panel beside the schedule: own or play, or none with 'lessons'.
@@ -159,10 +187,12 @@ function swipe(by, fingers = 1, id = 'lanes', down = 0) {
   node.dispatchEvent(new TouchEvent('touchend', end));
 }
 
-function slide(move) {
-  byId('slider').value = move;
-  byId('slider').dispatchEvent(new Event('input', { bubbles: true }));
+function scrollDown(selector) {
+  const box = pick(selector);
+  box.scrollTop = box.scrollHeight;
 }
+
+const slide = (move) => input('slider', move);
 
 // Follows a link in the open page.
 function follow(fragment) {
@@ -173,16 +203,23 @@ function follow(fragment) {
 // Makes the page write its address at once.
 const leave = () => dispatchEvent(new Event('pagehide'));
 
-// Types a text into the field, and returns the function that plays it after a pause.
-function typed(letters) {
-  const later = window.setTimeout;
-  let settle;
-  window.setTimeout = (act) => { settle = act; };
-  byId('text').value = letters;
-  byId('text').dispatchEvent(new Event('input', { bubbles: true }));
-  window.setTimeout = later;
-  return settle;
+// What the page would do a while after an act.
+function delayedBy(act) {
+  const { setTimeout } = window;
+  let later;
+  window.setTimeout = (given) => { later = given; };
+  act();
+  window.setTimeout = setTimeout;
+  return later;
 }
+
+function input(id, letters) {
+  byId(id).value = letters;
+  byId(id).dispatchEvent(new Event('input', { bubbles: true }));
+}
+
+// Types a text into the field, and returns the function that plays it after a pause.
+const typed = (letters) => delayedBy(() => input('text', letters));
 
 const write = (letters) => typed(letters)();
 
@@ -203,11 +240,24 @@ const paste = (letters) => bring('paste', 'clipboardData', carried(letters));
 const pasteIntoText = (letters) => bring('paste', 'clipboardData', carried(letters), byId('text'));
 const drop = (letters) => bring('drop', 'dataTransfer', carried(letters));
 
-function dropFiles(files) {
+function carriedFiles(files) {
   const data = new DataTransfer();
   for (const [name, letters] of files) data.items.add(new File([letters], name));
-  bring('drop', 'dataTransfer', data);
+  return data;
 }
+
+const dropFiles = (files) => bring('drop', 'dataTransfer', carriedFiles(files));
+
+// The file that an act saves: its name, its type and its bytes.
+const caught = (act) => new Promise((done) => {
+  let blob;
+  URL.createObjectURL = (one) => { blob = one; return 'data:,'; };
+  HTMLAnchorElement.prototype.click = async function save() {
+    const bytes = new Uint8Array(await blob.arrayBuffer());
+    done({ name: this.download, type: blob.type, bytes });
+  };
+  act();
+});
 
 // Clicks a control that copies, and returns what it copied. The clipboard may refuse it.
 function copiedBy(selector, isAllowed = true) {
@@ -230,6 +280,12 @@ function boxOf(node) {
     .map(([across, down]) => new DOMPoint(across, down).matrixTransform(node.getScreenCTM()));
   return { left, top, right, bottom };
 }
+
+// Where a path begins and ends on the screen.
+const pointOf = (path, length) => path.getPointAtLength(length)
+  .matrixTransform(path.getScreenCTM());
+const beginOf = (path) => pointOf(path, 0);
+const endOf = (path) => pointOf(path, path.getTotalLength());
 
 const middleX = (node) => (rect(node).left + rect(node).right) / 2;
 const middleY = (node) => (rect(node).top + rect(node).bottom) / 2;

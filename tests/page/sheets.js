@@ -13,7 +13,7 @@ function asExercise() {
 }
 
 function sheet() {
-  window.print = () => dispatchEvent(new Event('beforeprint'));
+  window.print = drawPaper;
   click('#print');
   click('[data-sheet=exercise]');
   return {
@@ -30,7 +30,7 @@ function sheet() {
 // Of the first memory on the sheet: the names of words, whether each is at its box, the names of
 // threads, and the fields of each record, whose boxes are in its frame.
 function blankMemory() {
-  const svg = document.querySelector('#paper .figure svg');
+  const svg = pick('#paper .figure svg');
   document.body.append(svg);
   const box = (one) => one.getBBox();
   const words = all('.word-name', svg);

@@ -1,14 +1,11 @@
 // The start: its cards, and where it leads.
 
-const seen = (selector) => all(selector).filter((one) => one.checkVisibility())
-  .map((one) => plain(one.textContent)).join(' ');
-const isOpen = () => byId('lessons').open;
 const lessonNow = () => port.state().lesson;
 
 const cards = () => all('#lessons .lock-card').map((card) => ({
   lock: card.dataset.lock, live: all('.live svg text', card).length,
-  says: plain(card.querySelector('p').textContent),
-  lessons: all('[data-lesson]', card).map((one) => [one.dataset.lesson, plain(one.textContent)]),
+  says: saidBy(card.querySelector('p')),
+  lessons: all('[data-lesson]', card).map((one) => [one.dataset.lesson, saidBy(one)]),
 }));
 
 // The lessons with a frame, but for one below the pointer.
@@ -26,30 +23,28 @@ const cutPictures = () => all('#lessons .live').filter((one) => (
 const unitsOfPictures = () => all('#lessons .live svg').map((one) => one.viewBox.baseVal.width);
 const partsOfStart = () => [...byId('lesson-list').children].map((one) => one.classList[0]);
 const topsOf = (selector) => all(`#lessons ${selector}`).map((one) => rect(one).top);
-const refusals = () => [count('.refusals [data-lesson]'), document.querySelector('.refusals').open];
+const refusals = () => [count('.refusals [data-lesson]'), pick('.refusals').open];
 const ways = () => all('[data-way]').map((one) => one.dataset.way);
 const chosen = () => document.activeElement.dataset.lesson ?? null;
 const ticked = () => all('#lessons [data-lesson]').filter((one) => one.textContent.includes('✓'))
   .map((one) => one.dataset.lesson);
 const inHall = () => document.body.classList.contains('hall');
-const topOf = (selector) => rect(document.querySelector(selector)).top;
+const topOf = (selector) => rect(selector).top;
 
 // The explanation of a term in a part, and whether all of it is on the screen with nothing over it.
 // It begins where the term does, unless it would go beyond the edge.
 function explained(part, term) {
-  const node = all(`${part} .term`)
-    .find((one) => one.dataset.term === term && one.checkVisibility());
+  const node = visible(`${part} .term`).find((one) => one.dataset.term === term);
   node.focus();
   const box = byId('tip-box');
   const { left, right, top, bottom } = rect(box);
   const isBeside = Math.abs(left - rect(node).left) < 2 || right > innerWidth - 10;
-  const screen = { left: 0, top: 0, right: innerWidth, bottom: innerHeight };
   // elementFromPoint skips a box without pointer events.
   box.style.pointerEvents = 'auto';
   const above = document.elementFromPoint((left + right) / 2, (top + bottom) / 2);
   box.style.pointerEvents = '';
-  return [!box.hidden && box.textContent,
-    isBeside && inside(rect(box), screen) && above === box];
+  const isSeen = isBeside && inside(rect(box), screenBox()) && above === box;
+  return [!box.hidden && box.textContent, isSeen];
 }
 
 // The term that the explanation describes, with its role; null without one.
@@ -61,15 +56,15 @@ function describedTerm() {
 
 // In a window that ends just below a term: whether its explanation is above it.
 function isExplainedAbove(term) {
-  const node = all('main .term').find((one) => one.dataset.term === term && one.checkVisibility());
+  const node = visible('main .term').find((one) => one.dataset.term === term);
   const { top, bottom } = rect(node);
   window.innerHeight = bottom + 5;
   node.focus();
   return !byId('tip-box').hidden && rect(byId('tip-box')).bottom <= top;
 }
 
-const atCard = (lock, event) => document.querySelector(`#lessons [data-lock=${lock}]`)
-  .dispatchEvent(new Event(event));
+const atCard = (lock, event) => (
+  pick(`#lessons [data-lock=${lock}]`).dispatchEvent(new Event(event)));
 
 // Before the page's script: makes its clocks run ten times as fast.
 function hasten() {

@@ -31,7 +31,8 @@ KEYS = {
 
 
 class Tab:
-    """`js` calls a function of shared.js, or of the .js file with the name of the test."""
+    """`js` calls a function of shared.js, or of the .js file with the name of the test. Methods
+    that return the tab make chains, as `page.open(LESSON).press("a")`."""
 
     def __init__(self, browser, name):
         self.browser, self.context = browser, browser.tab
@@ -71,16 +72,23 @@ class Tab:
         keep = f"if (isThere()) window.{self.kept} = {{ {names} }};"
         return self.run(self.scripts + keep, call, values)
 
+    def call(self, name, *values):
+        """Calls a function in the page for what it does."""
+        self.js(name, *values)
+        return self
+
     def before(self, name, *values):
         """Makes each page call a function before its own script, until `no_longer`."""
         added = self.browser.ask("script.addPreloadScript", contexts=[self.context],
                                  functionDeclaration=f"() => {{ {self.scripts}\n"
                                  f"{name}(...{json.dumps(values)}); }}")
         self.added[name] = added["script"]
+        return self
 
     def no_longer(self, *names):
         for name in set(names) & set(self.added):
             self.browser.ask("script.removePreloadScript", script=self.added.pop(name))
+        return self
 
     @staticmethod
     def wait(holds, what):
@@ -99,6 +107,7 @@ class Tab:
         """Waits until a function in the page returns the wanted value."""
         self.wait(lambda: self.js(name, *values) == wanted, lambda: (
             f"{name}{values} is not {wanted!r}, but {self.js(name, *values)!r}"))
+        return self
 
     def open(self, fragment="", path=PAGE):
         """Loads the page, or a changed one. A new query makes a browser load an open page again,
@@ -107,6 +116,7 @@ class Tab:
         self.browser.pages += 1
         self.load(f"{path.as_uri()}?{self.browser.pages}{fragment}")
         self.no_longer("forget")
+        return self
 
     def load(self, url):
         """Goes to a page and waits for it. The browser can lose its event if another process takes
@@ -129,11 +139,13 @@ class Tab:
     def reload(self):
         self.ask("browsingContext.reload", wait="complete")
         self.until("isThere")
+        return self
 
     def resize(self, width, height):
         if self.browser.size != (width, height):
             self.ask("browsingContext.setViewport", viewport={"width": width, "height": height})
             self.browser.size = width, height
+        return self
 
     # What a reader does
 
@@ -144,22 +156,27 @@ class Tab:
             held = [KEYS.get(one, one) for one in (key.split("+") if len(key) > 1 else [key])]
             actions += [{"type": "keyDown", "value": one} for one in held]
             actions += [{"type": "keyUp", "value": one} for one in reversed(held)]
-        self.perform({"type": "key", "id": "keyboard", "actions": actions})
+        return self.perform({"type": "key", "id": "keyboard", "actions": actions})
 
     def click(self, selector):
         """Scrolls a control into view, and clicks its middle."""
-        x, y = self.js("middle", selector)
-        self.perform({"type": "pointer", "id": "mouse", "actions": [
+        return self.point(*self.js("middle", selector), "pointerDown", "pointerUp")
+
+    def point(self, x, y, *buttons):
+        """Moves the mouse to a point, and presses or releases its button there."""
+        return self.perform({"type": "pointer", "id": "mouse", "actions": [
             {"type": "pointerMove", "x": x, "y": y},
-            {"type": "pointerDown", "button": 0}, {"type": "pointerUp", "button": 0}]})
+            *({"type": name, "button": 0} for name in buttons)]})
 
     def perform(self, source):
         self.ask("input.performActions", actions=[source])
+        return self
 
     def choose_file(self, selector, path):
         found = self.ask("browsingContext.locateNodes", locator={"type": "css", "value": selector})
         self.ask("input.setFiles", element={"sharedId": found["nodes"][0]["sharedId"]},
                  files=[str(path)])
+        return self
 
     def text(self, selector):
         return self.js("text", selector)
@@ -169,16 +186,16 @@ class Tab:
     def show(self, text, move=0):
         """Opens a schedule as the reader's own."""
         letters = (text.encode() if isinstance(text, str) else text).decode("latin-1")
-        self.js("show", letters, move)
+        return self.call("show", letters, move)
 
     def lesson(self, name, move=0):
-        self.js("lesson", name, move)
+        return self.call("lesson", name, move)
 
     def go(self, move):
-        self.js("go", move)
+        return self.call("go", move)
 
     def undo(self):
-        self.js("undo")
+        return self.call("undo")
 
     def shown(self, **wanted):
         """Waits until these parts of the view are as wanted, and returns the view."""

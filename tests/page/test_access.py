@@ -12,37 +12,26 @@ FORCED = {"forced-colors": "active", "prefers-reduced-motion": "reduce"}
 @cases("media", {"usual": {}, "forced": FORCED})
 def test_tab_reaches_everything(page):
     """Tab reaches every control in order, and each shows that it has the focus."""
-    page.open(LATE_LINK)
-    stops = page.js("stops")
+    stops = page.open(LATE_LINK).js("stops")
     for part in ["show-about", "mode-lessons", "menu", "lanes", "code-lines", "slider", "run"]:
         assert part in stops
-    reached = []
-    for _ in stops:
-        page.press("Tab")
-        reached.append(page.js("ring"))
-    assert reached == [[stop, True] for stop in stops]
+    assert [page.press("Tab").js("ring") for _ in stops] == [[stop, True] for stop in stops]
 
 
 def test_lanes_are_chosen(page):
     """The arrow keys choose a lane, whose label has its moves. Enter goes to its next move."""
-    page.open(LATE_LINK)
-    page.js("focus", "#lanes")
-    page.press("ArrowDown")
+    page.open(LATE_LINK).call("focus", "#lanes").press("ArrowDown")
     label, chosen, place, focused = page.js("lane")
     assert label.startswith("Ann, holds. 1 acquire called, 2 write moved, 3 swap entered"), label
     assert label.endswith("9 cas moved") and (chosen, place, focused) == ("true", 9, "lanes"), place
-    page.press("ArrowDown")
-    assert page.js("lane")[0].startswith("Bob, queue. 4 acquire called")
-    page.press("Enter")
-    label, _, place, focused = page.js("lane")
+    assert page.press("ArrowDown").js("lane")[0].startswith("Bob, queue. 4 acquire called")
+    label, _, place, focused = page.press("Enter").js("lane")
     assert (place, focused) == (12, "lanes") and label.endswith("12 write moved"), label
-    page.press("ArrowUp")
-    assert page.js("lane")[0].startswith("Ann, holds")
+    assert page.press("ArrowUp").js("lane")[0].startswith("Ann, holds")
 
 
 def test_what_is_read_aloud(page):
-    page.open("#lesson=mcs-late-link&move=10")
-    spoken = page.text("#spoken")
+    spoken = page.open("#lesson=mcs-late-link&move=10").text("#spoken")
     assert spoken.startswith("Move 10 of 16. Ann, read, waits. Ann polls its own next")
     assert page.js("attribute", "#spoken", "aria-live") == "polite"
     assert page.js("texts", "[aria-current=step]") == ["await succ := me.next A"]
@@ -53,8 +42,7 @@ def test_what_is_read_aloud(page):
     for word in ["tail = Bob", "Ann.next = nil", "Bob.next = nil", "Bob.locked = 0"]:
         assert word in label
     assert page.js("attribute", "#slider", "aria-valuetext") == "Move 10 of 16."
-    page.press("h")
-    assert page.text("#spoken") == spoken
+    assert page.press("h").text("#spoken") == spoken
 
 
 def test_the_names_of_the_foot(page):
@@ -62,8 +50,7 @@ def test_the_names_of_the_foot(page):
     page.open("#lesson=mcs-late-link&move=3")
     for name, place in [("One move forward", 4), ("One move back", 3), ("Last move", 16),
                         ("First move", 0)]:
-        page.click(f"footer [aria-label='{name}']")
-        assert page.shown()["place"] == place, name
+        assert page.click(f"footer [aria-label='{name}']").shown()["place"] == place, name
 
 
 def test_the_button_that_plays(page):
@@ -72,25 +59,22 @@ def test_the_button_that_plays(page):
     for name, sign in [("Play the moves one after another", "go"), ("Pause", "stop")] * 2:
         assert [page.js("attribute", "#run", one) for one in [
             "aria-label", "title", "aria-pressed"]] == [name, name, None]
-        assert page.js("signOfRun") == [sign]
+        assert page.js("signsOfRun") == [sign]
         page.press("Space")
     assert not page.js("isRunning")
     for runs in (True, False):
-        page.click("#run")
-        assert page.js("isRunning") == runs
+        assert page.click("#run").js("isRunning") == runs
 
 
 def test_everything_has_a_name(page):
     """Each control, part and picture has a name, and a screen reader hears each move."""
-    page.open(LATE_LINK)
-    assert page.js("nameless") == []
+    assert page.open(LATE_LINK).js("nameless") == []
     assert page.js("liveRegions") == {
         "banner": "status", "damaged": "alert", "verdict": "status", "notice": "status",
         "find-answer": "status", "take-cut": "status", "why-changes": "polite", "spoken": "polite"}
     # A screen reader hears a fact for which a question asks only after the answer is shown.
     assert "compare-and-swap fails" not in page.text("#spoken")
-    page.press("a")
-    spoken = page.text("#spoken")
+    spoken = page.press("a").text("#spoken")
     for part in ["Move 9 of 16", "Ann", "compare-and-swap fails", "Holds: Ann", "Queue: Ann, Bob",
                  "Question:"]:
         assert part in spoken
@@ -98,8 +82,7 @@ def test_everything_has_a_name(page):
 
 def test_what_has_a_name_has_a_role(page):
     """At the start too, where a sign says that a lesson was read to its end."""
-    page.open("#lesson=mcs-late-link&move=16")
-    assert page.js("plainWithName") == []
+    assert page.open("#lesson=mcs-late-link&move=16").js("plainWithName") == []
     page.press("o")
     for name in ("aria-label", "title"):
         assert page.js("attribute", "#lessons .number span", name) == "done"
@@ -109,8 +92,7 @@ def test_what_has_a_name_has_a_role(page):
 @pytest.mark.parametrize("width, height", [(720, 450), (640, 360), (512, 384)])
 def test_at_two_hundred_per_cent(page, width, height):
     """At 200 % a screen has half of its pixels. A reader only scrolls down to reach all parts."""
-    page.resize(width, height)
-    page.open(LATE_LINK)
+    page.resize(width, height).open(LATE_LINK)
     for part in ["title", "time", "memory", "code", "now", "forward", "menu"]:
         shown = page.js("reached", part)
         assert shown["height"] >= 15 and shown["inside"] and not shown["across"], (part, shown)
@@ -119,13 +101,10 @@ def test_at_two_hundred_per_cent(page, width, height):
 @pytest.mark.parametrize("width, height", [(360, 780), (390, 844)])
 def test_on_a_phone(page, width, height):
     """There is a slider, the keys have their keys, and choices are beside what they do."""
-    page.resize(width, height)
-    page.open(LATE_LINK)
-    shown = page.js("onPhone")
+    shown = page.resize(width, height).open(LATE_LINK).js("onPhone")
     assert shown["slider"] >= 90 and shown["keys"] and shown["tools"], shown
     assert shown["signs"] >= 18, shown
-    page.press("g")
-    assert page.js("choicesFit")
+    assert page.press("g").js("choicesFit")
 
 
 @cases("media, theme", {
@@ -134,9 +113,7 @@ def test_on_a_phone(page, width, height):
 def test_contrast_of_letters_and_words(page, theme):
     """Letters and line numbers have a contrast of 4.5 : 1, those on the colours of standings too,
     and borders of words 3 : 1. A dark system has the colours of the dark theme."""
-    page.open(f"{LATE_LINK}{theme}")
-    page.press("a", "e")
-    shown = page.js("colours")
+    shown = page.open(f"{LATE_LINK}{theme}").press("a", "e").js("colours")
     assert contrast(shown["gutter"], shown["back"]) >= 4.5, shown
     for letters in shown["texts"]:
         for ground in [shown["card"], shown["page"]]:
@@ -156,8 +133,7 @@ def test_colours_of_the_system(page, media, theme):
     their colours and their own ground."""
     page.open(f"{LATE_LINK}&theme={theme}")
     assert [page.js("isAsked", *asked) for asked in media.items()] == [True, True]
-    page.press("g")
-    shown = page.js("inForcedColours")
+    shown = page.press("g").js("inForcedColours")
     assert shown["here"] == [True] and not shown["others"], shown
     assert shown["pressed"] != shown["free"], shown
     assert contrast(shown["letters"], shown["ground"]) >= 4.5, shown

@@ -5,30 +5,21 @@ LATE_LINK = "#lesson=mcs-late-link&move=2"
 
 def test_when_it_is_written(page):
     """The address follows a quarter of a second after the last of several steps."""
-    page.before("keepClocks", "Timeout")
-    page.open(LATE_LINK)
-    assert page.js("stepping", 3, 250) == 1
-    page.becomes("#lesson=mcs-late-link&move=5", "address")
-    assert page.js("waiting", 250) == 0
+    assert page.before("keepClocks", "Timeout").open(LATE_LINK).js("stepping", 3, 250) == 1
+    assert page.becomes("#lesson=mcs-late-link&move=5", "address").js("waiting", 250) == 0
 
 
 def test_a_browser_that_takes_no_entries(page):
     """The page goes on, and its address stays as it was."""
-    page.before("withoutEntries")
-    page.open(LATE_LINK)
-    page.press("ArrowRight")
-    page.js("leave")
+    page.before("withoutEntries").open(LATE_LINK).press("ArrowRight").call("leave")
     page.shown(place=3)
-    page.lesson("ticket-hand-over", 4)
-    page.shown(lesson="ticket-hand-over", place=4)
-    page.js("leave")
-    assert page.js("address") == LATE_LINK
+    page.lesson("ticket-hand-over", 4).shown(lesson="ticket-hand-over", place=4)
+    assert page.call("leave").js("address") == LATE_LINK
 
 
 def test_a_link_that_cannot_be_copied(page):
     """The page says where the link is."""
-    page.open(LATE_LINK)
-    page.js("copiedBy", "#link", False)
+    page.open(LATE_LINK).call("copiedBy", "#link", False)
     page.becomes("The link is in the address bar. It names this file on your disk. To share it, "
                  "put the page on a web server.", "text", "#notice")
     assert page.js("address") == LATE_LINK
@@ -37,7 +28,5 @@ def test_a_link_that_cannot_be_copied(page):
 def test_the_last_place_of_what_is_left_twice(page):
     """The start lists a schedule with the move at which it was left last, also if it was left
     before that and the browser had no time to keep it."""
-    page.open(LATE_LINK)
-    page.js("leaveTwice", MINE, "ticket-hand-over")
-    page.press("Escape", "o")
+    page.open(LATE_LINK).call("leaveTwice", MINE, "ticket-hand-over").press("Escape", "o")
     assert page.js("texts", "#lessons [data-kept]") == ["Mine at move 2"]

@@ -23,10 +23,8 @@ def shows(page, text, place=None):
 
 
 def mine_at(page, place):
-    page.open(LESSON)
-    page.show(MINE)
-    page.go(place)
-    page.until("addressEnds", f"&move={place}")
+    page.open(LESSON).show(MINE).go(place).until("addressEnds", f"&move={place}")
+    return page
 
 
 @cases("away", AWAY)
@@ -40,70 +38,54 @@ def test_undo(page, away):
 
 @cases("away", AWAY)
 def test_back(page, away):
-    mine_at(page, 1)
-    mine = page.js("address")
+    mine = mine_at(page, 1).js("address")
     away(page)
-    page.becomes(False, "addressBegins", mine[:30])
-    page.js("back")
+    page.becomes(False, "addressBegins", mine[:30]).call("back")
     shows(page, MINE, 1)
 
 
 def test_back_after_a_step(page):
     """Back leads to the last place, even if it was left before the address could follow."""
-    mine_at(page, 1)
-    page.js("goAndLeave", 2, "ticket-hand-over")
-    page.js("back")
+    mine_at(page, 1).call("goAndLeave", 2, "ticket-hand-over").call("back")
     shows(page, MINE, 2)
 
 
 def test_a_paste_that_is_no_schedule(page):
-    page.open(LESSON)
-    page.js("paste", "hello")
-    shown = page.shown()
+    shown = page.open(LESSON).call("paste", "hello").shown()
     assert (shown["place"], shown["lesson"]) == (3, "mcs-late-link")
-    assert "no schedule" in page.js("notice")
+    assert "no schedule" in page.text("#notice")
 
 
 def test_a_paste_without_a_text(page):
     """A pasted picture does not empty the reader's own schedule."""
-    page.open(LESSON)
-    page.show(MINE)
-    page.js("paste", "")
+    page.open(LESSON).show(MINE).call("paste", "")
     assert page.shown(mode="own")["text"] == MINE.decode("latin-1")
-    assert "no schedule" in page.js("notice")
+    assert "no schedule" in page.text("#notice")
 
 
 def test_a_text_that_is_dropped(page):
     page.open(LESSON)
     text = MINE.replace(b"\xe9", b"e")
     assert not page.js("bring", "dragover", "dataTransfer", {}), "the browser lets it be dropped"
-    page.js("drop", text.decode())
+    page.call("drop", text.decode())
     shows(page, text)
 
 
 def test_a_branch_and_back(page):
     """The first choice of a branch adds an entry to the history, so Back leads to the lesson."""
-    page.open("#lesson=mcs-late-link&move=7")
-    page.press("g", "0", "1")
+    page.open("#lesson=mcs-late-link&move=7").press("g", "0", "1")
     page.until("addressBegins", "#schedule=")
-    page.js("back")
-    page.becomes("#lesson=mcs-late-link&move=7", "address")
-    shown = page.shown()
+    shown = page.call("back").becomes("#lesson=mcs-late-link&move=7", "address").shown()
     assert (shown["lesson"], shown["place"]) == ("mcs-late-link", 7)
 
 
 def kept_and_loaded_again(page):
     """Links to a long schedule, reloads the page, and tells whether a mark that this test stored is
     still there. Chromium sometimes loses all stored data at a load."""
-    page.open(LESSON)
-    page.js("mark")
-    page.show(LONG)
-    page.go(4000)
+    page.open(LESSON).call("mark").show(LONG).go(4000)
     page.until("keptAt", 4000)
-    page.js("click", "#link")
-    assert "saved as a file" in page.js("notice")
-    page.reload()
-    return page.js("isMarked")
+    assert "saved as a file" in page.call("click", "#link").text("#notice")
+    return page.reload().js("isMarked")
 
 
 def test_a_long_schedule(page):
@@ -111,38 +93,29 @@ def test_a_long_schedule(page):
     assert any(kept_and_loaded_again(page) for _ in range(5)), "the browser stores nothing"
     shows(page, LONG.encode(), 4000)
     name = page.js("keptAt", 4000)
-    page.press("o")
-    assert name in page.js("keptNames")
+    assert name in page.press("o").js("keptNames")
 
 
 def test_a_schedule_that_is_too_long_for_a_link(page):
-    """A link has at most 24,000 bytes. The page saves a longer schedule as a file, byte for
-    byte."""
-    page.open(LESSON)
-    page.js("copiedBy", "#link")
-    page.show(LONG[:24000])
-    page.press("Escape", "l")
-    assert page.js("addressBegins", "#schedule=") and "copied" in page.until("notice")
-    page.show(LONG[:24001])
-    page.press("Escape", "l")
-    assert "saved as a file" in page.until("notice")
+    """A link has at most 24,000 bytes. A longer schedule is saved as a file, byte for byte."""
+    page.open(LESSON).call("copiedBy", "#link").show(LONG[:24000]).press("Escape", "l")
+    assert page.js("addressBegins", "#schedule=") and "copied" in page.until("text", "#notice")
+    page.show(LONG[:24001]).press("Escape", "l")
+    assert "saved as a file" in page.until("text", "#notice")
     assert page.saved("schedule.txt", 24001) == LONG[:24001].encode()
 
 
 def test_back_to_a_schedule_that_is_too_long_for_a_link(page):
     """Back finds it, even if it was left before the browser had time to keep it."""
-    page.open(LESSON)
-    page.js("showAndLeave", LONG, 7, "ticket-hand-over")
-    page.js("back")
+    page.open(LESSON).call("showAndLeave", LONG, 7, "ticket-hand-over").call("back")
     shows(page, LONG.encode(), 7)
 
 
 def test_a_link_from_disk(page):
     """The page tells a reader who copies the link that it names a file of this disk."""
-    page.open(LESSON)
-    assert page.js("copiedBy", "#link") == page.js("href")
+    assert page.open(LESSON).js("copiedBy", "#link") == page.js("href")
     page.becomes("The link is copied. It names this file on your disk. To share it, put the page "
-                 "on a web server.", "notice")
+                 "on a web server.", "text", "#notice")
 
 
 @cases("fragment, part", {
@@ -155,17 +128,12 @@ def test_a_link_from_disk(page):
 })
 def test_damaged_links(page, fragment, part):
     """The page reports the damage, and the address stays until another schedule is opened."""
-    page.open(fragment)
-    assert part in page.js("damaged")
+    assert part in page.open(fragment).js("damaged")
     assert page.js("count", "#lessons[open]") == (part != "has no end"), "what there is, is shown"
-    page.press("ArrowRight")
-    page.js("leave")
-    assert page.js("address") == fragment
+    assert page.press("ArrowRight").call("leave").js("address") == fragment
     if part == "has no end":
-        page.press("l")
-        assert page.js("address") == f"{fragment}&move=1" and page.js("damaged") == ""
-    page.lesson("ticket-hand-over", 2)
-    page.becomes("#lesson=ticket-hand-over&move=2", "address")
+        assert page.press("l").js("address") == f"{fragment}&move=1" and page.js("damaged") == ""
+    page.lesson("ticket-hand-over", 2).becomes("#lesson=ticket-hand-over&move=2", "address")
     assert page.js("damaged") == ""
 
 
@@ -174,18 +142,17 @@ def test_an_edit_after_a_damaged_link(page):
     page.open("#schedule=bG9jayBtY3MgdGhyZWFkcyAyCjAgYWNxdWlyZQo")
     assert "has no end" in page.js("damaged")
     text = "lock mcs threads 2\n1 acquire\n"
-    page.js("write", text)
+    page.call("write", text)
     coded = base64.urlsafe_b64encode(text.encode()).decode().rstrip("=")
     page.until("addressBegins", f"#schedule={coded}&")
     assert page.js("damaged") == ""
 
 
 def test_foreign_bytes_survive_a_mend(page):
-    page.open()
-    page.show(MINE.replace(b"0 read", b"0 readd") + b"# \xff\xfe\n")
-    page.js("click", "#verdict [data-mend]")
+    page.open().show(MINE.replace(b"0 read", b"0 readd") + b"# \xff\xfe\n")
+    page.call("click", "#verdict [data-mend]")
     shows(page, MINE + b"# \xff\xfe\n")
-    page.js("write", page.shown()["area"] + "# x\n")
+    page.call("write", page.shown()["area"] + "# x\n")
     shows(page, MINE + b"# \xff\xfe\n# x\n")
 
 
@@ -196,16 +163,11 @@ def test_foreign_bytes_survive_a_mend(page):
     "markup": "# \u00fcber \u20ac <b>&amp;\nlock ticket threads 1\n0 acquire\n".encode(),
 })
 def test_a_link_carries_a_schedule(page, text):
-    page.open()
-    page.show(text)
-    page.go(1)
-    before = page.shown()
+    before = page.open().show(text).go(1).shown()
     assert before["place"] == 1 and before["text"] == text.decode("latin-1")
-    page.js("click", "#link")
+    page.call("click", "#link")
     coded = base64.urlsafe_b64encode(text).decode().rstrip("=")
-    page.becomes(f"#schedule={coded}&move=1", "address")
-    page.open(page.js("address"))
-    after = page.shown()
+    after = page.becomes(f"#schedule={coded}&move=1", "address").open(page.js("address")).shown()
     assert [after[name] for name in ("place", "moves", "text")] == [
         before[name] for name in ("place", "moves", "text")]
 
@@ -220,83 +182,60 @@ def test_a_link_in_the_other_alphabet_of_base64(page):
 
 
 def test_a_link_names_a_lesson(page):
-    page.open("#lesson=ticket-hand-over&move=3")
-    shown = page.shown()
+    shown = page.open("#lesson=ticket-hand-over&move=3").shown()
     assert (shown["place"], shown["moves"]) == (3, 10)
-    page.js("click", "#link")
-    assert page.js("address") == "#lesson=ticket-hand-over&move=3"
-    page.js("goTo", "#lesson=mcs-late-link&move=9")
-    page.becomes("9 of 16", "text", "#position")
+    assert page.call("click", "#link").js("address") == "#lesson=ticket-hand-over&move=3"
+    page.call("goTo", "#lesson=mcs-late-link&move=9").becomes("9 of 16", "text", "#position")
 
 
 @pytest.mark.parametrize("fragment", [
     "#", "#move=4", "#lesson=no-such", "#schedule=%%%", "#schedule=A&move=x"])
 def test_a_link_that_names_nothing(page, fragment):
     """The page opens with a title even if a link names nothing."""
-    page.open(fragment)
-    assert page.text("#title") != ""
+    assert page.open(fragment).text("#title") != ""
     assert page.js("href").startswith(PAGE.as_uri())
 
 
 @pytest.mark.parametrize("move, shown", [("-3", 0), ("99", 16), ("x", 0), ("2.7", 2)])
 def test_the_nearest_move(page, move, shown):
-    page.open(f"#lesson=mcs-late-link&move={move}")
-    assert page.shown()["place"] == shown
+    assert page.open(f"#lesson=mcs-late-link&move={move}").shown()["place"] == shown
 
 
 def test_a_text_is_kept_once(page):
     """A text that the reader opens twice is listed once."""
     page.open(LESSON)
     for _ in range(2):
-        page.show(MINE)
-        page.lesson("ticket-hand-over")
-        page.shown(mode="lessons")
-    page.press("Escape", "o")
-    assert len(page.js("keptNames")) == 1
+        page.show(MINE).lesson("ticket-hand-over").shown(mode="lessons")
+    assert len(page.press("Escape", "o").js("keptNames")) == 1
 
 
 def test_what_is_undone_is_kept_once(page):
     """After an undo an edit changes the kept schedule in its place."""
     mine_at(page, 2)
-    page.js("click", "#clear")
-    page.undo()
-    page.js("write", "lock ticket threads 3\n2 acquire\n")
-    page.lesson("ticket-hand-over")
-    page.press("Escape", "o")
+    page.call("click", "#clear").undo().call("write", "lock ticket threads 3\n2 acquire\n")
+    page.lesson("ticket-hand-over").press("Escape", "o")
     assert len(page.js("keptNames")) == 2, "that and the new one"
 
 
 def test_what_is_kept_is_changed_in_its_place(page):
     """A schedule that the reader opens from the list and changes is listed once, as changed."""
-    mine_at(page, 2)
-    page.lesson("ticket-hand-over", 5)
-    page.press("Escape", "o")
-    page.click("[data-kept]")
+    mine_at(page, 2).lesson("ticket-hand-over", 5).press("Escape", "o").click("[data-kept]")
     shows(page, MINE, 2)
-    page.js("write", "lock ticket threads 3\n2 acquire\n")
-    page.lesson("ticket-hand-over", 5)
-    page.press("Escape", "o")
-    assert len(page.js("keptNames")) == 1
+    page.call("write", "lock ticket threads 3\n2 acquire\n").lesson("ticket-hand-over", 5)
+    assert len(page.press("Escape", "o").js("keptNames")) == 1
     page.click("[data-kept]")
     shows(page, b"lock ticket threads 3\n2 acquire\n")
 
 
 def test_what_is_kept_has_its_place(page):
-    mine_at(page, 2)
-    page.lesson("ticket-hand-over", 5)
-    page.press("Escape", "o")
-    page.click("[data-kept]")
+    mine_at(page, 2).lesson("ticket-hand-over", 5).press("Escape", "o").click("[data-kept]")
     shows(page, MINE, 2)
 
 
 def test_what_is_kept_has_its_last_place(page):
     """The list has the last place of a schedule, even if the reader went on after it was kept."""
-    mine_at(page, 1)
-    page.go(2)
-    page.until("addressEnds", "&move=2")
-    page.go(3)
-    page.lesson("ticket-hand-over", 5)
-    page.press("Escape", "o")
+    mine_at(page, 1).go(2).until("addressEnds", "&move=2")
+    page.go(3).lesson("ticket-hand-over", 5).press("Escape", "o")
     assert "at move 3" in page.text("#lessons .kept")
     page.click("[data-kept]")
     shows(page, MINE, 3)
@@ -304,12 +243,9 @@ def test_what_is_kept_has_its_last_place(page):
 
 def test_what_is_no_longer_kept(page):
     """If the text is gone, as another tab may remove it, the page says so and shows the same."""
-    mine_at(page, 2)
-    page.lesson("ticket-hand-over", 5)
-    page.press("Escape", "o")
-    page.js("forgetTexts")
-    page.click("[data-kept]")
-    assert page.js("notice") == "This browser no longer keeps this schedule."
+    mine_at(page, 2).lesson("ticket-hand-over", 5).press("Escape", "o").call("forgetTexts")
+    said = page.click("[data-kept]").text("#notice")
+    assert said == "This browser no longer keeps this schedule."
     page.shown(lesson="ticket-hand-over", place=5)
 
 
@@ -328,9 +264,8 @@ def test_the_oldest_makes_room(page):
     """Of three texts with 4,000,000 letters of base64 together, the last two are kept."""
     page.open(LESSON)
     for title in ("# One\n", "# Two\n", "# Three\n"):
-        page.js("showLarge", 1_000_000, title)
-    page.lesson("ticket-hand-over")
-    page.press("Escape", "o")
+        page.call("showLarge", 1_000_000, title)
+    page.lesson("ticket-hand-over").press("Escape", "o")
     assert page.js("texts", "[data-kept]") == ["Three at move 0", "Two at move 0"]
     assert page.js("keptTexts") == 2
 
@@ -340,10 +275,8 @@ def test_links_to_two_schedules(page):
     page.open(LESSON)
     for thread in (0, 1):
         coded = base64.b64encode(f"lock ticket threads 2\n{thread} acquire\n".encode()).decode()
-        page.js("follow", f"#schedule={coded}&move=1")
-        page.js("leave")
-    page.lesson("ticket-hand-over")
-    page.press("Escape", "o")
+        page.call("follow", f"#schedule={coded}&move=1").call("leave")
+    page.lesson("ticket-hand-over").press("Escape", "o")
     assert len(page.js("keptNames")) == page.js("keptTexts") == 2
 
 
@@ -351,13 +284,9 @@ def test_links_to_two_schedules(page):
 def test_a_large_text_takes_no_room_from_others(page, size, listed):
     """Texts of up to 3,000,000 letters of base64, four for three bytes, are kept. A text that is
     longer by itself is not kept, and what was kept before stays."""
-    page.open(LESSON)
-    page.show(MINE)
-    page.js("showLarge", size)
-    page.lesson("ticket-hand-over")
-    page.press("Escape", "o")
-    assert len(page.js("keptNames")) == page.js("keptTexts") == listed
-    page.js("click", "[data-kept]:last-of-type")
+    page.open(LESSON).show(MINE).call("showLarge", size).lesson("ticket-hand-over")
+    assert len(page.press("Escape", "o").js("keptNames")) == page.js("keptTexts") == listed
+    page.call("click", "[data-kept]:last-of-type")
     shows(page, MINE)
 
 
@@ -368,23 +297,15 @@ def test_a_large_text_takes_no_room_from_others(page, size, listed):
     "theme": ("lockreplay.theme", "pink")})
 def test_what_the_browser_stores_may_be_damaged(page, damage):
     """The start opens all the same, and a schedule is kept again."""
-    page.before("storeAndLoad", *damage)
-    page.open()
+    page.before("storeAndLoad", *damage).open()
     assert page.js("count", "#lessons[open] .lock-card") == 4
     assert page.js("keptNames") == [] and page.js("count", ".kept") == 0
-    page.show(MINE)
-    page.lesson("ticket-hand-over", 10)
-    page.press("Escape", "o")
+    page.show(MINE).lesson("ticket-hand-over", 10).press("Escape", "o")
     assert len(page.js("keptNames")) == 1
 
 
 def test_without_storage(page):
     """A browser that stores nothing shows lessons and schedules, and keeps none."""
-    page.before("withoutStorage")
-    page.open()
-    assert page.js("count", "#lessons[open] .lock-card") == 4
-    page.show(MINE)
-    page.press("d")
-    page.lesson("ticket-hand-over", 10)
-    page.press("Escape", "o")
+    assert page.before("withoutStorage").open().js("count", "#lessons[open] .lock-card") == 4
+    page.show(MINE).press("d").lesson("ticket-hand-over", 10).press("Escape", "o")
     assert page.js("keptNames") == [] and page.js("theme") in ("dark", "light")

@@ -13,8 +13,7 @@ def is_seen(shown):
 @pytest.mark.parametrize("width, height", SCREENS)
 def test_a_branch(page, width, height, look):
     """The branch makes the compare-and-swap one move earlier. The moves before it are aligned."""
-    page.resize(width, height)
-    page.open(f"#lesson=mcs-late-link&move=7&play=0+cas{look}")
+    page.resize(width, height).open(f"#lesson=mcs-late-link&move=7&play=0+cas{look}")
     shown = page.js("compared")
     assert len(shown["here"]) == len(shown["there"]) == 8, shown
     assert sorted(shown["here"]) == sorted(shown["there"]) and is_seen(shown), shown
@@ -27,9 +26,7 @@ def test_a_branch(page, width, height, look):
 
 def test_in_play(page):
     """The comparison fits beside the panel of choices."""
-    page.resize(1366, 768)
-    page.open("#lesson=mcs-late-link&move=7")
-    page.press("g", "0", "c")
+    page.resize(1366, 768).open("#lesson=mcs-late-link&move=7").press("g", "0", "c")
     shown = page.js("compared")
     assert sorted(shown["here"]) == sorted(shown["there"]) and is_seen(shown), shown
 
@@ -49,8 +46,7 @@ def test_the_other_lock(page, width, height, look):
 def test_turns_without_a_move(page):
     """On the simple lock the reader enters at move 6, so the columns of its polls on this lock are
     empty there. Each move there is in a column of this run."""
-    page.resize(1366, 768)
-    page.open("#lesson=fifo-reader-waits-behind-writer&move=15&compare")
+    page.resize(1366, 768).open("#lesson=fifo-reader-waits-behind-writer&move=15&compare")
     shown = page.js("compared")
     here, there = set(shown["here"]), set(shown["there"])
     assert len(here) == 15 and there < here and len(there) == len(shown["there"]), shown
@@ -60,19 +56,14 @@ def test_turns_without_a_move(page):
 def test_a_click_beside_this_run(page):
     """The reader skips its turn after move 9 on the other lock, so move 10 there is beside move 11
     here. The button goes to the first difference, move 4."""
-    page.resize(1366, 768)
-    page.open("#lesson=fifo-reader-waits-behind-writer&move=15&compare")
-    page.click("#other [data-move='10']")
-    page.shown(position="11 of 15")
-    page.click("#other [data-first]")
-    page.shown(position="4 of 15")
-    page.click("#time [data-move='2']")
-    page.shown(position="2 of 15")
+    page.resize(1366, 768).open("#lesson=fifo-reader-waits-behind-writer&move=15&compare")
+    page.click("#other [data-move='10']").shown(position="11 of 15")
+    page.click("#other [data-first]").shown(position="4 of 15")
+    page.click("#time [data-move='2']").shown(position="2 of 15")
 
 
 def test_a_refused_move_has_no_turn(page):
-    """The second rlock is refused here, so it is no turn of the other lock, which made two
-    moves."""
+    """The second rlock is refused here, so it is no turn of the other lock, which moved twice."""
     page.open("#lesson=refused-already-holds&move=3&compare")
     assert page.js("texts", "#other .compared code") == [
         "there: 2 0 section entered hold r0 queue -", "here: refused line 5 AlreadyHolds"]
@@ -91,8 +82,7 @@ def test_no_run_gives_the_quiz_away(page):
 @pytest.mark.parametrize("width, height", SCREENS)
 def test_the_sign_is_whole(page, width, height):
     """The dashed line of the first difference begins below its sign, in both pictures."""
-    page.resize(width, height)
-    page.open("#lesson=mcs-late-link&move=7&play=0+cas")
+    page.resize(width, height).open("#lesson=mcs-late-link&move=7&play=0+cas")
     below = page.js("belowSigns")
     assert len(below) == 2 and min(below) >= 2, below
 
@@ -103,8 +93,7 @@ def test_no_sign_covers_a_word(page, width, height, look):
     page.resize(width, height)
     for run in ("mcs-late-link&move=7&play=0+cas",
                 "fifo-reader-waits-behind-writer&move=6&compare"):
-        page.open(f"#lesson={run}{look}")
-        assert page.js("count", ".different") == 2
+        assert page.open(f"#lesson={run}{look}").js("count", ".different") == 2
         assert page.js("wordsUnderSigns") == [], run
 
 
@@ -113,8 +102,7 @@ def test_what_it_needs(page):
     a kept schedule of the reader's own, and the lessons of the same lock."""
     page.open("#lesson=ticket-hand-over&move=5")
     page.show("#! title Mine\nlock ticket threads 2\n0 acquire\n0 add\n", 2)
-    page.show("#! title Another lock\nlock mcs threads 1\n", 0)
-    page.lesson("ticket-hand-over", 5)
+    page.show("#! title Another lock\nlock mcs threads 1\n", 0).lesson("ticket-hand-over", 5)
     page.press("Escape", "c")
     assert page.text("#choose-other .hint").startswith("Two schedules of one lock are shown")
     assert page.js("offered") == [
@@ -126,64 +114,48 @@ def test_what_it_needs(page):
 
 def test_titles_in_german(page):
     """The dialog offers lessons by their German titles."""
-    page.open("#lesson=ticket-hand-over&move=5&lang=de")
-    page.press("c")
+    page.open("#lesson=ticket-hand-over&move=5&lang=de").press("c")
     assert page.js("offered")[2:] == ["Es gilt die Reihenfolge der Tickets, nicht die der Aufrufe",
                                       "Tickets beginnen wieder bei 0"]
 
 
 def test_nothing_is_offered_to_itself(page):
-    """If two schedules are kept, the dialog offers only the one that is not shown. One without a
-    title has a name, too."""
+    """The dialog offers only what is not shown. A schedule without a title has a name, too."""
     page.open("#lesson=ticket-hand-over&move=5")
     for title, thread in [("First", 0), ("Second", 1)]:
         page.show(f"#! title {title}\nlock ticket threads 2\n{thread} acquire\n")
     page.press("c")
     assert {"First", "Second"} & set(page.js("offered")) == {"First"}
-    page.press("Escape")
-    page.show("lock ticket threads 2\n")
-    page.lesson("ticket-hand-over")
-    page.press("c")
+    page.press("Escape").show("lock ticket threads 2\n").lesson("ticket-hand-over").press("c")
     assert page.js("offered")[2:5] == ["Your own schedule", "Second", "First"]
 
 
 @pytest.mark.parametrize("look", LOOKS)
 def test_a_chosen_schedule(page, look):
     """The chosen lesson is above this lesson in the same columns, until C is pressed again."""
-    page.resize(1366, 768)
-    page.open(f"#lesson=mcs-record-used-again&move=5{look}")
-    page.press("c")
-    page.click("#choose-other [data-other='0']")
-    shown = page.js("compared")
+    page.resize(1366, 768).open(f"#lesson=mcs-record-used-again&move=5{look}").press("c")
+    shown = page.click("#choose-other [data-other='0']").js("compared")
     assert shown["first"].startswith("Compared with: The late link First difference: move 4"), shown
     assert len(shown["here"]) == len(shown["there"]) == 5 and is_seen(shown), shown
     assert max(abs(one - other) for one, other in zip(shown["here"], shown["there"])) <= 1, shown
-    page.press("c")
-    assert page.js("count", "#other:not([hidden])") == 0
-    page.press("c")
-    assert page.js("offered"), "the next time another one can be chosen"
-    page.click("#choose-other [data-other='1']")
-    first = page.js("compared")["first"]
+    assert page.press("c").js("count", "#other:not([hidden])") == 0
+    assert page.press("c").js("offered"), "the next time another one can be chosen"
+    first = page.click("#choose-other [data-other='1']").js("compared")["first"]
     assert first.startswith("Compared with: The third is linked before the second"), first
 
 
 def test_a_lecture_after_a_comparison(page):
     """A lecture shows no schedule that was compared before, and C lets one choose again."""
-    page.open("#lesson=mcs-record-used-again&move=5")
-    page.press("c")
-    page.click("#choose-other [data-other='0']")
-    page.press("g", "n")
+    page.open("#lesson=mcs-record-used-again&move=5").press("c")
+    page.click("#choose-other [data-other='0']").press("g", "n")
     page.click("#plans [data-plan='mcs'][data-step='0']")
     page.shown(lesson="mcs-record-used-again", place=5, mode="lessons")
-    page.press("c")
-    assert page.js("offered")
+    assert page.press("c").js("offered")
 
 
 def test_a_first_move_that_differs(page):
     """Two lessons differ at move 1, which different threads make."""
-    page.open("#lesson=ticket-hand-over&move=1")
-    page.press("c")
-    page.click("#choose-other [data-other='1']")
+    page.open("#lesson=ticket-hand-over&move=1").press("c").click("#choose-other [data-other='1']")
     assert page.js("compared")["first"] == (
         "Compared with: Tickets wrap around First difference: move 1")
 
@@ -193,20 +165,14 @@ REFUSED = "lock ticket threads 2\n0 acquire\n0 read\n"
 
 def compared_with(page, text, other):
     """Shows a schedule beside another one, which was shown before and is chosen."""
-    page.open("#lesson=ticket-hand-over&move=0&future")
-    page.show(f"#! title Other\n{other}")
-    page.show(text)
-    page.js("leave")
-    page.press("Escape", "c")
-    page.js("click", "#choose-other [data-other='0']")
+    page.open("#lesson=ticket-hand-over&move=0&future").show(f"#! title Other\n{other}").show(text)
+    page.call("leave").press("Escape", "c").call("click", "#choose-other [data-other='0']")
 
 
 def test_a_refused_move_beside_an_accepted_one(page):
-    """The refused move of the other run is crossed out in the column of the move that is shown, and
-    both lines are below the lanes."""
+    """The other run's refused move is crossed out in its column; both lines are below the lanes."""
     compared_with(page, "lock ticket threads 2\n0 acquire\n0 add\n", REFUSED)
-    page.go(2)
-    shown = page.js("compared")
+    shown = page.go(2).js("compared")
     assert shown["first"] == "Compared with: Other First difference: move 2", shown
     assert page.js("texts", "#other .compared code") == [
         "there: refused line 4 WrongStep next add", "here: 2 0 add moved hold - queue 0"]
@@ -227,7 +193,6 @@ def test_columns_for_the_longer_run(page):
     turns = ["0 acquire", "0 add", "0 read", "0 release", "0 read", "0 write"]
     head = "lock ticket threads 2\n"
     compared_with(page, head + "\n".join(turns[:2]) + "\n", head + "\n".join(turns) + "\n")
-    page.go(2)
-    shown = page.js("compared")
+    shown = page.go(2).js("compared")
     assert len(shown["there"]) == 6 and len(shown["here"]) == 2, shown
     assert sorted(shown["there"])[:2] == sorted(shown["here"]), shown

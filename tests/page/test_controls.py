@@ -2,7 +2,8 @@
 by Escape, by its button and by a click beside it. Each other button does what its name says."""
 import pytest
 
-from tree import EXAMPLES, cases
+from reports import SCHEDULES
+from tree import cases
 
 LESSON = "#lesson=mcs-record-used-again&move=5"
 # The key, the id of the button, the id of the dialog, and what has the focus then.
@@ -20,37 +21,27 @@ DIALOGS = {
 }
 
 
-def click_beside(page):
-    page.perform({"type": "pointer", "id": "mouse", "actions": [
-        {"type": "pointerMove", "x": 2, "y": 2},
-        {"type": "pointerDown", "button": 0}, {"type": "pointerUp", "button": 0}]})
-
-
 @cases("key, button, dialog, focused", DIALOGS)
 def test_a_dialog_opens_and_closes(page, key, button, dialog, focused):
     """Nothing behind a dialog changes, and the keys are the page's again when it is closed."""
-    page.open(LESSON)
-    before = page.shown()
+    before = page.open(LESSON).shown()
     for way in ["key", "button", "beside"]:
         if key and (way == "key" or not button):
             page.press(key)
         else:
-            page.js("click", f"#{button}")
+            page.call("click", f"#{button}")
         assert page.js("opened") == [dialog] and page.js("hasFocus", focused), way
         if way == "key":
             page.press("Escape")
         elif way == "button":
             page.click(f"#{dialog} form button")
         else:
-            click_beside(page)
-        page.becomes([], "opened")
-        page.becomes("body", "focused")
+            page.point(2, 2, "pointerDown", "pointerUp")
+        page.becomes([], "opened").becomes("body", "focused")
         assert page.js("count", "#lesson-list *") == 0, "its pictures are none of the page's"
         assert page.shown() == before, way
-        page.press("ArrowRight", "ArrowLeft", "Space")
-        assert page.js("isRunning"), way
-        page.press("Space")
-        page.go(5)
+        assert page.press("ArrowRight", "ArrowLeft", "Space").js("isRunning"), way
+        page.press("Space").go(5)
 
 
 @pytest.mark.parametrize("width, height, look", [
@@ -58,13 +49,12 @@ def test_a_dialog_opens_and_closes(page, key, button, dialog, focused):
     (1024, 768, "&hall"), (1440, 900, ""), (1920, 1080, ""), (1920, 1080, "&hall&lang=de")])
 def test_nothing_of_a_dialog_is_cut(page, width, height, look):
     """All of a dialog is on the screen, with no text cut and no control on another one."""
-    page.resize(width, height)
-    page.open(f"{LESSON}{look}")
+    page.resize(width, height).open(f"{LESSON}{look}")
     for key, button, dialog, _ in DIALOGS.values():
         if key:
             page.press(key)
         else:
-            page.js("click", f"#{button}")
+            page.call("click", f"#{button}")
         assert page.js("opened") == [dialog]
         assert page.js("wrongInDialog") == [], dialog
         page.press("Escape")
@@ -76,27 +66,22 @@ def test_which_buttons_are_pressed(page):
     modes = ["mode-own", "mode-play", "mode-quiz", "mode-hall"]
     for name in modes:
         for pressed in [[name], []]:
-            page.js("click", f"#{name}")
-            assert page.js("pressed") == pressed, name
+            assert page.call("click", f"#{name}").js("pressed") == pressed, name
     page.press("g", "e", "g")
     assert page.js("pressed") == ["mode-play"], "one panel takes the place of the other"
-    page.press("0", "c")
-    assert page.js("pressed") == ["mode-play", "compare"]
+    assert page.press("0", "c").js("pressed") == ["mode-play", "compare"]
 
 
 def test_the_boxes_of_the_view(page):
     """Each box shows or hides what it names, and keeps the focus."""
-    page.open(LESSON)
-    page.press("v")
-    assert page.js("texts", "#view label") == [
+    assert page.open(LESSON).press("v").js("texts", "#view label") == [
         "Threads", "Memory", "Code", "This move", "Draw later moves too, faintly",
         "Hall mode: large letters"]
     parts = ["time", "memory", "code", "now"]
     for name in parts:
         others = [one for one in parts if one != name]
         for shown in [others, parts]:
-            page.press("Escape", "v")
-            page.click(f"#view [name={name}]")
+            page.press("Escape", "v").click(f"#view [name={name}]")
             assert page.js("viewed") == [shown, shown] and page.js("hasFocus", f"[name={name}]")
     for count in (9, 5):
         page.click("#view [name=future]")
@@ -104,8 +89,7 @@ def test_the_boxes_of_the_view(page):
     page.click("#view [name=hall]")
     assert page.js("viewed") == [["memory", "code"]] * 2 and page.js("hasFocus", "[name=hall]")
     assert page.js("count", "#view :checked") == 3
-    page.click("#view [name=hall]")
-    assert page.js("viewed") == [parts, parts]
+    assert page.click("#view [name=hall]").js("viewed") == [parts, parts]
 
 
 KEYS = ["ArrowRight", "ArrowLeft", "PageDown", "PageUp", "Home", "End", " ", "Escape", "Enter",
@@ -115,12 +99,10 @@ KEYS = ["ArrowRight", "ArrowLeft", "PageDown", "PageUp", "Home", "End", " ", "Es
 @pytest.mark.parametrize("held", ["ctrlKey", "metaKey", "altKey"])
 def test_keys_of_the_browser(page, held):
     """With a modifier key, a key is the browser's."""
-    page.open(LESSON)
-    before = page.shown()
+    before = page.open(LESSON).shown()
     assert page.js("actsOf", "body", KEYS, held) == []
     assert page.js("opened") == [] and page.shown() == before
-    page.press("y")
-    assert page.js("actsOf", "#why-next", ["ArrowLeft", "n", "y"], held) == []
+    assert page.press("y").js("actsOf", "#why-next", ["ArrowLeft", "n", "y"], held) == []
 
 
 TEXTS = {
@@ -137,28 +119,20 @@ TEXTS = {
 @cases("text", TEXTS)
 def test_no_key_breaks_the_page(page, text):
     """Whatever is shown, each key and each tool leaves the page in order."""
-    page.before("withoutWindows")
-    page.open(LESSON)
-    page.js("stubScreen", "allowed")
+    page.before("withoutWindows").open(LESSON).call("stubScreen", "allowed")
     for key in [*KEYS, "#compare", "#mode-hall", "#leave", "#undo", "#first", "#last", "#run"]:
-        page.show(text, 1)
-        page.js("tryOne", key)
+        page.show(text, 1).call("tryOne", key)
     # That ends the quiz, and leaves the hall.
-    page.press("q", "Escape")
-    page.lesson("mcs-late-link", 10)
+    page.press("q", "Escape").lesson("mcs-late-link", 10)
     assert page.shown(place=10)["now"].startswith("This move 10Ann, read")
 
 
 def test_what_there_is_of_a_text_without_a_lock(page):
-    """Its report, the text and a frame can be taken, but no picture. In a hall it has no parts, and
-    the dialog that finds a moment opens."""
+    """Its report, text and frame can be taken, but no picture. A hall has no parts of it."""
     page.open(LESSON)
     taken = ("texts", "#take [data-take]:enabled")
-    page.press("t")
-    assert len(page.js(*taken)) == 8
-    page.press("Escape", "h")
-    page.show("no lock\n")
-    page.press("t")
+    assert len(page.press("t").js(*taken)) == 8
+    page.press("Escape", "h").show("no lock\n").press("t")
     assert page.js(*taken) == ["The whole report", "The schedule", "Copy a frame for a slide"]
     assert page.js("hasFocus", "[data-take=report]")
     page.press("Escape", "m")
@@ -167,13 +141,11 @@ def test_what_there_is_of_a_text_without_a_lock(page):
     assert page.text("#nothing-verdict").startswith("A schedule begins with a header.")
     assert "Threads: 1 to 64." in page.text("#nothing-verdict")
     assert page.text("#subtitle") == "No lock yet"
-    page.press("c")
-    assert page.text("#notice") == (
+    assert page.press("c").text("#notice") == (
         "There is nothing to compare with. Branch off first, in Play or by an edit.")
     page.press("Escape", "g")
     assert page.text("#choices") == "The text has a fault. Correct it, or begin a new schedule."
-    page.press("y")
-    assert page.text("#why-title") == "Why each line is there: Ticket lock"
+    assert page.press("y").text("#why-title") == "Why each line is there: Ticket lock"
 
 
 @cases("selector, acts, leaves", {
@@ -187,22 +159,18 @@ def test_what_there_is_of_a_text_without_a_lock(page):
     "elsewhere": ("body", ["j", " ", "Enter"], ["ArrowDown", "ArrowUp", "x"])})
 def test_keys_of_a_control(page, selector, acts, leaves):
     """A control keeps the keys that it needs itself."""
-    page.open(LESSON)
-    assert page.js("actsOf", selector, acts + leaves) == acts
+    assert page.open(LESSON).js("actsOf", selector, acts + leaves) == acts
 
 
 @cases("button, place", {"first": ("#first", 0), "back": ("#back", 11), "forward": ("#forward", 13),
                          "last": ("#last", 16)})
 def test_buttons_of_moves(page, button, place):
-    page.open("#lesson=mcs-late-link&move=12")
-    page.click(button)
-    page.shown(place=place)
+    page.open("#lesson=mcs-late-link&move=12").click(button).shown(place=place)
 
 
 def test_keys_of_an_answer(page):
     """In the quiz the arrows choose an outcome, and other keys are the page's."""
-    page.open("#lesson=fifo-reader-waits-behind-writer&move=0")
-    page.press("q", "End")
+    page.open("#lesson=fifo-reader-waits-behind-writer&move=0").press("q", "End")
     assert page.js("attribute", "#quiz-form", "data-kind") == "outcome"
     assert page.js("actsOf", "#quiz-form [type=radio]", ["ArrowDown", "ArrowRight", " ", "j"]) == [
         "j"]
@@ -213,30 +181,22 @@ def test_keys_of_an_answer(page):
 
 def test_code_that_is_selected(page):
     """A click that ends a selection of code opens no dialog. The tip says what another does."""
-    page.open(LESSON)
-    assert page.js("attribute", "#code-lines", "title") == (
+    assert page.open(LESSON).js("attribute", "#code-lines", "title") == (
         "A click on a line, or key Y, says why it is there")
-    page.js("clickSelected")
-    assert page.js("opened") == []
-    page.js("click", "#code-lines .code-line")
-    assert page.js("opened") == ["why"]
+    assert page.call("clickSelected").js("opened") == []
+    assert page.call("click", "#code-lines .code-line").js("opened") == ["why"]
 
 
 @cases("way, called, said", {
     "enter": ("allowed", ["enter"], ""), "leave": ("full", ["leave"], ""),
     "not allowed": ("refused", ["enter"], "The browser did not allow the full screen.")})
 def test_the_full_screen(page, way, called, said):
-    page.open(LESSON)
-    page.js("stubScreen", way)
-    page.press("s")
-    assert page.js("screenCalls") == called
+    assert page.open(LESSON).call("stubScreen", way).press("s").js("screenCalls") == called
     page.becomes(said, "text", "#notice")
 
 
 def test_a_second_window_that_is_not_allowed(page):
-    page.before("withoutWindows")
-    page.open(LESSON)
-    page.press("2")
+    page.before("withoutWindows").open(LESSON).press("2")
     assert page.text("#notice") == "The browser did not allow a second window."
 
 
@@ -244,18 +204,14 @@ def test_a_second_window_that_is_not_allowed(page):
     "allowed": (True, "The schedule is copied."),
     "not": (False, "The browser did not allow it. Select the text and copy it.")})
 def test_copying_the_text(page, allowed, said):
-    page.open("#lesson=mcs-late-link&move=2")
-    page.press("e")
-    copied = page.js("copiedBy", "#copy", allowed)
-    assert copied == (EXAMPLES / "mcs-late-link.schedule").read_text("ascii")
+    copied = page.open("#lesson=mcs-late-link&move=2").press("e").js("copiedBy", "#copy", allowed)
+    assert copied == SCHEDULES["mcs-late-link"]
     page.becomes(said, "text", "#notice")
 
 
 @pytest.mark.parametrize("rounds, ticks", [(60, 60), (200, 0)])
 def test_ticks_that_are_too_close(page, rounds, ticks):
-    """The slider has a tick for each entry, but none if they are closer than ten pixels to each
-    other, which would be a bar."""
-    page.open()
-    page.show("lock ticket threads 1\n" + rounds * (
+    """The slider has a tick for each entry, but none if they are closer than ten pixels."""
+    page.open().show("lock ticket threads 1\n" + rounds * (
         "0 acquire\n0 add\n0 read\n0 release\n0 read\n0 write\n"), 6 * rounds)
     assert page.js("count", "#slider-picture .tick.enters") == ticks

@@ -12,8 +12,6 @@ RECORDS = (f"{NAMES}lock mcs threads 2\n0 acquire\n0 write\n0 swap\n1 acquire\n1
 @pytest.mark.parametrize("kind", [
     "#memory-picture .value", "#memory-picture .record .name", "#lanes .lane-name"])
 def test_long_names(page, look, kind):
-    """Both names are cut: as values of the tail and of a link, in the heads of records, and beside
-    lanes. In a hall letters have another size."""
-    page.open(f"#lesson=mcs-late-link&move=0{look}")
-    page.show(RECORDS, 8)
+    """Both names are cut: as values, in heads and beside lanes. Letters of a hall are larger."""
+    page.open(f"#lesson=mcs-late-link&move=0{look}").show(RECORDS, 8)
     assert page.js("cutOf", kind) == [[True, True, False]] * 2

@@ -7,8 +7,7 @@ import pytest
 import oracle
 from machine import Machine
 from replayed import FEWEST, INSIDE, Replay
-from reports import LESSONS, moves_of
-from tree import EXAMPLES
+from reports import LESSONS, MOVES, SCHEDULES
 
 SAID = {"holds": "holds", "queue": "queue", "call": "in a call", "rest": "idle"}
 TITLES = {"ticket": "Ticket lock", "mcs": "MCS queue lock", "rw-simple": "Simple read-write lock",
@@ -48,8 +47,7 @@ def check_words(replay, state, move, shown):
 
 
 def check_marks(replay, shown, last, is_large=True):
-    """The marks end with the last move, with words if lanes are large, and bars say how each thread
-    stands after each."""
+    """The marks end with the last move, and bars say how each thread stands after each."""
     moves = [number for number, *_ in shown["marks"]]
     assert moves == list(range(moves[0], last + 1)) if last else not moves, moves
     for number, lane, shape, word, found in shown["marks"]:
@@ -197,12 +195,10 @@ def check_facts(replay, at, state, move, shown):
         f"Move {at} of {len(replay.moves)}. {who}, {move.word}, {move.outcome}. ")
 
 
-def check_paper(page, replay, report):
-    page.go(0)
-    shown = page.js("paperDrawn")
+def check_paper(page, replay, moves):
+    shown = page.go(0).js("paperDrawn")
     check_marks(replay, shown, len(replay.moves))
-    for row, (thread, word, outcome, hold, queue) in zip(shown["rows"], moves_of(report),
-                                                         strict=True):
+    for row, (thread, word, outcome, hold, queue) in zip(shown["rows"], moves, strict=True):
         who = f"{replay.name(thread)} ({thread})" if thread in replay.given else f"thread {thread}"
         assert row[1:4] + row[5:] == [who, word, outcome, hold, queue], row
 
@@ -227,9 +223,9 @@ def check(page, text, fewest=FEWEST):
 @pytest.mark.parametrize("name", [name for name in LESSONS if not name.startswith("fault")])
 def test_lesson(page, name):
     page.open(f"#lesson={name}&move=0")
-    replay = check(page, (EXAMPLES / f"{name}.schedule").read_bytes())
+    replay = check(page, SCHEDULES[name].encode("latin-1"))
     if replay.moves and replay.lanes == list(range(replay.threads)):
-        check_paper(page, replay, LESSONS[name])
+        check_paper(page, replay, MOVES[name])
 
 
 @pytest.mark.parametrize("width, height", [(390, 844), (820, 1180), (1024, 600)])
@@ -237,9 +233,8 @@ def test_lesson(page, name):
                                   "simple-second-writer", "fifo-counts-wrap-at-2-bits"])
 def test_in_a_window(page, width, height, name):
     """The same is drawn where parts are narrow or low."""
-    page.resize(width, height)
-    page.open(f"#lesson={name}&move=0")
-    check(page, (EXAMPLES / f"{name}.schedule").read_bytes(), 2)
+    page.resize(width, height).open(f"#lesson={name}&move=0")
+    check(page, SCHEDULES[name].encode("latin-1"), 2)
 
 
 def drawn(lock, threads, bits, count):
@@ -260,9 +255,7 @@ def drawn(lock, threads, bits, count):
 def test_random_schedule(page, lock, threads, bits):
     """In Play each thread is offered its due step, or the calls that it may begin."""
     text = drawn(lock, threads, bits, 60)
-    page.open()
-    page.show(text)
-    page.press("e")
+    page.open().show(text).press("e")
     replay = check(page, text.encode())
     page.press("g")
     for move, rows in zip(range(1, 61, 4), page.js("choicesAt", list(range(1, 61, 4)))):

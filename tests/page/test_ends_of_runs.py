@@ -19,8 +19,7 @@ INSIDE = "thread 1 has ended inside a call ('cas tail failed' at mcs.c:46); the 
 })
 def test_end(page, comments, said):
     """A run whose moves are all the lock's is not praised if its recorder complains of its end."""
-    page.open()
-    page.js("paste", "\n".join([
+    page.open().call("paste", "\n".join([
         "lock rw-fifo threads 2", "0 rlock", "0 section 1 entered", "1 wlock", "1 section 2 moved",
         *comments, ""]))
     verdict = page.shown(mode="own")["verdict"]

@@ -3,7 +3,7 @@ animations of several moves, and pictures for LaTeX."""
 import re
 import shutil
 import subprocess
-import xml.etree.ElementTree
+from xml.etree.ElementTree import fromstring
 
 import pytest
 
@@ -15,7 +15,12 @@ EVERYTHING = ["title", "legend", "code", "answer"]
 
 
 def tree_of(page, *parts):
-    return xml.etree.ElementTree.fromstring(page.js("taken", "svg", list(parts)))
+    return fromstring(page.js("taken", "svg", list(parts)))
+
+
+def tikz(page, *parts):
+    """The lines of a picture for LaTeX."""
+    return page.js("taken", "tikz", list(parts)).splitlines()
 
 
 def texts(tree):
@@ -40,8 +45,7 @@ def test_in_letters_of_its_own(page):
 
 
 def test_what_was_chosen(page):
-    page.open(LATE_LINK)
-    plain = words(tree_of(page))
+    plain = words(tree_of(page.open(LATE_LINK)))
     assert "no link" not in plain and "acquire(me):" not in plain and "entered" not in plain
     whole = tree_of(page, *EVERYTHING)
     for part in ["The late link", "acquire(me):", "in the queue, not linked", "no link", "entered"]:
@@ -60,8 +64,8 @@ def test_each_part_by_its_label(page):
     parts = {"with title": "The late link", "with marks": "failed poll",
              "with code": "acquire(me):", "with what the open question asks for": "no link"}
     for label in parts:
-        page.js("chooseOnly", label)
-        said = words(xml.etree.ElementTree.fromstring(page.js("takenAsChosen")))
+        page.call("chooseOnly", label)
+        said = words(fromstring(page.js("textTaken", "svg")))
         assert [part in said for part in parts.values()] == [one == label for one in parts], label
 
 
@@ -73,9 +77,7 @@ def test_it_says_what_the_page_says(page, lesson, moves):
     words that are shorter where there is less room."""
     page.open(f"#lesson={lesson}")
     for move in moves:
-        page.go(move)
-        page.press("a")
-        said = page.js("texts", ":is(#numbers, #lanes, #memory-picture) text")
+        said = page.go(move).press("a").js("texts", ":is(#numbers, #lanes, #memory-picture) text")
         words_of = [sorted("".join(one.split()) for one in those if "own variable" not in one)
                     for those in (texts(tree_of(page)), said)]
         assert words_of[0] == words_of[1], move
@@ -83,8 +85,7 @@ def test_it_says_what_the_page_says(page, lesson, moves):
 
 def test_the_band_has_no_gap(page):
     """The band under the move goes from its number to the last lane without a gap."""
-    page.open(LATE_LINK)
-    shown = page.js("alone", [])
+    shown = page.open(LATE_LINK).js("alone", [])
     (_, above), (below, end) = shown["bands"][:2]
     assert below <= above and end > max(lane for _, lane in shown["lanes"]) + 20, shown
     assert shown["band"] == "rgb(240, 234, 216)", "not the ground of the card, which is white"
@@ -93,29 +94,20 @@ def test_the_band_has_no_gap(page):
 @pytest.mark.parametrize("width", [1024, 1440])
 def test_marks_are_in_the_picture(page, width):
     """The marks of the legend take as many rows as they need, all inside the picture."""
-    page.resize(width, 800)
-    page.open(LATE_LINK)
-    shown = page.js("alone", ["legend"])
+    shown = page.resize(width, 800).open(LATE_LINK).js("alone", ["legend"])
     assert shown["outside"] == shown["overlaps"] == []
 
 
 def test_the_theme(page):
     """A picture has the theme of the page, not of the system."""
-    grounds = []
-    for theme in ["light", "dark"]:
-        page.open(f"{LATE_LINK}&theme={theme}")
-        grounds.append(luminance(page.js("groundOf", [])))
-    assert grounds[0] > 0.8 and grounds[1] < 0.05, grounds
+    light, dark = [luminance(page.open(f"{LATE_LINK}&theme={theme}").js("groundOf", []))
+                   for theme in ("light", "dark")]
+    assert light > 0.8 and dark < 0.05, (light, dark)
 
 
 def test_an_open_question_is_asked_about(page):
-    page.open(LATE_LINK)
-    page.press("t")
-    assert page.js("asks")
-    page.js("closeDialog", "take")
-    page.go(10)
-    page.press("t")
-    assert not page.js("asks")
+    assert page.open(LATE_LINK).press("t").js("asks")
+    assert not page.call("closeDialog", "take").go(10).press("t").js("asks")
 
 
 @pytest.mark.parametrize("lesson, move", [
@@ -124,22 +116,18 @@ def test_an_open_question_is_asked_about(page):
     ("svg", ["code"], None), ("strip", [], None), ("strip", [], [0, 15])])
 def test_nothing_is_outside(page, lesson, move, what, parts, moves):
     """All lines of the code are inside the picture, and all memories are inside the strip."""
-    page.open(f"#lesson={lesson}&move={move}")
-    shown = page.js("alone", parts, what, moves)
+    shown = page.open(f"#lesson={lesson}&move={move}").js("alone", parts, what, moves)
     assert len(shown["inside"]) > 16 and shown["outside"] == [], shown
 
 
 def test_which_moves_are_offered(page):
-    """The dialog offers the shown move with the three before it, or the first three moves, if there
-    are as many."""
+    """The dialog offers the shown move with the three before it, or else the first three."""
     page.open(LATE_LINK)
     for move, offered in [(0, ["0", "3"]), (1, ["0", "3"]), (9, ["6", "9"])]:
-        page.go(move)
-        page.press("t")
+        page.go(move).press("t")
         assert [page.js("value", f"#take-{end}") for end in ("from", "to")] == offered, move
         page.press("Escape")
-    page.show("lock ticket threads 1\n0 acquire\n")
-    page.js("click", "#show-take")
+    page.show("lock ticket threads 1\n0 acquire\n").call("click", "#show-take")
     assert page.js("value", "#take-to") == "1"
 
 
@@ -149,15 +137,14 @@ def test_which_moves_are_offered(page):
 def test_a_strip_says_what_memory_says(page, lesson, first, last):
     """Each picture of a strip has the words of memory after its move."""
     page.open(f"#lesson={lesson}")
-    strip = xml.etree.ElementTree.fromstring(page.js("stripOf", first, last))
+    strip = fromstring(page.js("stripOf", first, last))
     pictures = [one for one in strip.findall("{*}g") if one.find(".//{*}svg") is not None]
     # Two in a row, each in a cell of 560 by 326, and 14 apart.
     assert [[part.get("transform") for part in (one, one.find("{*}g"))] for one in pictures] == [
         [f"translate({x},{y})", "translate(0,26)"] for y in (20, 360) for x in (20, 594)]
     assert [strip.get(side) for side in ("width", "height")] == ["1188", "720"]
     for move, picture in enumerate(pictures, first):
-        page.go(move)
-        page.press("a")
+        page.go(move).press("a")
         head, *words_of = texts(picture)
         said = page.js("text", "#now .aside .aside, #now p.aside, #now .say:not(.own-say)")
         # A long sentence is cut.
@@ -168,29 +155,25 @@ def test_a_strip_says_what_memory_says(page, lesson, first, last):
 
 
 def test_which_moves_are_taken(page):
-    """The numbers may be in any order. What is no number is 0, beyond the last move is that, and of
-    a fraction the whole part counts."""
+    """In any order. What is no number is 0, and the last move is the most; fractions are cut."""
     page.open("#lesson=mcs-late-link&move=3")
     for asked, taken in [((9, 6), "6 7 8 9"), ((-5, 2), "0 1 2"), ((15, 99), "15 16"),
                          (("", 1), "0 1"), ((4, 4), "4"), ((16, 16), "16"), ((3.5, 4), "3 4")]:
-        said = texts(xml.etree.ElementTree.fromstring(page.js("stripOf", *asked)))
+        said = texts(fromstring(page.js("stripOf", *asked)))
         assert " ".join(one.split()[0] for one in said if one[0].isdigit()
                         and len(one.split()) > 1) == taken, asked
 
 
 def test_a_strip_from_the_start(page):
     """The first memory of a strip may be that before the first move."""
-    page.open("#lesson=mcs-late-link&move=0")
-    said = texts(xml.etree.ElementTree.fromstring(page.js("taken", "strip", [])))
+    said = texts(fromstring(page.open("#lesson=mcs-late-link&move=0").js("taken", "strip", [])))
     assert "0 All words are 0, and the queue is empty." in said, said
 
 
 def test_a_strip(page):
     """A strip has the memory after each move, and shows from move 8 on that a link is missing."""
-    page.open("#lesson=mcs-late-link&move=10")
-    page.press("t")
-    page.js("closeDialog", "take")
-    said = texts(xml.etree.ElementTree.fromstring(page.js("taken", "strip", [])))
+    page.open("#lesson=mcs-late-link&move=10").press("t").call("closeDialog", "take")
+    said = texts(fromstring(page.js("taken", "strip", [])))
     for move in range(7, 11):
         assert [one for one in said if one.startswith(f"{move} ")], (move, said)
     assert said.count("tail") == 4 and said.count("no link") == 3, said
@@ -218,8 +201,7 @@ NO_LANES = ["&hall", "&embed", "&show=memory,code,now"]
 
 @pytest.mark.parametrize("look", NO_LANES)
 def test_lanes_that_the_page_does_not_show(page, look):
-    """A picture has lanes with the words of all moves so far, and its parts are below each other as
-    ever."""
+    """A picture has the lanes of all moves so far, and its parts are below each other."""
     page.open(f"{LATE_LINK}{look}")
     title, numbers, lanes, signs, memory, code, whole = page.js("partsOf", EVERYTHING)
     for part in (numbers, lanes):
@@ -234,23 +216,20 @@ def test_lanes_that_the_page_does_not_show(page, look):
 @pytest.mark.parametrize("look", NO_LANES)
 def test_an_animation_with_lanes_that_the_page_does_not_show(page, look):
     """Each frame is as wide as the lanes, with two points for each unit."""
-    page.open(f"{LATE_LINK}{look}")
-    assert page.js("animation", 5, 6)["width"] > 2000
+    assert page.open(f"{LATE_LINK}{look}").js("animation", 5, 6)["width"] > 2000
 
 
 @pytest.mark.parametrize("look", NO_LANES)
 def test_lanes_for_latex_that_the_page_does_not_show(page, look):
     """The lanes have the number of each move so far."""
-    page.open(f"{LATE_LINK}{look}")
-    lines = page.js("taken", "tikz", []).splitlines()
+    lines = tikz(page.open(f"{LATE_LINK}{look}"))
     assert [move for move in range(1, 10) if not any(
         line.startswith("\\node") and line.endswith(f"{{{move}}};") for line in lines)] == []
 
 
 def test_an_animation(page):
     """An animation is an APNG with a frame for each move, which the browser shows."""
-    page.open(LATE_LINK)
-    shown = page.js("animation", 5, 8)
+    shown = page.open(LATE_LINK).js("animation", 5, 8)
     kinds = shown["kinds"]
     assert kinds.count("fcTL") == 4 and kinds[:3] == ["IHDR", "acTL", "fcTL"], kinds
     assert kinds.count("fdAT") >= 3 and kinds[-1] == "IEND" and shown["width"] > 1000
@@ -262,8 +241,7 @@ def test_frames_have_one_size(page):
     page.open()
     page.show("lock rw-simple threads 7\n" + "".join(f"{one} wlock\n" for one in range(7)), 1)
     low = float(tree_of(page).get("height"))
-    page.go(7)
-    assert float(tree_of(page).get("height")) > low + 20
+    assert float(tree_of(page.go(7)).get("height")) > low + 20
     shown = page.js("animation", 1, 7)
     assert len(shown["sizes"]) == 8 and len(set(shown["sizes"])) == 1
     assert shown["corner"] == [255, 255, 255, 255], "below a low picture is the card"
@@ -272,13 +250,9 @@ def test_frames_have_one_size(page):
 def test_each_frame_is_of_its_move(page):
     """The frames are the pictures that the page makes of these moves one by one."""
     page.open("#lesson=mcs-record-used-again&move=0")
-    one_by_one = []
-    for move in (1, 2, 4):
-        page.go(move)
-        one_by_one.append(page.js("pointsOf"))
+    one_by_one = [page.go(move).js("pointsOf") for move in (1, 2, 4)]
     frames = page.js("animation", 1, 4)["data"]
-    assert len(set(frames)) == 4
-    assert [frames[0], frames[1], frames[3]] == one_by_one
+    assert len(set(frames)) == 4 and [frames[0], frames[1], frames[3]] == one_by_one
 
 
 # By hand: the bands of the move in the numbers and in the lanes, the bar of the call, its mark, two
@@ -289,9 +263,7 @@ SHAPES = {"rectangle": 7, "svg {": 1, "circle[": 0, "\\node": 10}
 
 def test_shapes_for_latex(page):
     """A picture for LaTeX has each shape that is seen, and no other."""
-    page.open()
-    page.show("lock ticket threads 1\n0 acquire\n", 1)
-    text = page.js("taken", "tikz", [])
+    text = page.open().show("lock ticket threads 1\n0 acquire\n", 1).js("taken", "tikz", [])
     assert "[T1]{fontenc}\n" in text and "\\pagestyle{empty}\n\\begin{document}\n" in text
     lines = [line for line in text.splitlines()
              if line.startswith("\\path") or line.startswith("\\node") and not line.endswith("{};")]
@@ -314,8 +286,7 @@ def test_shapes_for_latex(page):
     "dark": ("dark", (106, 174, 255), (74, 58, 23), (255, 129, 103))})
 def test_colours_for_latex(page, theme, holds, queue, fails):
     """The bars of who holds and of who waits, and the cross of the compare-and-swap that fails."""
-    page.open(f"{LATE_LINK}&theme={theme}")
-    lines = page.js("taken", "tikz", []).splitlines()
+    lines = tikz(page.open(f"{LATE_LINK}&theme={theme}"))
     for option, (red, green, blue), shape in [
             ("fill", holds, "rectangle"), ("fill", queue, "rectangle"), ("draw", fails, "svg {")]:
         colour = f"{option}={{rgb,255:red,{red};green,{green};blue,{blue}}}"
@@ -324,8 +295,7 @@ def test_colours_for_latex(page, theme, holds, queue, fails):
 
 def test_letters_for_latex(page):
     """A reader has the ground of reading, and the word of a call is slanted."""
-    page.open("#lesson=fifo-reader-waits-behind-writer&move=6&theme=light")
-    lines = page.js("taken", "tikz", []).splitlines()
+    lines = tikz(page.open("#lesson=fifo-reader-waits-behind-writer&move=6&theme=light"))
     ground = "fill={rgb,255:red,217;green,231;blue,248}"
     assert any(ground in line and "rectangle" in line for line in lines)
     slants = {line.rpartition("{")[2]: "\\itshape" in line for line in lines}
@@ -334,13 +304,11 @@ def test_letters_for_latex(page):
 
 def test_dashes_for_latex(page):
     """The two failed polls are dashed circles where they are in the lanes, and nothing else is."""
-    page.open("#lesson=mcs-late-link&move=12")
-    lines = page.js("taken", "tikz", []).splitlines()
+    lines = tikz(page.open("#lesson=mcs-late-link&move=12"))
     found = [line.partition("] ")[2] for line in lines if "dash pattern=on 3pt off 2.3pt" in line]
     assert len(found) == 2 and found == page.js("failedPolls"), found
-    page.go(14)
     # The arrow to the poll that Bob's write let go on; the tail's arrow, and Ann's to Bob.
-    arrows = [line for line in page.js("taken", "tikz", []).splitlines() if "-{Latex" in line]
+    arrows = [line for line in tikz(page.go(14)) if "-{Latex" in line]
     assert len(arrows) == 3 and all("svg {" in line for line in arrows), arrows
 
 
@@ -348,7 +316,7 @@ def test_signs_of_latex(page):
     """Each character that is special in LaTeX is escaped."""
     page.open()
     page.show("#! title R&D, 5 % of #1_a, $2, {b}^c~d\\\nlock ticket threads 1\n0 acquire\n", 1)
-    lines = page.js("taken", "tikz", ["title"]).splitlines()
+    lines = tikz(page, "title")
     [title] = [line for line in lines if line.endswith(
         "{R\\&D, 5 \\% of \\#1\\_a, \\$2, \\{b\\}\\^{}c\\~{}d\\textbackslash{}};")]
     assert "font=\\sffamily\\bfseries\\fontsize{20}{20}" in title, title
@@ -358,8 +326,7 @@ def test_signs_of_latex(page):
 
 def test_code_for_latex(page):
     """Lines of code keep their indentation, in blanks that LaTeX does not leave out."""
-    page.open(LATE_LINK)
-    lines = [line.rpartition(") {")[2] for line in page.js("taken", "tikz", ["code"]).splitlines()]
+    lines = [line.rpartition(") {")[2] for line in tikz(page.open(LATE_LINK), "code")]
     for code in ["acquire(me):", "~~me.next := nil", "~~if pred is not nil:",
                  "~~~~me.locked := true"]:
         assert f"{code}}};" in lines, lines
@@ -370,8 +337,8 @@ def test_code_for_latex(page):
     ("ticket-wraps-at-2-bits", 23), ("mcs-late-link", 13), ("fifo-counts-wrap-at-2-bits", 16)])
 def test_for_latex(page, lesson, move, tmp_path):
     """pdflatex accepts the picture, and the PDF has words of it."""
-    page.open(f"#lesson={lesson}&move={move}")
-    (tmp_path / "state.tex").write_text(page.js("taken", "tikz", EVERYTHING), "utf-8")
+    text = "\n".join(tikz(page.open(f"#lesson={lesson}&move={move}"), *EVERYTHING))
+    (tmp_path / "state.tex").write_text(text, "utf-8")
     subprocess.run(["pdflatex", "-halt-on-error", "-interaction=batchmode", "state.tex"],
                    cwd=tmp_path, check=True, capture_output=True)
     said = subprocess.run(["pdftotext", "state.pdf", "-"], cwd=tmp_path, check=True, text=True,
@@ -387,14 +354,11 @@ def test_more_moves_than_are_drawn(page, language, said):
     page.open(f"{LATE_LINK}&lang={language}")
     page.show("lock mcs threads 2\n0 acquire\n0 write\n0 swap\n1 acquire\n1 write\n1 swap\n"
               "1 write\n1 write\n" + "1 read\n" * 92)
-    page.js("click", "#show-take")
-    assert page.js("askMoves", 10, 49) == ""
+    assert page.call("click", "#show-take").js("askMoves", 10, 49) == ""
     assert page.js("askMoves", 74, 10) == said
     for what in ["strip", "animated"]:
         assert page.js("noticed", what, 10, 74) == said
         assert page.js("noticed", what, 10, 12) == ""
-    strip = xml.etree.ElementTree.fromstring(page.js("stripOf", 10, 74))
+    strip = fromstring(page.js("stripOf", 10, 74))
     assert len([one for one in strip.findall("{*}g") if one.find(".//{*}svg") is not None]) == 40
-    page.js("askMoves", 10, 74)
-    page.press("Escape", "t")
-    assert page.js("askedCut") == ""
+    assert page.call("askMoves", 10, 74).press("Escape", "t").js("askedCut") == ""

@@ -1,6 +1,6 @@
 """Exports: pictures, the report and a frame; and what the page says about itself."""
 import re
-import xml.etree.ElementTree
+from xml.etree.ElementTree import fromstring
 
 import pytest
 
@@ -13,41 +13,35 @@ LATE_LINK = "#lesson=mcs-late-link&move=9"
 def test_the_picture(page):
     """The picture is well-formed, and has the moves and the words of memory. It shows the answer to
     a question only after the page does."""
-    page.open(LATE_LINK)
-    assert "no link" not in page.js("take", "svg")[1]
-    page.press("a")
-    name, letters = page.js("take", "svg")
+    assert "no link" not in page.open(LATE_LINK).js("take", "svg")[1]
+    name, letters, _ = page.press("a").js("take", "svg")
     text = letters.encode("latin-1").decode()
-    tree = xml.etree.ElementTree.fromstring(text)
-    words = " ".join(tree.itertext())
+    tree = fromstring(text)
     for part in ["Ann", "Bob", "tail", "cas", "fails", "no link"]:
-        assert part in words
+        assert part in " ".join(tree.itertext())
     assert "url(http" not in text and tree.tag.endswith("svg")
     assert name == "mcs-late-link-9.svg"
 
 
 def test_the_picture_of_points(page):
-    page.open(LATE_LINK)
-    name, letters = page.js("take", "png")
+    name, letters, _ = page.open(LATE_LINK).js("take", "png")
     assert letters.startswith("\x89PNG\r\n\x1a\n") and len(letters) > 20000
     assert name == "mcs-late-link-9.png"
 
 
 def test_a_picture_that_cannot_be_made(page):
     """The page says what to take in its place."""
-    page.open(LATE_LINK)
-    page.js("refusePictures")
+    page.open(LATE_LINK).call("refusePictures")
     for what in ["png", "animated"]:
-        page.js("click", "#show-take")
-        page.js("click", f"[data-take={what}]")
+        page.call("click", "#show-take").call("click", f"[data-take={what}]")
         page.becomes("This browser cannot make the picture. Take the SVG.", "text", "#notice")
-        page.js("forgetNotice")
+        page.call("forgetNotice")
 
 
 def test_how_sharp_the_picture_is(page):
     """The picture has two pixels for each unit of the drawing, in both directions."""
     page.open(LATE_LINK)
-    drawing = xml.etree.ElementTree.fromstring(page.js("take", "svg")[1].encode("latin-1"))
+    drawing = fromstring(page.js("take", "svg")[1].encode("latin-1"))
     head = page.js("take", "png")[1][16:24].encode("latin-1")
     assert [int.from_bytes(side, "big") for side in (head[:4], head[4:])] == [
         int(2 * float(drawing.get(side))) for side in ("width", "height")]
@@ -56,8 +50,8 @@ def test_how_sharp_the_picture_is(page):
 @pytest.mark.parametrize("what, name", [
     ("report", "mcs-late-link-9.report"), ("schedule", "mcs-late-link.schedule")])
 def test_the_report_and_the_schedule(page, what, name):
-    page.open(LATE_LINK)
-    assert page.js("take", what) == [name, (EXAMPLES / f"mcs-late-link.{what}").read_text("ascii")]
+    text = (EXAMPLES / f"mcs-late-link.{what}").read_text("ascii")
+    assert page.open(LATE_LINK).js("take", what)[:2] == [name, text]
 
 
 @pytest.mark.parametrize("what, name, kind", [
@@ -67,12 +61,8 @@ def test_the_report_and_the_schedule(page, what, name):
     ("animated", "mcs-late-link-9.moves.png", "image/png"),
     ("report", "mcs-late-link-9.report", "text/plain")])
 def test_names_of_files(page, what, name, kind):
-    """A file has the names of the lesson and of the move, and a schedule of one's own has one. It
-    is of its kind, and the dialog is closed."""
-    page.open(LATE_LINK)
-    page.press("t")
-    assert page.js("take", what)[0] == name
-    assert page.js("typeTaken") == kind
+    """A file has the names of its lesson and move, and is of its kind. The dialog is closed."""
+    assert page.open(LATE_LINK).press("t").js("take", what)[::2] == [name, kind]
     assert page.js("count", ".unseen, #take[open]") == 0
     page.show("lock ticket threads 1\n0 acquire\n", 1)
     assert page.js("take", what)[0] == name.replace("mcs-late-link-9", "schedule-1")
@@ -81,8 +71,7 @@ def test_names_of_files(page, what, name, kind):
 @pytest.mark.parametrize("look", ["", "&hall&future&show=time,now&theme=dark"])
 def test_the_frame(page, look):
     """The frame has its own look in place of that of the page."""
-    page.open(f"{LATE_LINK}{look}")
-    frame = page.js("copied", "frame")
+    frame = page.open(f"{LATE_LINK}{look}").js("copiedBy", "[data-take=frame]")
     assert "#lesson=mcs-late-link&amp;move=9&amp;embed&amp;show=memory,code" in frame, frame
     assert frame.startswith('<iframe src="file:///')
     assert frame.endswith('" width="960" height="480"></iframe>')
@@ -90,16 +79,11 @@ def test_the_frame(page, look):
 
 
 def test_the_frame_of_a_schedule_that_is_too_long_for_a_link(page):
-    """Another browser would not have it, so it is saved as a file instead, as for a link. A link
-    has room for 24,000 bytes."""
-    text = "lock ticket threads 2\n0 acquire\n0 add\n1 acquire\n1 add\n"
-    text = text.ljust(23999, "#") + "\n"
-    page.open(LATE_LINK)
-    page.show(text)
-    assert "&amp;embed" in page.js("copied", "frame")
+    """It is saved as a file, as for a link. A link has room for 24,000 bytes."""
+    text = "lock ticket threads 2\n0 acquire\n0 add\n1 acquire\n1 add\n".ljust(23999, "#") + "\n"
+    assert "&amp;embed" in page.open(LATE_LINK).show(text).js("copiedBy", "[data-take=frame]")
     text = f"#{text}"
-    page.show(text)
-    assert page.js("copied", "frame") is None
+    assert page.show(text).js("copiedBy", "[data-take=frame]") is None
     assert page.text("#notice").startswith("This schedule is too long for a link.")
     assert page.saved("schedule.txt", len(text)) == text.encode()
 
@@ -107,14 +91,13 @@ def test_the_frame_of_a_schedule_that_is_too_long_for_a_link(page):
 def test_the_frame_after_a_damaged_link(page):
     """The frame has the schedule that is shown, with its end."""
     page.open("#schedule=bG9jayBtY3MgdGhyZWFkcyAyCjAgYWNxdWlyZQo")
-    frame = page.js("copied", "frame")
+    frame = page.js("copiedBy", "[data-take=frame]")
     assert "#schedule=bG9jayBtY3MgdGhyZWFkcyAyCjAgYWNxdWlyZQo&amp;move=0&amp;embed" in frame, frame
 
 
 def test_tips_and_speeds(page):
     """Each control of the foot has a tooltip of its own, and keys choose the speed."""
-    page.open("#lesson=mcs-late-link&move=0")
-    tips = page.js("tips")
+    tips = page.open("#lesson=mcs-late-link&move=0").js("tips")
     assert len(tips) == 6 and all(tips) and len(set(tips)) == 6, tips
     assert page.js("fills") == ["none", "none", True]
     assert page.js("waysOfArrows") == {"first": "left", "back": "left", "forward": "right",
@@ -122,10 +105,8 @@ def test_tips_and_speeds(page):
     # An arrow's tip is turned as its line is.
     assert [page.js("attribute", f"#{tip}", "orient")
             for tip in ("tip", "tip-open", "tip-missing")] == ["auto"] * 3
-    page.press(".", ".")
-    assert page.js("value", "#speed") == "4"
-    page.press(",")
-    assert page.js("value", "#speed") == "2"
+    assert page.press(".", ".").js("value", "#speed") == "4"
+    assert page.press(",").js("value", "#speed") == "2"
 
 
 CLOSED = ["lessons", "plans", "find", "why", "take", "view", "sheets", "choose-other", "about",
@@ -165,8 +146,7 @@ NAMES = {
 
 def test_names_of_controls(page):
     """Each control has the name of what it does."""
-    page.open()
-    names = page.js("namesOfControls")
+    names = page.open().js("namesOfControls")
     assert {key: names.get(key) for key in NAMES} == NAMES
     assert [key for key in names if key not in NAMES] == ["new schedule"] + [
         f"find-lock {lock}" for lock in ("ticket", "mcs", "rw-simple", "rw-fifo")]
@@ -186,9 +166,7 @@ def test_what_the_page_may_do():
 
 
 def test_who_it_is(page):
-    page.open()
-    page.js("click", "#show-about")
-    said = page.text("#about")
+    said = page.open().call("click", "#show-about").text("#about")
     for part in [f"lockreplay {VERSION}", "proved", "Apache-2.0 OR MIT", "Chromium from 133"]:
         assert part in said
     assert "cas(tail, me, nil), or else:" in said and "Lesson plans" in said
@@ -204,8 +182,7 @@ def test_who_it_is(page):
 
 def test_what_the_page_has_of_itself(page):
     """The code of each lock is folded below the words for it, and a button leads to the plans."""
-    page.open("#lesson=mcs-late-link&move=3")
-    page.js("click", "#show-about")
+    page.open("#lesson=mcs-late-link&move=3").call("click", "#show-about")
     assert page.js("texts", "#about summary, #about [data-plans]") == [
         "The locks as code", "Lesson plans for teachers"]
     assert page.js("texts", "#about details h3") == [
@@ -233,5 +210,4 @@ def test_words_of_the_report(page):
     assert shown == ["cas fails", "the compare-and-swap fails", "Code: this move and next steps",
                      "Queue"]
     for move, plain in PLAIN.items():
-        page.go(move)
-        assert page.text("#now .plain") == plain, move
+        assert page.go(move).text("#now .plain") == plain, move

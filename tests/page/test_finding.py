@@ -20,10 +20,7 @@ def rows_of(name, lock):
 
 def ask(page, **fields):
     """Opens the dialog, fills in the fields in this order, and presses the button."""
-    page.press("m")
-    sketch = page.js("fill", list(fields.items()))
-    page.click("#find-search")
-    return sketch
+    return page.press("m").call("fill", list(fields.items())).click("#find-search")
 
 
 def shown_lines(page):
@@ -34,17 +31,14 @@ def shown_lines(page):
 
 def test_a_kind_is_found(page):
     """The page opens the run at its last move, the one of the kind. Undo brings the lesson back."""
-    page.open(HAND_OVER)
-    page.press("g")
-    assert "cas failed" in ask(page, lock="mcs", kind="12")
+    ask(page.open(HAND_OVER).press("g"), lock="mcs", kind="12")
     page.becomes("release: failed compare-and-swap", "text", "#title")
-    assert page.js("count", "#find[open]") == 0
+    assert "cas failed" in page.js("value", "#find-sketch") and not page.js("isOpen", "find")
     shown, lines = shown_lines(page)
     assert shown["place"] == shown["moves"] == 9 and not shown["refused"], shown
     assert shown["mode"] == "lessons", "a panel that was open is closed"
     assert lines[0] == "lock mcs threads 2" and lines[-1].endswith(" cas"), lines
-    page.press("u")
-    assert page.shown()["lesson"] == "ticket-hand-over"
+    assert page.press("u").shown()["lesson"] == "ticket-hand-over"
 
 
 @each_lock
@@ -52,17 +46,14 @@ def test_each_kind_is_opened_at_its_move(page, lock):
     """The page opens a run at the move of the kind, even if the run has moves after it."""
     page.open(HAND_OVER)
     for at, (_, name, length, *_) in enumerate(rows_of("kinds.txt", lock)):
-        ask(page, lock=lock, kind=str(at))
-        page.becomes(name, "text", "#title")
-        assert page.shown()["place"] == int(length)
+        ask(page, lock=lock, kind=str(at)).becomes(name, "text", "#title")
+        assert page.js("place") == int(length)
 
 
 @pytest.mark.parametrize("lock, count", [
     ("ticket", 7), ("mcs", 16), ("rw-simple", 12), ("rw-fifo", 15)])
 def test_each_lock_lists_its_kinds(page, lock, count):
-    page.open(HAND_OVER)
-    page.press("m")
-    page.js("fill", [["lock", lock]])
+    page.open(HAND_OVER).press("m").call("fill", [["lock", lock]])
     assert len(set(page.js("kinds"))) == count
 
 
@@ -77,8 +68,7 @@ def test_bounds_of_numbers(page):
 
 
 def test_lines_go_with_their_lock(page):
-    page.open(HAND_OVER)
-    page.press("m")
+    page.open(HAND_OVER).press("m")
     assert page.js("focused") == "find-kind", "the reader can choose at once"
     assert "cas failed" in page.js("fill", [["lock", "mcs"], ["kind", "12"]])
     assert page.js("fill", [["lock", "ticket"]]) == ""
@@ -86,26 +76,18 @@ def test_lines_go_with_their_lock(page):
 
 def test_what_was_filled_in_stays(page):
     """The dialog keeps what was filled in, until the page shows another lock."""
-    page.open(HAND_OVER)
-    page.press("m")
-    page.js("fill", [["lock", "mcs"], ["kind", "12"]])
-    page.press("Escape")
-    page.becomes(0, "count", "#find[open]")
-    page.press("m")
-    assert page.js("count", "#find[open]") == 1
+    page.open(HAND_OVER).press("m").call("fill", [["lock", "mcs"], ["kind", "12"]]).press("Escape")
+    assert page.becomes(0, "count", "#find[open]").press("m").js("count", "#find[open]") == 1
     assert page.js("value", "#find-lock") == "mcs"
     assert "cas failed" in page.js("value", "#find-sketch")
-    page.press("Escape")
-    page.lesson("fifo-second-writer")
-    page.press("m")
+    page.press("Escape").lesson("fifo-second-writer").press("m")
     assert page.js("value", "#find-lock") == "rw-fifo"
     assert page.js("value", "#find-sketch") == ""
 
 
 def test_lines_of_ones_own(page):
     """The reader looks for lines of a lock with more threads than the shown lesson."""
-    page.open(HAND_OVER)
-    ask(page, lock="mcs", threads="3", sketch="2 swap\n# then\n1 cas failed")
+    ask(page.open(HAND_OVER), lock="mcs", threads="3", sketch="2 swap\n# then\n1 cas failed")
     page.becomes("2 swap; # then; 1 cas failed", "text", "#title")
     shown, lines = shown_lines(page)
     assert shown["threads"] == 3 and not shown["refused"], shown
@@ -117,10 +99,8 @@ def test_lines_of_ones_own(page):
 
 def test_lines_in_place_of_those_of_a_kind(page):
     """Lines that were changed are looked for, and not the kind that was chosen before."""
-    page.open(HAND_OVER)
-    ask(page, lock="mcs", threads="2", kind="12", sketch="0 swap")
-    page.becomes("0 swap", "text", "#title")
-    shown = page.shown()
+    ask(page.open(HAND_OVER), lock="mcs", threads="2", kind="12", sketch="0 swap")
+    shown = page.becomes("0 swap", "text", "#title").shown()
     assert shown["place"] == shown["moves"] == 3, shown
 
 
@@ -135,32 +115,28 @@ def test_a_line_of_the_report(page, lock):
             wanted.setdefault(f"* {word} {outcome}", []).append(int(length))
     page.open(HAND_OVER)
     for line, lengths in wanted.items():
-        ask(page, lock=lock, sketch=line)
-        page.becomes(line, "text", "#title")
-        assert page.shown()["place"] == min(lengths), line
+        ask(page, lock=lock, sketch=line).becomes(line, "text", "#title")
+        assert page.js("place") == min(lengths), line
         assert page.js("attribute", "#now [data-outcome]", "data-outcome") == line.split()[2]
 
 
 def test_outcomes_of_two_lines(page):
     """The second thread swaps at move 6, and its poll, the third step after that, is move 9."""
-    page.open(HAND_OVER)
-    ask(page, lock="mcs", threads="2", sketch="* swap moved\n* read waits")
-    page.becomes("* swap moved; * read waits", "text", "#title")
-    assert page.shown()["place"] == 9
+    ask(page.open(HAND_OVER), lock="mcs", threads="2", sketch="* swap moved\n* read waits")
+    assert page.becomes("* swap moved; * read waits", "text", "#title").shown()["place"] == 9
 
 
 def test_moves_that_must_not_come(page):
     """Thread 1 links itself in its fifth move, before thread 0 reads `next` in its own fifth."""
-    page.open(HAND_OVER)
-    ask(page, lock="mcs", threads="2", sketch="not * read waits\n0 read next found 2")
-    page.becomes("not * read waits; 0 read next found 2", "text", "#title")
-    assert page.shown()["place"] == 10
+    sketch = "not * read waits\n0 read next found 2"
+    ask(page.open(HAND_OVER), lock="mcs", threads="2", sketch=sketch)
+    assert page.becomes(sketch.replace("\n", "; "), "text", "#title").js("place") == 10
 
 
 def test_the_example_in_the_box(page):
     """The example is a line of the lock, and the page searches for it if the field is empty."""
     page.open("#lesson=mcs-late-link&move=3")
-    assert ask(page) == ""
+    assert ask(page).js("value", "#find-sketch") == ""
     example = page.js("attribute", "#find-sketch", "placeholder")
     assert example.split()[1] in ("acquire", "release", "read", "write", "swap", "cas"), example
     page.becomes("; ".join(example.splitlines()), "text", "#title")
@@ -171,8 +147,7 @@ def test_the_example_in_the_box(page):
 def test_lines_of_the_kinds(page, lock):
     """The example is that of the kind in the middle. Lines of a kind stay, for one to go on from
     there, if lines of one's own are chosen again."""
-    page.open(HAND_OVER)
-    page.press("m")
+    page.open(HAND_OVER).press("m")
     middle = str(len(rows_of("kinds.txt", lock)) // 2)
     lines = page.js("fill", [["lock", lock], ["kind", middle]])
     assert lines == page.js("attribute", "#find-sketch", "placeholder") != ""
@@ -182,13 +157,10 @@ def test_lines_of_the_kinds(page, lock):
 
 def test_without_the_machine(page):
     """Nothing is looked for, and the dialog says why."""
-    page.before("withoutMachine")
-    page.open(HAND_OVER)
-    page.press("m")
+    page.before("withoutMachine").open(HAND_OVER).press("m")
     assert "needs a browser with 64-bit" in page.text("#find-answer")
     assert page.js("count", "#find-search:disabled") == 1 and page.js("kinds") == []
-    page.press("Escape")
-    page.shown(lesson="ticket-hand-over", place=3)
+    page.press("Escape").shown(lesson="ticket-hand-over", place=3)
 
 
 NONE_OF_3 = "No run of 3 threads, each of which takes the lock at most once, has these lines: all"
@@ -224,37 +196,29 @@ BOTH_LOCKED = "0 write locked of 1\n1 write locked of 0"
 })
 def test_what_is_answered(page, fields, answer):
     """If there is no such run or the question is wrong, the page says so and keeps the lesson."""
-    page.open(HAND_OVER)
-    ask(page, **fields)
-    page.becomes(answer, "text", "#find-answer")
-    assert page.shown()["lesson"] == "ticket-hand-over"
+    ask(page.open(HAND_OVER), **fields)
+    assert page.becomes(answer, "text", "#find-answer").shown()["lesson"] == "ticket-hand-over"
 
 
 def test_it_speaks_german(page):
     page.open("#lang=de&lesson=ticket-hand-over&move=0")
     ask(page, lock="ticket", sketch="0 write\n0 add")
-    page.becomes(KEIN_LAUF, "text", "#find-answer")
-    page.press("Escape", "m")
+    page.becomes(KEIN_LAUF, "text", "#find-answer").press("Escape", "m")
     assert page.text("#find-answer") == "", "the answer was to another question"
-    page.press("Escape")
-    ask(page, lock="mcs", threads="3", sketch=BOTH_LOCKED)
+    ask(page.press("Escape"), lock="mcs", threads="3", sketch=BOTH_LOCKED)
     page.until("answerEnds", "Alle 1.018 Zustände sind durchsucht.")
 
 
 def test_it_says_that_it_searches(page):
-    page.open(HAND_OVER)
-    page.press("m")
-    assert page.js("saidAtOnce") == "Searching …"
+    assert page.open(HAND_OVER).press("m").js("saidAtOnce") == "Searching …"
 
 
 def test_what_is_not_decided(page):
     """The page has memory for 2^23 cells. A state of an MCS lock has 19 words, 9 cells, and 2 for
     each thread: 46 cells for nine threads, so there is room for 182,361 states."""
-    page.open(HAND_OVER)
-    ask(page, lock="mcs", threads="9", rounds="9", sketch=BOTH_LOCKED)
+    ask(page.open(HAND_OVER), lock="mcs", threads="9", rounds="9", sketch=BOTH_LOCKED)
     page.until("answerBegins", "Not decided: 182,362 states were found")
-    page.press("Escape")
-    ask(page, lock="ticket", threads="5", rounds="9", sketch="* write waits")
+    ask(page.press("Escape"), lock="ticket", threads="5", rounds="9", sketch="* write waits")
     page.until("answerBegins", "Not decided: 250,001 states were found")
 
 
@@ -282,37 +246,28 @@ def what_is_next(page, wanted):
 
 @each_lock
 def test_a_new_lock_reaches_every_kind(page, lock):
-    page.open(HAND_OVER)
-    page.show(f"lock {lock} threads 2\n")
-    page.press("g")
-    page.click("#next-kinds summary")
+    page.open(HAND_OVER).show(f"lock {lock} threads 2\n").press("g").click("#next-kinds summary")
     what_is_next(page, {name: int(moves) for _, name, moves, *_ in rows_of("kinds.txt", lock)})
 
 
 def test_what_is_near_in_a_lesson(page):
     """A click goes to the moment, and Undo comes back."""
-    page.open("#lesson=mcs-late-link&move=8")
-    page.press("g")
-    page.click("#next-kinds summary")
+    page.open("#lesson=mcs-late-link&move=8").press("g").click("#next-kinds summary")
     at = what_is_next(page, AFTER_THE_SWAP).index("release: found a late link")
     page.click(f"#next-kinds-list [data-next-kind='{at}']")
     shown, lines = shown_lines(page)
     assert shown["place"] == 12 and not shown["refused"] and lines[-1] == "0 read", shown
-    page.press("u")
-    assert page.shown()["place"] == 8
+    assert page.press("u").shown()["place"] == 8
     what_is_next(page, AFTER_THE_SWAP)
     hint = ("texts", "#next-kinds-list .hint")
     assert page.js(*hint) == []
-    page.show("lock mcs threads 9\n")
-    page.press("g")
+    page.show("lock mcs threads 9\n").press("g")
     page.becomes(["What is further away was not searched."], *hint)
 
 
 def test_what_is_near_is_that_of_the_move(page):
     """The list belongs to the shown move: before the first move it is that of a new lock."""
-    page.open("#lesson=mcs-late-link&move=8")
-    page.press("g")
-    page.click("#next-kinds summary")
+    page.open("#lesson=mcs-late-link&move=8").press("g").click("#next-kinds summary")
     what_is_next(page, AFTER_THE_SWAP)
     page.go(0)
     what_is_next(page, {name: int(moves) for _, name, moves, *_ in rows_of("kinds.txt", "mcs")})

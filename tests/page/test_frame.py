@@ -45,10 +45,8 @@ HEADINGS = [
 
 def test_names_and_headings(page):
     """Each part and each dialog is named by what it is, and each heading says the same."""
-    page.open(LATE_LINK)
-    assert page.js("labels") == {**PARTS, **DIALOGS, **CONTROLS}
-    assert page.js("tips") == {**CONTROLS, **TIPS}
-    assert page.js("headings") == HEADINGS
+    assert page.open(LATE_LINK).js("labels") == {**PARTS, **DIALOGS, **CONTROLS}
+    assert page.js("tips") == {**CONTROLS, **TIPS} and page.js("headings") == HEADINGS
     assert page.js("texts", ":is(#lessons, #about, #keys) > form :is(h2, .hint)") == [
         "lockreplay", f"lockreplay {VERSION}", "Keys", f"lockreplay {VERSION}"]
     assert page.js("texts", "#close-banner, #leave, #why-back, #why-next") == ["✕", "✕ H", "←", "→"]
@@ -68,8 +66,7 @@ FIRST = {
 
 
 def test_first_values(page):
-    """Fields begin with the smallest lock that has a contest, in words of the usual width, and a
-    picture with its title."""
+    """The smallest lock with a contest, in words of the usual width; a picture with its title."""
     page.open(LATE_LINK)
     assert {field: page.js("value", field) for field in FIRST} == FIRST
     assert page.js("ticked") == ["take-title"]
@@ -85,8 +82,7 @@ def test_first_values(page):
 
 def test_nothing_is_corrected(page):
     """A browser corrects no word of a schedule or of a sketch, and breaks no line of a schedule."""
-    page.open(LATE_LINK)
-    assert page.js("helps", "text") == ["false", "off", "off", "off"]
+    assert page.open(LATE_LINK).js("helps", "text") == ["false", "off", "off", "off"]
     assert page.js("helps", "find-sketch") == ["false", "off", "off", None]
     assert page.js("attribute", "#find-sketch", "rows") == "4"
 
@@ -101,19 +97,15 @@ ALL = [*MOST, "show-find", "show-view", "show-take", "print", "theme", "plan", "
     "few": (900, 800, [*FEW, "menu"]), "none": (500, 800, ["menu"])})
 def test_which_tools_have_room(page, width, height, shown):
     """Tools that have no room are in the menu, and the others are at the right edge."""
-    page.resize(width, height)
-    page.open(LATE_LINK)
-    assert page.js("tools") == [shown, True]
+    assert page.resize(width, height).open(LATE_LINK).js("tools") == [shown, True]
     if "menu" in shown:
-        page.click("#menu")
-        assert page.js("tools")[0] == [*ALL, "menu"]
+        assert page.click("#menu").js("tools")[0] == [*ALL, "menu"]
 
 
 def test_how_the_form_of_a_moment_is_laid_out(page):
     """Short fields are in two columns. The kind, the lines and the answer take both, and the button
     that searches is at the end of the second one, on the ground of a button that goes on."""
-    page.open(LATE_LINK)
-    page.press("m")
+    page.open(LATE_LINK).press("m")
     lock, threads, rounds, bits, button, kind, sketch = page.js("across", [
         "#find-lock", "#find-form [name=threads]", "#find-rounds", "#find-form [name=bits]",
         "#find-search", "#find-kind", "#find-sketch"])
@@ -128,8 +120,7 @@ def test_how_choices_of_a_dialog_are_laid_out(page):
     """What can be taken or printed is listed, each as wide as the list."""
     page.open(LATE_LINK)
     for key, what in [("t", "take"), ("p", "sheet")]:
-        page.press(key)
-        names = page.js("across", [f"[data-{what}={one}]" for one in {
+        names = page.press(key).js("across", [f"[data-{what}={one}]" for one in {
             "take": ["svg", "png", "tikz", "strip", "animated", "report", "schedule", "frame"],
             "sheet": ["worked", "exercise"]}[what]])
         assert all(one == names[0] and one[1] - one[0] > 300 for one in names), names
@@ -159,8 +150,7 @@ ALIKE = {
 
 @cases("selectors, other, names", ALIKE)
 def test_parts_that_look_alike(page, selectors, other, names):
-    page.open(LATE_LINK)
-    first, *looks = page.js("looksOf", selectors, names)
+    first, *looks = page.open(LATE_LINK).js("looksOf", selectors, names)
     assert all(one == first for one in looks), dict(zip(selectors, [first, *looks]))
     assert page.js("looksOf", [other], names) != [first]
 
@@ -168,9 +158,7 @@ def test_parts_that_look_alike(page, selectors, other, names):
 @pytest.mark.parametrize("width, is_beside", [(1200, True), (700, False)])
 def test_where_the_changes_of_a_line_are(page, width, is_beside):
     """The changes of a line are beside the lock's code, or below it in a narrow window."""
-    page.resize(width, 800)
-    page.open(LATE_LINK)
-    page.press("y")
+    page.resize(width, 800).open(LATE_LINK).press("y")
     code, changes = page.js("across", ["#why-code", "#why-changes"])
     assert (code[1] < changes[0]) == is_beside and (code[0] == changes[0]) != is_beside
 
@@ -182,10 +170,8 @@ FOOT = {"first": [3, 3, 10, 10], "back": [5, 3, 6, 10], "forward": [5, 3, 6, 10]
 
 def test_signs_of_the_foot(page):
     """Each button has one sign, and that which plays has another one while the moves run."""
-    page.open("#lesson=mcs-record-used-again&move=0")
-    assert page.js("signsOfTheFoot") == FOOT
-    page.press(",", "Space")
-    assert page.js("signsOfTheFoot") == {**FOOT, "run": [4, 3, 8, 10]}
+    assert page.open("#lesson=mcs-record-used-again&move=0").js("signsOfTheFoot") == FOOT
+    assert page.press(",", "Space").js("signsOfTheFoot") == {**FOOT, "run": [4, 3, 8, 10]}
     page.press("Space")
 
 
@@ -193,8 +179,7 @@ def test_patterns_and_heads_of_arrows(page):
     """Who waits is hatched aslant, by lines of 3 in 7, and who reads is ruled, by lines of 2 in 6.
     The head of an arrow is as high as it is long, and its end is 1 before its tip. The open head
     has its tip 2 before the end of its box."""
-    page.open(LATE_LINK)
-    assert page.js("numbersOf", "#hatch, #hatch *") == [
+    assert page.open(LATE_LINK).js("numbersOf", "#hatch, #hatch *") == [
         ["7", "7", "userSpaceOnUse", "rotate(45)"], ["7", "7"], ["3", "7"]]
     assert page.js("numbersOf", "#ruled, #ruled *") == [
         ["6", "6", "userSpaceOnUse"], ["6", "6"], ["6", "2"]]

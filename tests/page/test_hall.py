@@ -1,6 +1,8 @@
 """Keys, links and choices lead to hall mode, to frames for slides, and to hidden parts."""
 import pytest
 
+from tree import cases
+
 SCREENS = [(1024, 768), (1280, 720), (1366, 768), (1440, 900), (1920, 1080)]
 # A state of each lock whose picture has as much in it as any of its lessons.
 STATES = [
@@ -31,9 +33,7 @@ def test_letters_are_large(page, width, height):
 
 def test_letters_of_the_quiz_are_large(page):
     """The questions, what is said of a wrong answer, and the list of wrong answers at the end."""
-    page.resize(1024, 768)
-    page.open("#lesson=ticket-hand-over&move=0&hall")
-    page.press("q", "End")
+    page.resize(1024, 768).open("#lesson=ticket-hand-over&move=0&hall").press("q", "End")
     asked = 0
     while kind := page.js("answerWrongly"):
         least = page.js("letters")
@@ -46,63 +46,46 @@ def test_letters_of_the_quiz_are_large(page):
 
 
 def test_by_key(page):
-    page.open(LATE_LINK)
-    assert page.js("header")
-    page.press("h")
-    assert not page.js("header") and page.js("parts") == ["memory", "code"]
-    page.becomes(f"{LATE_LINK}&hall", "address")
-    page.press("a", "ArrowRight")
+    assert page.open(LATE_LINK).js("header")
+    assert not page.press("h").js("header") and page.js("parts") == ["memory", "code"]
+    page.becomes(f"{LATE_LINK}&hall", "address").press("a", "ArrowRight")
     assert page.text("#current").startswith("10 Ann, read await succ")
     assert page.shown()["spoken"].startswith("Move 10 of 16."), "it is said though it is not drawn"
-    page.press("h")
-    assert page.js("header")
-    page.becomes("#lesson=mcs-late-link&move=10", "address")
-    page.press("h", "End", "ArrowRight")
+    assert page.press("h").js("header")
+    page.becomes("#lesson=mcs-late-link&move=10", "address").press("h", "End", "ArrowRight")
     assert page.text("#notice") == "That was the last move.", "the next lesson is not in view"
-    page.click("#leave")
-    assert page.js("header")
+    assert page.click("#leave").js("header")
 
 
 def test_how_tall_lanes_are(page):
-    """The lanes of many threads are lower above memory, which needs more room, than above another
-    part."""
+    """Lanes of many threads are lower above memory than above a part that needs less room."""
     page.open(LATE_LINK)
     page.show("lock ticket threads 64\n" + "".join(f"{one} acquire\n" for one in range(64)), 64)
     page.press("h")
     heights = {}
     for part in ["time", "memory", "now", "time"]:
-        page.js("choosePart", part)
+        page.call("choosePart", part)
         heights[" ".join(page.js("parts"))] = page.js("lanesHeight")
     assert heights["time now"] > 1.1 * heights["time memory"], heights
 
 
-def test_two_parts_are_chosen(page):
-    """Hall mode shows two parts. A chosen third part replaces the first."""
-    page.open(f"{LATE_LINK}&hall")
-    page.js("choosePart", "now")
-    assert page.js("parts") == page.js("partsTicked") == ["code", "now"]
-
-
-def test_large_letters_are_chosen(page):
-    """Hall mode that is chosen from the list begins with its own two parts, as by key."""
-    page.open(f"{LATE_LINK}&show=time,memory,now")
-    page.js("choosePart", "hall")
-    assert not page.js("header") and page.js("parts") == ["memory", "code"]
-    page.until("addressEnds", "&move=9&hall")
-
-
-def test_a_link_to_more_than_two_parts(page):
-    """Hall mode shows the first two parts of the link."""
-    page.open(f"{LATE_LINK}&hall&show=time,memory,code,now")
-    assert page.js("parts") == ["time", "memory"]
+@cases("look, chosen, parts, address", {
+    "a third part in place of the first": ("&hall", "now", ["code", "now"], "&hall&show=code,now"),
+    "its own two, as by key": ("&show=time,memory,now", "hall", ["memory", "code"], "&move=9&hall"),
+    "the first two of a link": ("&hall&show=time,memory,code,now", None, ["time", "memory"], "")})
+def test_two_parts(page, look, chosen, parts, address):
+    """Hall mode shows two parts, by a link or by the list."""
+    page.open(f"{LATE_LINK}{look}")
+    if chosen:
+        page.call("choosePart", chosen).until("addressEnds", address)
+        assert page.js("partsTicked") == parts
+    assert page.js("parts") == parts and not page.js("header")
 
 
 @pytest.mark.parametrize("key", ["e", "g"])
 def test_beside_a_form(page, key):
     """On the narrowest screen memory is above the code, and nothing of it is cut."""
-    page.resize(1024, 768)
-    page.open("#lesson=ticket-hand-over&move=3&hall")
-    page.press(key)
+    page.resize(1024, 768).open("#lesson=ticket-hand-over&move=3&hall").press(key)
     shown = page.js("inView")
     assert shown["parts"] == ["memory", "code"] and not shown["cut"], shown
 
@@ -110,46 +93,34 @@ def test_beside_a_form(page, key):
 @pytest.mark.parametrize("mode", ["", "g", "e", "q"])
 def test_parts_are_chosen(page, mode):
     """Outside hall mode a reader chooses any number of parts."""
-    page.open(LATE_LINK)
-    page.press(*mode)
-    page.js("choosePart", "code")
+    page.open(LATE_LINK).press(*mode).call("choosePart", "code")
     assert page.js("parts") == ["time", "memory", "now"]
     page.until("addressEnds", "&show=time,memory,now")
-    page.reload()
-    assert page.js("parts") == ["time", "memory", "now"]
+    assert page.reload().js("parts") == ["time", "memory", "now"]
 
 
 @pytest.mark.parametrize("key", ["g", "e", "a"])
 def test_the_line_stays_in_view(page, key):
     """The line stays in view beside a panel, below an answer, and in a lower window."""
-    page.resize(1280, 720)
-    page.open(LATE_LINK)
-    page.press(key)
-    assert page.js("line")
-    page.resize(1280, 600)
-    page.until("line")
+    assert page.resize(1280, 720).open(LATE_LINK).press(key).js("line")
+    page.resize(1280, 600).until("line")
 
 
 @pytest.mark.parametrize("look", ["", "&hall&show=time,now"])
 def test_story_and_moves_to_come(page, look):
     """The story and the later moves appear when a key asks for them."""
-    page.open(f"#lesson=mcs-late-link&move=0{look}")
-    shown = page.js("story")
+    shown = page.open(f"#lesson=mcs-late-link&move=0{look}").js("story")
     assert shown["story"] == shown["faint"] == shown["marks"] == 0, shown
-    page.press("a", "f")
-    shown = page.js("story")
+    shown = page.press("a", "f").js("story")
     assert shown["story"] == 1 and shown["marks"] == 16 and shown["faint"] > 16, shown
-    page.press("f")
-    assert page.js("story")["marks"] == 0
+    assert page.press("f").js("story")["marks"] == 0
 
 
 def test_an_answer_is_not_given_away(page):
     """The page shows the parts that answer a question only with the answer."""
-    page.open("#lesson=mcs-late-link&move=8")
-    shown = page.js("story")
+    shown = page.open("#lesson=mcs-late-link&move=8").js("story")
     assert shown["links"] == shown["answers"] == 0 and "only Bob" not in shown["caption"], shown
-    page.press("a")
-    shown = page.js("story")
+    shown = page.press("a").js("story")
     assert shown["links"] == 2 and shown["caption"].startswith("Ann is followed by Bob"), shown
 
 
@@ -157,27 +128,21 @@ def test_a_frame_for_a_slide(page):
     """A frame of 960 by 480 shows both parts, and no tools."""
     page.resize(960, 480)
     for lesson, move in STATES:
-        page.open(f"#lesson={lesson}&move={move}&embed&show=memory,code")
-        shown = page.js("inView")
+        shown = page.open(f"#lesson={lesson}&move={move}&embed&show=memory,code").js("inView")
         assert shown["parts"] == ["memory", "code"] and not shown["header"], (lesson, shown)
         assert shown["line"] and shown["moving"], (lesson, shown)
         assert not page.js("isSeen", "#leave"), "a slide does not leave anything"
-    page.press("a", "ArrowRight")
-    page.until("addressEnds", "&move=17&embed&show=memory,code")
+    page.press("a", "ArrowRight").until("addressEnds", "&move=17&embed&show=memory,code")
 
 
 def chosen_and_opened_again(page):
     """Chooses the light theme, opens the link without it, and tells whether a mark that this test
     stored is still there. Chromium sometimes loses all stored data at a load."""
-    page.open(f"{LATE_LINK}&theme=dark")
-    assert page.js("theme") == "dark"
-    page.js("mark")
+    assert page.open(f"{LATE_LINK}&theme=dark").js("theme") == "dark"
+    page.call("mark")
     # Opening has written the address by then.
-    page.js("leave")
-    page.press("d")
-    page.until("addressEnds", "&theme=light")
-    page.open(LATE_LINK)
-    return page.js("isMarked")
+    page.call("leave").press("d").until("addressEnds", "&theme=light")
+    return page.open(LATE_LINK).js("isMarked")
 
 
 @pytest.mark.parametrize("letters", ["soon", "late", "never"])
@@ -191,18 +156,14 @@ def test_a_theme_in_the_link(page, letters):
 
 
 def test_the_link_comes_before_what_was_chosen(page):
-    page.open(LATE_LINK)
-    page.press("d")
-    page.becomes("dark", "theme")
-    page.js("follow", f"{LATE_LINK}&theme=light")
-    assert page.js("theme") == "light"
+    page.open(LATE_LINK).press("d").becomes("dark", "theme")
+    assert page.call("follow", f"{LATE_LINK}&theme=light").js("theme") == "light"
 
 
 def test_the_theme_button_names_the_other(page):
     """The button names the other theme after a link with a theme, and after a link without one."""
-    page.open(f"{LATE_LINK}&theme=dark")
-    assert page.text("#theme").startswith("Light")
-    page.js("follow", LATE_LINK)
+    assert page.open(f"{LATE_LINK}&theme=dark").text("#theme").startswith("Light")
+    page.call("follow", LATE_LINK)
     assert page.js("theme") == "" and page.text("#theme").startswith("Dark")
 
 
@@ -217,26 +178,20 @@ TRACE = """lock ticket threads 2
 
 def test_a_trace(page):
     """The bar has what was recorded, and at the refused step why the lock refuses it."""
-    page.open(f"{TRACE_IN_A_HALL}memory,code")
-    page.js("paste", TRACE)
-    page.shown(refused=True, moves=3)
+    page.open(f"{TRACE_IN_A_HALL}memory,code").call("paste", TRACE).shown(refused=True, moves=3)
     refused = "The recorded run: add next_ticket found 0. The lock here: found 1."
     assert page.text("#current") == (
         f"✕ thread 1, add next_ticket found 0 refused ticket := add(next_ticket, 1) {refused}")
-    page.go(2)
-    assert page.text("#current") == (
+    assert page.go(2).text("#current") == (
         "2 thread 0, add next_ticket found 0 ticket := add(next_ticket, 1)")
-    page.open(f"{TRACE_IN_A_HALL}now,code")
-    page.js("paste", TRACE)
-    page.shown(refused=True, moves=3)
+    page.open(f"{TRACE_IN_A_HALL}now,code").call("paste", TRACE).shown(refused=True, moves=3)
     assert refused not in page.text("#current") and refused in page.text("#now")
 
 
 def test_a_question_covers_recorded_values(page):
     page.open(f"{TRACE_IN_A_HALL}memory,code")
-    page.js("paste", TRACE + "#! ask 2 hide facts : Which ticket?\n#! answer 2 : 0\n")
+    page.call("paste", TRACE + "#! ask 2 hide facts : Which ticket?\n#! answer 2 : 0\n")
     page.shown(refused=True, moves=3)
-    page.go(2)
-    assert page.text("#current").startswith("2 thread 0, add ticket := add")
+    assert page.go(2).text("#current").startswith("2 thread 0, add ticket := add")
     page.press("a")
     assert page.text("#current").startswith("2 thread 0, add next_ticket found 0 ticket := add")

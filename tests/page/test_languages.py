@@ -1,16 +1,13 @@
 """The page in German: every sentence is translated, none has a hole, pictures have room for the
 words, and reports stay as they are."""
-import json
 import re
 
 import pytest
 
-from reports import LESSONS, moves_of
-from tree import EXAMPLES, cases
+from reports import LESSONS, MOVES, PLANS, SCHEDULES, TRANSLATIONS, remarks
+from tree import cases
 
 GERMAN = "#lesson=mcs-late-link&move=0&lang=de"
-TRANSLATIONS = json.loads((EXAMPLES / "lessons.de.json").read_text("utf-8"))
-PLANS = json.loads((EXAMPLES / "plans.json").read_text("utf-8"))
 # Texts that stay: words of schedules and reports, names of files, and texts without a word.
 THE_SAME = {f"page.{name}" for name in [
     "product", "shortThread", "outcomes", "wordBecomes", "spoken.did", "own.fileName",
@@ -24,15 +21,13 @@ def test_every_sentence(page):
 
 
 def test_reports_are_the_same(page):
-    page.open(GERMAN)
-    lessons = [(EXAMPLES / f"{name}.schedule").read_text("latin-1") for name in LESSONS]
-    assert page.js("reports", lessons) == list(LESSONS.values())
+    assert page.open(GERMAN).js("reports", list(SCHEDULES.values())) == list(LESSONS.values())
 
 
 def test_no_holes(page):
     page.open(GERMAN)
     for name, report in LESSONS.items():
-        if moves_of(report) or report.startswith("refused"):
+        if MOVES[name] or report.startswith("refused"):
             for text in page.js("said", name):
                 for hole in ["{", "undefined", "NaN", "[object"]:
                     assert hole not in text, name
@@ -40,9 +35,7 @@ def test_no_holes(page):
 
 def test_lesson_plans(page):
     """Every sentence of the lesson plans is translated, with those of the homework."""
-    page.open(GERMAN)
-    page.press("n")
-    said = page.text("#plan-list")
+    said = page.open(GERMAN).press("n").text("#plan-list")
     for plan in PLANS:
         texts = [plan["aim"], *(part.get(name) for part in [*plan["steps"], plan["homework"]]
                                 for name in ("say", "ask"))]
@@ -50,102 +43,76 @@ def test_lesson_plans(page):
             assert text not in said and TRANSLATIONS[text] in said, text
     steps = [step for plan in PLANS for step in plan["steps"]]
     assert page.js("texts", "#plans [data-step] b") == [
-        f"{TRANSLATIONS[title_of(step['lesson'])]}, {step['move']}" for step in steps]
+        f"{TRANSLATIONS[remarks(step['lesson'], 'title')[0]]}, {step['move']}" for step in steps]
     assert page.js("texts", "#plans .minutes")[:2] == ["0 bis 1 min", "1 bis 3 min"]
-
-
-def title_of(lesson):
-    return re.search(r"^#! title (.+)$", (EXAMPLES / f"{lesson}.schedule").read_text("latin-1"),
-                     re.MULTILINE)[1]
 
 
 def test_what_is_said_in_a_lesson(page):
     """A lesson's story, sentences, questions, answers and point are German, and so are the titles
     of the lessons that come next and that it can be compared with."""
-    page.open("#lesson=ticket-hand-over&move=5&lang=de")
-    page.press("a")
+    page.open("#lesson=ticket-hand-over&move=5&lang=de").press("a")
     assert page.text("#now .question") == (
         "Frage: Bob hat aufgerufen und addiert. Was davon hat ihn in die Schlange gebracht? "
         "AntwortA Das add: Seine Nummer ist sein Platz. Sein Aufruf hat nichts geändert.")
-    page.go(1)
-    assert page.text("#now .own-say") == (
+    assert page.go(1).text("#now .own-say") == (
         "Ann will die Sperre. Ihr Aufruf ändert noch nichts im Speicher.")
-    page.go(0)
-    story = " ".join(re.findall(
-        r"^# (.+)$", (EXAMPLES / "ticket-hand-over.schedule").read_text("latin-1"), re.MULTILINE))
-    assert page.text("#now .about") == TRANSLATIONS[story].replace("`", "")
-    page.go(10)
-    assert "Eine Nummer ziehen, warten, bis sie gezeigt wird" in page.text("#now .last")
+    story = " ".join(re.findall(r"^# (.+)$", SCHEDULES["ticket-hand-over"], re.MULTILINE))
+    assert page.go(0).text("#now .about") == TRANSLATIONS[story].replace("`", "")
+    assert "Eine Nummer ziehen, warten, bis sie gezeigt wird" in page.go(10).text("#now .last")
     after = ["Es gilt die Reihenfolge der Tickets, nicht die der Aufrufe",
              "Tickets beginnen wieder bei 0"]
     assert page.text("#now [data-next]").startswith(f"Weiter: {after[0]}")
-    page.press("c")
-    assert page.js("texts", "#other-list [data-other]")[-2:] == after
+    assert page.press("c").js("texts", "#other-list [data-other]")[-2:] == after
 
 
 @pytest.mark.parametrize("width, height, look", [
     (390, 844, ""), (1280, 720, ""), (1280, 720, "&hall"), (1440, 900, "")])
 def test_pictures_fit(page, width, height, look):
     """German words are longer, and still no picture cuts one."""
-    page.resize(width, height)
-    page.open(f"{GERMAN}{look}")
+    page.resize(width, height).open(f"{GERMAN}{look}")
     for name, report in LESSONS.items():
         if not report.startswith("fault"):
             assert not any(page.js("cut", name)), name
 
 
-def english(page):
-    """Waits until the page has begun anew, in English."""
-    page.wait(lambda: page.tried(page.js, "hasBegunIn", "en"), lambda: "it stays German")
+def begun_in(page, language):
+    """Waits until the page has begun anew, in a language."""
+    page.wait(lambda: page.tried(page.js, "hasBegunIn", language), lambda: f"it is not {language}")
+    return page
 
 
 def test_by_the_address_and_back(page):
     """The address keeps the language, and the dialog about the page changes it."""
     page.open("#lesson=mcs-late-link&move=9&lang=de")
     assert page.text("#now .say").startswith("Das compare-and-swap scheitert")
-    page.go(10)
-    page.becomes("#lesson=mcs-late-link&move=10&lang=de", "address")
-    page.js("click", "#show-about")
-    page.js("click", "#about [data-lang=en]")
-    english(page)
-    page.becomes("#lesson=mcs-late-link&move=10&lang=en", "address")
-    page.js("follow", "#lesson=mcs-late-link&move=10&lang=de")
-    page.wait(lambda: page.tried(page.js, "hasBegunIn", "de"), lambda: "it stays English")
+    page.go(10).becomes("#lesson=mcs-late-link&move=10&lang=de", "address")
+    page.call("click", "#show-about").call("click", "#about [data-lang=en]")
+    begun_in(page, "en").becomes("#lesson=mcs-late-link&move=10&lang=en", "address")
+    begun_in(page.call("follow", "#lesson=mcs-late-link&move=10&lang=de"), "de")
 
 
 @pytest.mark.parametrize("link", ["#lang=de&lesson=none", "#lesson=none&lang=de"])
 def test_another_language_of_a_damaged_link(page, link):
     """The language that is chosen at the start replaces that of a link which stays as it is."""
-    page.open(link)
-    page.js("click", "#lessons [data-lang=en]")
-    english(page)
-    assert page.js("addressEnds", "lesson=none&lang=en")
+    page.open(link).call("click", "#lessons [data-lang=en]")
+    assert begun_in(page, "en").js("addressEnds", "lesson=none&lang=en")
 
 
 @pytest.mark.parametrize("look", ["", "&theme=dark"])
 def test_another_language_of_the_start(page, look):
     """The start comes again in the language that is chosen, until a move was shown."""
-    page.open(f"#lang=de{look}")
-    page.js("click", "#lessons [data-lang=en]")
-    english(page)
-    assert page.js("count", "#lessons[open]") == 1
-    page.becomes(f"#lesson=ticket-hand-over&move=0&lang=en{look}", "address")
-    page.press("Escape")
-    page.go(1)
-    page.press("o")
-    page.js("click", "#lessons [data-lang=de]")
-    page.wait(lambda: page.tried(page.js, "hasBegunIn", "de"), lambda: "it stays English")
-    assert page.js("count", "#lessons[open]") == 0
+    page.open(f"#lang=de{look}").call("click", "#lessons [data-lang=en]")
+    assert begun_in(page, "en").js("count", "#lessons[open]") == 1
+    page.becomes(f"#lesson=ticket-hand-over&move=0&lang=en{look}", "address").press("Escape").go(1)
+    page.press("o").call("click", "#lessons [data-lang=de]")
+    assert begun_in(page, "de").js("count", "#lessons[open]") == 0
     page.becomes(f"#lesson=ticket-hand-over&move=1&lang=de{look}", "address")
 
 
 def test_another_language_of_the_first_lesson(page):
     """A lesson that was chosen at the start stays, though no move was shown."""
-    page.open("#lang=en")
-    page.click("[data-lesson=mcs-late-link]")
-    page.press("o")
-    page.js("click", "#lessons [data-lang=de]")
-    page.wait(lambda: page.tried(page.js, "hasBegunIn", "de"), lambda: "it stays English")
+    page.open("#lang=en").click("[data-lesson=mcs-late-link]").press("o")
+    begun_in(page.call("click", "#lessons [data-lang=de]"), "de")
     page.becomes("#lesson=mcs-late-link&move=0&lang=de", "address")
     assert page.js("count", "#lessons[open]") == 0
 
@@ -154,8 +121,7 @@ def test_another_language_of_the_first_lesson(page):
     (["de-AT"], "de"), (["fr", "de"], "de"), (["en-GB", "de"], "en"), (["fr"], "en")])
 def test_the_language_of_the_browser(page, wanted, language):
     """The page takes the first wanted language that it has, in the variant of any country."""
-    page.before("want", wanted)
-    page.open("#lesson=mcs-late-link&move=9")
+    page.before("want", wanted).open("#lesson=mcs-late-link&move=9")
     assert page.js("language") == language
 
 
@@ -164,8 +130,7 @@ def test_the_language_is_pressed(page, language, name):
     """The button of the language is pressed, at the start and in the dialog about the page."""
     page.open(f"#lang={language}")
     assert page.js("texts", "#lessons [data-lang][aria-pressed=true]") == [name]
-    page.press("Escape")
-    page.js("click", "#show-about")
+    page.press("Escape").call("click", "#show-about")
     assert page.js("texts", "#about [data-lang][aria-pressed=true]") == [name]
     assert page.js("texts", "#about [lang=de]") == ["Deutsch"], "a voice reads it in its language"
 
@@ -192,17 +157,14 @@ LEGEND = ["ruft auf", "der Aufruf geht weiter", "wartet: vergebliche Abfrage", "
 
 def test_how_threads_stand(page):
     for link, (selector, text) in STANDINGS.items():
-        page.open(f"#lesson={link}&lang=de")
-        assert page.text(selector) == text, link
-    page.open("#lesson=fifo-downgrade&move=0&lang=de")
-    assert page.js("signs") == SIGNS
+        assert page.open(f"#lesson={link}&lang=de").text(selector) == text, link
+    assert page.open("#lesson=fifo-downgrade&move=0&lang=de").js("signs") == SIGNS
     page.lesson("mcs-late-link", 12)
     assert page.text("#memory-says") == "Nach Ann kommt Bob, und nur Bob weiß es."
 
 
 def test_what_moves_do(page):
-    page.open(GERMAN)
-    assert page.js("texts", "#legend > span") == LEGEND
+    assert page.open(GERMAN).js("texts", "#legend > span") == LEGEND
     assert page.js("plainAt", list(PLAIN)) == list(PLAIN.values())
     page.go(15)
     assert "Ann löscht locked von Bob und hat die Sperre verlassen; Bob ist als Nächstes dran" in (
@@ -231,24 +193,36 @@ TERMS = {
 def test_which_term_a_german_word_is(page):
     """A word is marked if it is a term or a form of one, and not if it is a part of another word
     or a word for left."""
-    page.open("#lang=de")
-    page.show(f"#! say 1 {'; '.join(TERMS)}; nach links, Aufzug, behalten.\n"
-              "lock ticket threads 1\n0 acquire\n", 1)
+    page.open("#lang=de").show(f"#! say 1 {'; '.join(TERMS)}; nach links, Aufzug, behalten.\n"
+                               "lock ticket threads 1\n0 acquire\n", 1)
     explained = page.js("meanings", "#now .own-say .term")
     assert [term for term, _ in explained] == [term for term, _ in TERMS.values()]
     for (term, meaning), (_, part) in zip(explained, TERMS.values()):
         assert part in meaning, term
 
 
-@cases("moves, said", {
-    "writer": ("0 wlock\n0 section\n", "findet keinen Leser und das flag gelöscht, setzt es und"),
-    "poll": ("1 rlock\n1 section\n0 wlock\n0 section\n",
-             "fragt ab und wartet: readers ist 1, und das flag ist 0; beide müssen 0 sein"),
-    "reader": ("0 rlock\n0 section\n", "findet keinen Schreiber und trägt sich ein")})
-def test_what_a_section_found(page, moves, said):
-    page.open(GERMAN)
-    page.show(f"lock rw-simple threads 2\n{moves}", moves.count("\n"))
-    assert f"Thread 0 {said}" in page.text("#now")
+# What is said of the last of these moves of a read-write lock: what a section found, and who holds
+# at a refused move.
+SAID = {
+    "writer": ("0 wlock; 0 section",
+               "Thread 0 findet keinen Leser und das flag gelöscht, setzt es und"),
+    "poll": ("1 rlock; 1 section; 0 wlock; 0 section", "Thread 0 fragt ab und wartet: readers ist "
+             "1, und das flag ist 0; beide müssen 0 sein"),
+    "reader": ("0 rlock; 0 section", "Thread 0 findet keinen Schreiber und trägt sich ein"),
+    "refused beside a reader": ("0 rlock; 0 section; 1 runlock",
+                                "Thread 0 hält die Sperre zum Lesen."),
+    "refused beside a writer": ("0 wlock; 0 section; 1 runlock",
+                                "Thread 0 hält die Sperre zum Schreiben."),
+    "refused beside readers": ("0 rlock; 0 section; 1 rlock; 1 section; 2 runlock",
+                               "Thread 0, Thread 1 halten die Sperre zum Lesen."),
+}
+
+
+@cases("moves, said", SAID)
+def test_what_is_said_of_a_move(page, moves, said):
+    lines = moves.split("; ")
+    page.open(GERMAN).show("\n".join(["lock rw-simple threads 3", *lines, ""]), len(lines))
+    assert said in page.text("#now")
 
 
 # Synonyms that German texts must not use. The words for these things are Record, Zähler, drinnen,
@@ -260,32 +234,16 @@ OTHER_WORDS = re.compile(
 
 def test_one_word_for_each_thing(page):
     """The German texts, which are in the page's body, have one word for each thing."""
-    page.open(GERMAN)
-    said = page.text("body").replace("' + '", "")
+    said = page.open(GERMAN).text("body").replace("' + '", "")
     assert "flag gesetzt" in said and TRANSLATIONS["The late link"] in said
     assert not OTHER_WORDS.findall(said)
 
 
 def test_titles_of_what_is_refused(page):
     """The titles of refused lessons are German, except for the name of the fault."""
-    page.open("#lang=de")
-    page.click(".refusals summary")
-    said = page.text(".refusals")
+    said = page.open("#lang=de").click(".refusals summary").text(".refusals")
     for part in ["Busy: ein Aufruf", "WrongStep: ein read, wo", "BadThreads: 65 Threads"]:
         assert part in said
-
-
-@pytest.mark.parametrize("call, holds", [("rlock", "zum Lesen"), ("wlock", "zum Schreiben")])
-def test_who_holds_at_a_refused_move(page, call, holds):
-    page.open(GERMAN)
-    page.show(f"lock rw-simple threads 2\n0 {call}\n0 section\n1 runlock\n", 3)
-    assert f"Thread 0 hält die Sperre {holds}." in page.text("#now")
-
-
-def test_who_reads_at_a_refused_move(page):
-    page.open(GERMAN)
-    page.show("lock rw-simple threads 3\n0 rlock\n0 section\n1 rlock\n1 section\n2 runlock\n", 5)
-    assert "Thread 0, Thread 1 halten die Sperre zum Lesen." in page.text("#now")
 
 
 @pytest.mark.parametrize("moves, said", [
@@ -297,13 +255,12 @@ def test_moves_before_a_fault(page, moves, said):
 
 
 def test_the_card_of_mcs(page):
-    page.open("#lang=de")
-    assert "Jeder Thread wartet an einem eigenen Wort" in page.text("[data-lock=mcs]")
+    said = page.open("#lang=de").text("[data-lock=mcs]")
+    assert "Jeder Thread wartet an einem eigenen Wort" in said
 
 
 def test_comments_on_other_moves(page):
     """The German page also says that a link leaves out comments on other moves."""
-    page.open(GERMAN)
-    page.press("e")
-    page.js("write", (EXAMPLES / "mcs-late-link.schedule").read_text().replace("1 swap", "1 read"))
+    page.open(GERMAN).press("e")
+    page.call("write", SCHEDULES["mcs-late-link"].replace("1 swap", "1 read"))
     assert "weder gezeigt noch gespeichert, auch nicht im Link" in page.text("#verdict")

@@ -1,24 +1,28 @@
 """The lesson plans in the page: each step opens its place, and a key shows its answer; there are a
 clock and a second window for the lecturer; and docs/GUIDE.md has the same plans."""
-import json
 import re
 
 import pytest
 
-from tree import EXAMPLES, TOP
+from reports import PLANS, TRANSLATIONS, asked_in, remarks
+from tree import TOP
 
-PLANS = json.loads((EXAMPLES / "plans.json").read_text("utf-8"))
-TRANSLATIONS = json.loads((EXAMPLES / "lessons.de.json").read_text("utf-8"))
 GUIDE = (TOP / "docs" / "GUIDE.md").read_text("utf-8")
 LESSONS = {"ticket": "ticket-", "mcs": "mcs-", "rw-simple": "simple-", "rw-fifo": "fifo-"}
 
 
 def begin(page, lock, language="en"):
     """Begins a plan by key and click, as a lecturer does."""
-    page.open(f"#lesson=ticket-hand-over&move=0&lang={language}")
-    page.press("n")
-    assert page.js("isOpen")
-    page.click(f'#plans [data-plan="{lock}"][data-step="0"]')
+    page.open(f"#lesson=ticket-hand-over&move=0&lang={language}").press("n")
+    assert page.js("isOpen", "plans")
+    return page.click(f'#plans [data-plan="{lock}"][data-step="0"]')
+
+
+@pytest.fixture
+def lecturer(page):
+    """A tab that opens a second window, which is closed after the test."""
+    yield page.before("keepWindows")
+    page.call("closeThere")
 
 
 def played(step):
@@ -29,10 +33,8 @@ def played(step):
 @pytest.mark.parametrize("width, height", [(1024, 768), (1366, 768), (1920, 1080)])
 @pytest.mark.parametrize("plan", PLANS, ids=list(LESSONS))
 def test_a_plan_step_by_step(page, plan, width, height):
-    """N goes to the next step. Each step has a question on the screen, and A shows its answer, with
-    what the step plays or compares."""
-    page.resize(width, height)
-    begin(page, plan["lock"])
+    """N goes to the next step, A shows the answer, with what the step plays or compares."""
+    begin(page.resize(width, height), plan["lock"])
     for at, step in enumerate(plan["steps"], 1):
         shown = page.js("step")
         where = (at, shown)
@@ -44,24 +46,21 @@ def test_a_plan_step_by_step(page, plan, width, height):
         assert not shown["compares"], where
         if step["place"] != "hand-over, 3":
             assert shown["question"].startswith(f"Question: {step.get('ask', '')}"), where
-            page.press("a")
-            answered = page.js("step")
+            answered = page.press("a").js("step")
             assert answered["place"] == step["move"] + played(step), (at, answered)
             assert answered["compares"] == compares and answered["isSeen"], (at, answered)
             assert answered["answers"] == 1 and answered["question"] == shown["question"], where
             assert step.get("answer", "") in answered["answer"] != "", (at, answered)
             assert page.text("#bar .plan-say") == step.get("say", ""), where
         page.press(*"n"[:at < len(plan["steps"])])
-    page.press("Escape")
-    shown = page.js("step")
+    shown = page.press("Escape").js("step")
     assert not shown["hall"] and not shown["step"], shown
 
 
 @pytest.mark.parametrize("plan", PLANS, ids=list(LESSONS))
 def test_a_plan_in_german(page, plan):
     """German words are longer, and still the smallest screen cuts no text and no control."""
-    page.resize(1024, 768)
-    begin(page, plan["lock"], "de")
+    begin(page.resize(1024, 768), plan["lock"], "de")
     for at in range(1, len(plan["steps"]) + 1):
         for _ in range(2):
             shown = page.js("step")
@@ -73,19 +72,15 @@ def test_a_plan_in_german(page, plan):
 def test_what_a_question_asks_for_is_not_beside_it(page):
     """The page hides the fact for which a question asks, until the answer."""
     for lock, answer in [("mcs", "holds"), ("rw-fifo", "announced")]:
-        page.resize(1024, 768)
-        begin(page, lock)
-        assert page.js("step")["discs"] == 0 and "announced" not in page.text("#memory-picture")
-        page.press("a")
-        assert page.js("step")["discs"] and answer in page.text("#memory-picture")
+        assert begin(page.resize(1024, 768), lock).js("step")["discs"] == 0
+        assert "announced" not in page.text("#memory-picture")
+        assert page.press("a").js("step")["discs"] and answer in page.text("#memory-picture")
 
 
 @pytest.mark.parametrize("lock, further, place, answered", [("mcs", 3, 7, 8), ("rw-fifo", 1, 6, 6)])
 def test_a_click_on_the_answer(page, lock, further, place, answered):
-    """Key A closes the answer that was opened by a click, and with it the comparison; and opens
-    both again."""
-    begin(page, lock)
-    page.press(*"n" * further)
+    """Key A closes an answer that a click opened, and the comparison; and opens both again."""
+    begin(page, lock).press(*"n" * further)
     for act, there, answers in [(lambda: page.click("#current .question summary"), answered, 1),
                                 (lambda: page.press("a"), place, 0),
                                 (lambda: page.press("a"), answered, 1)]:
@@ -99,104 +94,77 @@ def test_a_click_on_the_answer(page, lock, further, place, answered):
     ("mcs", 3, ["ArrowRight"] * 2, 8, "Bob is in the queue now."),
     ("rw-fifo", 1, ["ArrowRight"] * 5, 10, "Nobody is inside.")], ids=["mcs", "rw-fifo"])
 def test_an_answer_elsewhere(page, lock, further, keys, place, own):
-    """A lecturer who steps on within a step meets the lesson's own questions, and an answer of
-    theirs plays and compares nothing."""
-    begin(page, lock)
-    page.press(*"n" * further, *keys, "a")
-    shown = page.js("step")
+    """Moves within a step meet the lesson's own questions, which play and compare nothing."""
+    shown = begin(page, lock).press(*"n" * further, *keys, "a").js("step")
     assert [shown["place"], shown["answers"], shown["compares"]] == [place, 1, False], shown
     assert shown["question"].startswith(f"Question: {own}"), shown
 
 
 def test_the_question_of_a_step_and_that_of_its_lesson(page):
-    """The step that plays another move asks its own question only; without the plan the lesson's
-    is there again."""
-    begin(page, "mcs")
-    page.press(*"nnn")
-    assert page.js("texts", "#bar .question p b") == ["Question:"]
-    page.press("Escape")
-    page.lesson("mcs-late-link", 7)
+    """A step that plays another move asks only its own question; without the plan it is back."""
+    said = begin(page, "mcs").press(*"nnn").js("texts", "#bar .question p b")
+    assert said == ["Question:"]
+    page.press("Escape").lesson("mcs-late-link", 7)
     assert page.text("#now .question p") == "Question: Ann finds no successor. Is she alone?"
 
 
 def test_memory_of_the_last_step_of_mcs(page):
     """The whole memory is in view, with three records and a thread's own variable."""
-    page.resize(1024, 768)
-    begin(page, "mcs")
-    page.press(*"nnnn")
-    assert page.js("step")["parts"] == ["memory"] and "own variable" in page.js("seenOfMemory")
+    shown = begin(page.resize(1024, 768), "mcs").press(*"nnnn").js("step")
+    assert shown["parts"] == ["memory"] and "own variable" in page.js("seenOfMemory")
 
 
 @pytest.mark.parametrize("lock, further", [("mcs", 3), ("rw-fifo", 1)])
 @pytest.mark.parametrize("width, height", [(1024, 768), (1366, 768)])
 def test_a_step_that_compares(page, lock, further, width, height):
     """Letters of the memory have 2 % of the screen's height, and lanes leave room for words."""
-    page.resize(width, height)
-    begin(page, lock)
-    page.press(*"n" * further, "a")
-    least, between = page.js("compared")
+    begin(page.resize(width, height), lock)
+    least, between = page.press(*"n" * further, "a").js("compared")
     assert least >= 0.0199 and between > 0.05, (least, between)
     assert page.js("wordsOffMarks") == []
 
 
 def test_the_clock(page):
-    """The clock shows the minutes left in the plan, and after its end the minutes over. It stands
-    when the lecture is over."""
-    page.before("keepClocks")
-    begin(page, "mcs")
-    assert re.fullmatch(r"10:00|9:5\d", page.js("step")["clock"])
+    """The clock shows the minutes left, then the minutes over, and stops with the lecture."""
+    clock = begin(page.before("keepClocks"), "mcs").js("step")["clock"]
+    assert re.fullmatch(r"10:00|9:5\d", clock)
     assert [page.js("attribute", f"#lecture {part}", "title") for part in ("b", "span")] == [
         "Minutes left", "MCS queue lock"]
-    page.js("wait", 11)
-    page.until("clockBegins", "−1:")
+    page.call("wait", 11).until("clockBegins", "−1:")
     assert page.js("clocks") == [1000]
-    page.press("Escape")
-    assert page.js("clocks") == []
+    assert page.press("Escape").js("clocks") == []
 
 
 def test_the_clock_of_a_later_step(page):
     """The third step of this plan begins after 4 of 10 minutes, so six are left."""
-    page.open()
-    page.press("Escape", "n")
-    page.click("#plans [data-plan='mcs'][data-step='2']")
+    page.open().press("Escape", "n").click("#plans [data-plan='mcs'][data-step='2']")
     assert re.fullmatch(r"6:00|5:5\d", page.js("step")["clock"])
 
 
 def test_escape_in_the_menu(page):
     """Escape closes the open menu, and only then ends the lecture."""
-    page.resize(1024, 768)
-    begin(page, "mcs")
-    page.press("h")
-    page.click("#menu")
-    assert page.js("isMenu")
-    page.press("Escape")
-    assert not page.js("isMenu") and page.js("step")["step"] == "Step 1 of 5"
-    page.press("Escape")
-    assert not page.js("step")["step"]
+    assert begin(page.resize(1024, 768), "mcs").press("h").click("#menu").js("isMenu")
+    assert not page.press("Escape").js("isMenu") and page.js("step")["step"] == "Step 1 of 5"
+    assert not page.press("Escape").js("step")["step"]
 
 
 def test_the_last_step(page):
     """The button says that no other step follows."""
-    begin(page, "mcs")
-    assert page.js("texts", "#lecture span") == ["Step 1 of 5", "0 to 1 min"]
+    assert begin(page, "mcs").js("texts", "#lecture span") == ["Step 1 of 5", "0 to 1 min"]
     for _ in range(4):
         assert page.text("#lecture [data-lecture=next]") == "Next step N"
         page.press("n")
     assert page.text("#lecture [data-lecture=next]") == "Last step"
-    page.press("n")
-    assert not page.js("isOpen") and page.js("step")["step"] == "Step 5 of 5"
+    assert not page.press("n").js("isOpen", "plans") and page.js("step")["step"] == "Step 5 of 5"
 
 
 def test_the_step_before(page):
     """Back goes to the place of the step before, and stays at the first step."""
-    begin(page, "mcs")
-    first = page.js("step")["place"]
+    first = begin(page, "mcs").js("step")["place"]
     assert page.js("attribute", "#lecture [data-lecture=back]", "aria-label") == "The step before"
-    page.click("#lecture [data-lecture=next]")
-    assert page.js("step")["step"].startswith("Step 2 ")
+    assert page.click("#lecture [data-lecture=next]").js("step")["step"].startswith("Step 2 ")
     for _ in range(2):
-        page.click("#lecture [data-lecture=back]")
-        shown = page.js("step")
+        shown = page.click("#lecture [data-lecture=back]").js("step")
         assert shown["step"].startswith("Step 1 ") and shown["place"] == first, shown
 
 
@@ -216,8 +184,7 @@ def test_links_of_the_guide(page):
     steps = [step for plan in PLANS for step in [*plan["steps"], plan["homework"]]]
     assert len(links) == len(steps) >= 25
     for link, step in zip(links, steps):
-        page.open(link)
-        shown = page.js("step")
+        shown = page.open(link).js("step")
         assert shown["place"] == step.get("move", 0) + played(step), (link, shown)
         assert shown["hall"] == ("move" in step) and shown["sheet"] != shown["hall"], (link, shown)
 
@@ -227,150 +194,101 @@ def test_homework(page, way):
     """The plans lead to the exercise sheet of the homework, without a dialog below it."""
     page.open("#lesson=ticket-hand-over&move=3")
     for button in {"plan": ["#plan"], "about": ["#show-about", "#about [data-plans]"]}[way]:
-        page.js("click", button)
+        page.call("click", button)
     assert page.js("texts", "dialog[open] > form h2") == ["Lesson plans"]
-    page.js("click", "#plans [data-sheet^=mcs-]")
+    page.call("click", "#plans [data-sheet^=mcs-]")
     assert page.js("texts", "dialog[open] > form h2") == ["Print"]
     assert page.js("count", "#sheets [data-sheet=exercise]:focus") == 1
     assert page.shown()["lesson"] == PLANS[1]["homework"]["lesson"]
 
 
-def test_a_second_window(page):
+def test_a_second_window(lecturer):
     """The second window shows the lecturer the answer, the sentence on the move and the next move
     before the hall sees them. Its keys are the page's."""
-    page.before("keepWindows")
-    begin(page, "mcs")
-    page.press("n", "2")
-    said = page.until("presented")
+    said = begin(lecturer, "mcs").press("n", "2").until("presented")
     assert "The tail alone, and Bob's own pred" in said and "The next move" in said, said
     assert "Next step: The late link, 9" in said, said
-    assert page.js("windowThere") == ["lockreplay: for the presenter", "presenter", True]
-    page.js("pressThere", "n")
-    assert page.js("step")["place"] == 9
-    page.js("pressThere", "n")
-    said = page.js("presented")
+    assert lecturer.js("windowThere") == ["lockreplay: for the presenter", "presenter", True]
+    assert lecturer.call("pressThere", "n").js("step")["place"] == 9
+    said = lecturer.call("pressThere", "n").js("presented")
     for name in ("ask", "answer"):
         assert PLANS[1]["steps"][3][name] in said, said
-    page.press("d")
-    assert page.js("themeThere") == page.js("theme") != ""
-    page.js("wait", 11)
-    page.until("clockThereBegins", "−1:")
-    page.js("closeThere")
+    assert lecturer.press("d").js("themeThere") == lecturer.js("theme") != ""
+    lecturer.call("wait", 11).until("clockThereBegins", "−1:")
 
 
-def test_a_second_window_in_german(page):
+def test_a_second_window_in_german(lecturer):
     """What the lecturer says at this step, and the place of the next one, are German."""
-    page.before("keepWindows")
-    begin(page, "ticket", "de")
-    page.press("2")
-    said = page.until("presented")
+    said = begin(lecturer, "ticket", "de").press("2").until("presented")
     assert TRANSLATIONS[PLANS[0]["steps"][0]["say"]] in said, said
     title = TRANSLATIONS["Hand-over in the order of the tickets"]
     assert f"Nächster Schritt: {title}, 5" in said, said
-    page.js("closeThere")
 
 
-def test_what_the_second_window_says_at_each_move(page):
-    """It has the sentences on the move and on the next one, who holds, and the question's answer,
-    before the hall sees them."""
-    remarks = {}
-    for name, text in re.findall(r"^#! ((?:ask|answer) \d+) (?:hide [a-z ]+ : )?(.+)$", (
-            EXAMPLES / "mcs-late-link.schedule").read_text("ascii"), re.MULTILINE):
-        remarks[name] = f"{remarks[name]} {text}" if name in remarks else text
-    page.before("keepWindows")
-    page.open("#lesson=mcs-late-link&move=0")
-    sentences = ["", *page.js("sentences", 16), ""]
-    page.press("2")
-    page.until("presented")
-    for move, (shown, facts) in enumerate(page.js("presentedAt", 16)):
+def test_what_the_second_window_says_at_each_move(lecturer):
+    """The sentences on this move and the next, who holds, and the answer, before the hall."""
+    def said(what):
+        return " ".join(remarks("mcs-late-link", what))
+    lecturer.open("#lesson=mcs-late-link&move=0")
+    sentences = ["", *lecturer.js("sentences", 16), ""]
+    lecturer.press("2").until("presented")
+    for move, (shown, facts) in enumerate(lecturer.js("presentedAt", 16)):
         parts = {"": ["The late link", f"{move} of 16"]}
         if move:
             parts["This move"] = [sentences[move]]
-        if f"ask {move}" in remarks:
-            parts["Question:"] = [remarks[f"ask {move}"], remarks[f"answer {move}"]]
+        if move in asked_in("mcs-late-link"):
+            parts["Question:"] = [said(f"ask {move}"), said(f"answer {move}")]
         if move < 16:
             parts["The next move"] = [sentences[move + 1]]
-        assert shown == parts, move
-        assert facts[0] == facts[1], move
-    page.js("closeThere")
+        assert shown == parts and facts[0] == facts[1], move
 
 
-def test_the_second_window_beside_a_text_without_a_lock(page):
+def test_the_second_window_beside_a_text_without_a_lock(lecturer):
     """It stays as it is until the text has a lock again."""
-    page.before("keepWindows")
-    page.open("#lesson=mcs-late-link&move=3")
-    page.press("2")
-    said = page.until("presented")
-    page.show("no lock\n")
-    assert page.shown()["title"] == "Your own schedule" and page.js("presented") == said
-    page.show("#! title Mine\nlock ticket threads 1\n0 acquire\n", 1)
-    assert page.js("presented").startswith("Mine 1 of 1 This moveThread 0 calls acquire")
-    page.js("closeThere")
+    said = lecturer.open("#lesson=mcs-late-link&move=3").press("2").until("presented")
+    assert lecturer.show("no lock\n").text("#title") == "Your own schedule"
+    assert lecturer.js("presented") == said
+    lecturer.show("#! title Mine\nlock ticket threads 1\n0 acquire\n", 1)
+    assert lecturer.js("presented").startswith("Mine 1 of 1 This moveThread 0 calls acquire")
 
 
-def test_a_second_window_that_was_closed(page):
+def test_a_second_window_that_was_closed(lecturer):
     """The page goes on without it, and the key opens it again."""
-    page.before("keepWindows")
-    page.open("#lesson=mcs-late-link&move=3")
-    page.press("2")
-    page.until("presented")
-    page.js("closeThere")
-    page.press("ArrowRight")
-    page.shown(place=4)
-    page.press("2")
-    assert page.until("presented").startswith("The late link 4 of 16")
-    page.js("closeThere")
+    lecturer.open("#lesson=mcs-late-link&move=3").press("2").until("presented")
+    lecturer.call("closeThere").press("ArrowRight").shown(place=4)
+    assert lecturer.press("2").until("presented").startswith("The late link 4 of 16")
 
 
-def test_keys_of_the_second_window(page):
-    """A key that the page takes does nothing else in the second window, as Space, which would
-    scroll. Another key is the browser's."""
-    page.before("keepWindows")
-    page.open("#lesson=mcs-late-link&move=3")
-    page.press("2")
-    page.until("presented")
-    assert page.js("takenThere", [" ", "PageDown", "Tab", "ArrowDown", "Home"]) == [
+def test_keys_of_the_second_window(lecturer):
+    """A key that the page takes does nothing else there, as Space, which would scroll."""
+    lecturer.open("#lesson=mcs-late-link&move=3").press("2").until("presented")
+    assert lecturer.js("takenThere", [" ", "PageDown", "Tab", "ArrowDown", "Home"]) == [
         " ", "PageDown", "Home"]
-    page.js("closeThere")
 
 
-def test_the_style_of_the_second_window(page):
-    """However often the key is pressed, there is one second window, with one style and its
-    title."""
-    page.before("keepWindows")
-    page.open("#lesson=mcs-late-link&move=3")
+def test_the_style_of_the_second_window(lecturer):
+    """However often the key is pressed, there is one second window, with one style."""
+    lecturer.open("#lesson=mcs-late-link&move=3")
     for _ in range(3):
-        page.press("2")
-        page.until("presented")
-        assert page.js("stylesThere") == 1
-        assert page.js("windowThere") == ["lockreplay: for the presenter", "presenter", True]
-    assert page.js("countOfWindows") == 1
-    assert page.js("askedFor") == ["", "lockreplay-presenter", "width=820,height=640"]
-    page.js("closeThere")
+        lecturer.press("2").until("presented")
+        assert lecturer.js("stylesThere") == 1
+        assert lecturer.js("windowThere") == ["lockreplay: for the presenter", "presenter", True]
+    assert lecturer.js("countOfWindows") == 1
+    assert lecturer.js("askedFor") == ["", "lockreplay-presenter", "width=820,height=640"]
 
 
-def test_the_next_move_of_a_run_that_repeats(page):
+def test_the_next_move_of_a_run_that_repeats(lecturer):
     """After the last move the second window shows the first of the moves that repeat."""
-    page.before("keepWindows")
-    page.open()
-    page.show("lock rw-simple threads 1\n# from line 3 on, again and again\n"
-              "0 rlock\n0 section\n0 runlock\n0 section\n", 4)
-    page.press("2")
-    said = page.until("presented")
+    lecturer.open().show("lock rw-simple threads 1\n# from line 3 on, again and again\n"
+                         "0 rlock\n0 section\n0 runlock\n0 section\n", 4)
+    said = lecturer.press("2").until("presented")
     assert said.endswith("The next moveThread 0 calls rlock: it wants to read."), said
-    page.js("closeThere")
 
 
 @pytest.mark.parametrize("held", ["ctrlKey", "metaKey", "altKey"])
-def test_copying_in_the_second_window(page, held):
+def test_copying_in_the_second_window(lecturer, held):
     """Control+C copies a text in the second window, and does not start a comparison in the hall."""
-    page.before("keepWindows")
-    page.open("#lesson=fifo-second-writer&move=6&lang=de")
-    page.press("2")
-    page.until("presented")
-    assert page.js("languageThere") == "de"
-    page.js("pressThere", "c", held)
-    assert not page.js("step")["compares"]
-    page.js("pressThere", "c")
-    assert page.js("step")["compares"]
-    page.js("closeThere")
+    lecturer.open("#lesson=fifo-second-writer&move=6&lang=de").press("2").until("presented")
+    assert lecturer.js("languageThere") == "de"
+    assert not lecturer.call("pressThere", "c", held).js("step")["compares"]
+    assert lecturer.call("pressThere", "c").js("step")["compares"]

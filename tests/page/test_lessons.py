@@ -1,21 +1,18 @@
 """Keys step through each lesson to its end. At each move the page shows the outcome, the holders
 and the line of the lesson's report, even if the browser cannot run the machine."""
-import re
-
 import pytest
 
-from reports import LESSONS, moves_of, numbers_of
+from reports import LESSONS, MOVES, asked_in, numbers_of
 from tab import PAGE
-from tree import EXAMPLES, cases
+from tree import cases
 
 MODES = {"r": "reads", "w": "writes"}
-ANSWER = re.compile(r"^#! answer (\d+) ", re.MULTILINE)
 each_lesson = pytest.mark.parametrize("name", LESSONS)
 
 
-def compare(shown, move, report):
-    line = report.splitlines()[move - 1]
-    _, word, outcome, hold, queue = moves_of(report)[move - 1]
+def compare(shown, move, name):
+    line = LESSONS[name].splitlines()[move - 1]
+    _, word, outcome, hold, queue = MOVES[name][move - 1]
     assert MODES.get(hold[0], "") in shown["mode"], shown
     assert f"Move {move} of " in shown["spoken"], shown
     assert {name: shown[name] for name in ("outcome", "holders", "queue", "report", "here")} == {
@@ -25,18 +22,15 @@ def compare(shown, move, report):
 
 def check_lesson(page, name, has_banner):
     """Steps through a lesson to its end. One more step shows a refused move."""
-    report = LESSONS[name]
-    last, count = report.splitlines()[-1], len(moves_of(report))
-    page.open(f"#lesson={name}&move=0")
-    assert page.text("#verdict .report-line") == last
+    last, count = LESSONS[name].splitlines()[-1], len(MOVES[name])
+    assert page.open(f"#lesson={name}&move=0").text("#verdict .report-line") == last
     assert page.js("banner") == has_banner
-    asked = {*map(int, ANSWER.findall((EXAMPLES / f"{name}.schedule").read_text("latin-1")))}
+    asked = asked_in(name, "answer")
     for move in range(1, count + 1):
         # A step stops once at a question.
-        page.press(*["ArrowRight"] * (2 if move - 1 in asked else 1))
-        shown = page.js("atMove")
+        shown = page.press(*["ArrowRight"] * (2 if move - 1 in asked else 1)).js("atMove")
         assert shown["position"] == f"{move} of {count}"
-        compare(shown, move, report)
+        compare(shown, move, name)
     if count:
         page.press("ArrowRight")
         end = "refused" if last.startswith("refused") else f"{count} of {count}"
@@ -62,10 +56,8 @@ def test_without_the_machine(page, name):
 @pytest.mark.parametrize("name", ["ticket-wraps-at-2-bits", "mcs-late-link", "fifo-downgrade"])
 def test_memory_without_the_machine(page, name):
     """The picture of memory is the same with and without the machine."""
-    page.open(f"#lesson={name}")
-    pictures = page.js("memoryAt", [0, 5, 99])
-    page.before("withoutMachine")
-    page.open(f"#lesson={name}")
+    pictures = page.open(f"#lesson={name}").js("memoryAt", [0, 5, 99])
+    page.before("withoutMachine").open(f"#lesson={name}")
     assert page.js("banner") and page.js("memoryAt", [0, 5, 99]) == pictures
 
 
@@ -75,8 +67,7 @@ def verdicts(page):
     said = {}
     for name in LESSONS:
         if name.startswith("fault"):
-            page.lesson(name)
-            said[name] = page.text("#verdict")
+            said[name] = page.lesson(name).text("#verdict")
     return said
 
 
@@ -89,15 +80,11 @@ def test_faults_without_the_machine(page):
 
 
 def test_without_the_machine_nothing_is_played(page):
-    page.before("withoutMachine")
-    page.open("#lesson=mcs-late-link&move=0")
-    page.press("g")
+    page.before("withoutMachine").open("#lesson=mcs-late-link&move=0").press("g")
     assert "needs a browser with 64-bit" in page.text("#notice")
     assert page.js("count", "#choices button") == 0
-    page.show("lock mcs threads 1\n")
-    assert "Only the lessons can be shown" in page.text("#verdict")
-    page.lesson("simple-second-writer")
-    page.press("c")
+    assert "Only the lessons can be shown" in page.show("lock mcs threads 1\n").text("#verdict")
+    page.lesson("simple-second-writer").press("c")
     assert page.js("count", "#choose-other[open]") == 1, "there is no other lock beside it"
     assert page.js("count", "#other-list [data-way]") == 0 < page.js("count", "#other-list button")
 
@@ -109,25 +96,19 @@ def test_without_the_machine_nothing_is_played(page):
 def test_a_browser_that_is_too_old(page, language, said):
     """A browser that cannot unpack the page's parts says so, and shows no control."""
     page.before("withoutUnpacking")
-    url = f"{PAGE.as_uri()}?old#lang={language}"
-    page.ask("browsingContext.navigate", url=url, wait="complete")
-    page.until("text", "#damaged")
-    assert page.js("attribute", "html", "lang") == language
+    page.ask("browsingContext.navigate", url=f"{PAGE.as_uri()}?old#lang={language}",
+             wait="complete")
+    assert page.until("text", "#damaged") and page.js("attribute", "html", "lang") == language
     assert page.text("body").startswith(said) and page.js("count", "button") == 0
-    page.no_longer("withoutUnpacking")
-    page.open(f"#lang={language}")
+    page.no_longer("withoutUnpacking").open(f"#lang={language}")
     assert page.text("#damaged") == "" and page.js("count", "button") > 9
 
 
 def test_questions_are_asked(page):
     """A question appears at its move alone, and its answer only after A."""
-    page.open("#lesson=mcs-late-link&move=8")
-    page.press("j")
-    page.becomes("9 of 16", "text", "#position")
+    page.open("#lesson=mcs-late-link&move=8").press("j").becomes("9 of 16", "text", "#position")
     assert page.js("answerIsOpen") is False
-    page.press("a")
-    page.becomes(True, "answerIsOpen")
-    page.press("ArrowRight")
+    page.press("a").becomes(True, "answerIsOpen").press("ArrowRight")
     page.becomes(0, "count", "#now .question")
 
 
@@ -145,8 +126,7 @@ def test_questions_are_asked(page):
 })
 def test_what_was_there(page, lesson, wrote):
     """The page names each word that a move wrote, with its old value."""
-    page.open(f"#lesson={lesson}")
-    assert page.js("wrote", list(wrote)) == list(wrote.values())
+    assert page.open(f"#lesson={lesson}").js("wrote", list(wrote)) == list(wrote.values())
 
 
 # The sentences on some moves of the late link.
@@ -158,8 +138,6 @@ SENTENCES = {
     14: "The link is there: Ann finds Bob.",
     15: "Ann clears Bob's locked, and has left; Bob is next, and enters with its next poll.",
 }
-
-
 # And on moves of other lessons: a section that writes two words, a poll with the thread's own
 # ticket, and counts that wrap.
 WRAPS = "After 3 comes 0: the count wraps around."
@@ -180,8 +158,7 @@ def test_what_a_move_did(page):
     page.open("#lesson=mcs-late-link")
     assert page.js("said", list(SENTENCES)) == list(SENTENCES.values())
     for name, sentences in OTHER_SENTENCES.items():
-        page.lesson(name)
-        assert page.js("said", list(sentences)) == list(sentences.values()), name
+        assert page.lesson(name).js("said", list(sentences)) == list(sentences.values()), name
 
 
 # What threads of a FIFO lock with a due section want to do, in the order of their numbers.
@@ -191,8 +168,6 @@ WANTS = {
     "0 wlock\n0 section\n0 downgrade\n": ["wants to become a reader"],
     "0 rlock\n0 section\n1 wlock\n1 section\n": ["announced, awaits the readers"],
 }
-
-
 GERMAN = {
     "wants to stop reading": "möchte aufhören zu lesen", "wants to read": "möchte lesen",
     "wants to stop writing": "möchte aufhören zu schreiben", "wants to write": "möchte schreiben",
@@ -211,8 +186,7 @@ def test_what_is_wanted_at_the_monitor(page, language, of):
 
 def test_what_a_lesson_is_about(page):
     """Before the first move stands what the lesson is about, with the names of words as code."""
-    page.open()
-    page.lesson("mcs-late-link", 0)
+    page.open().lesson("mcs-late-link", 0)
     assert page.js("texts", "#now .about code") == ["next", "locked"]
 
 
@@ -222,10 +196,8 @@ def test_who_has_polled_in_vain(page):
     page.show("lock rw-simple threads 3\n0 rlock\n0 section\n1 wlock\n1 section\n2 rlock\n", 5)
     assert page.js("texts", "#memory-picture .wants + .note") == ["failed poll"]
     assert page.js("texts", "#memory-picture .wants:has(+ .note) title") == ["wants to write"]
-    page.go(4)
-    assert page.js("texts", "#memory-picture .wants + .note") == ["failed poll"], "its first"
-    page.go(3)
-    assert page.js("texts", "#memory-picture .wants + .note") == [], "it has not polled yet"
+    assert page.go(4).js("texts", "#memory-picture .wants + .note") == ["failed poll"], "its first"
+    assert page.go(3).js("texts", "#memory-picture .wants + .note") == [], "it has not polled yet"
 
 
 ASKED = "#! ask {0} hide standing : Who is where?\n#! answer {0} See.\n"
@@ -233,22 +205,19 @@ ONE_AFTER_THE_OTHER = "1 acquire\n1 write\n1 swap\n0 acquire\n0 write\n0 swap\n0
 
 
 def test_who_stands_where_is_not_drawn(page):
-    """A question that hides who holds and who waits hides the order of the queue, who is idle, and
-    who is about to pass the lock on."""
+    """A question that hides standings hides the queue's order, who is idle and who passes on."""
     page.open()
     records = ("texts", "#memory-picture .record .name")
     standings = ("texts", "#memory-picture .record .standing")
     page.show(f"{ASKED.format(7)}lock mcs threads 3\n{ONE_AFTER_THE_OTHER}", 7)
     assert page.js(*records) == ["T0", "T1", "T2"] and page.js(*standings) == ["?", "?", "?"]
     assert page.js("count", "#memory-picture .link") == 1, "the tail is a word"
-    page.press("a")
-    assert page.js(*records) == ["T1", "T0", "T2"]
+    assert page.press("a").js(*records) == ["T1", "T0", "T2"]
     assert page.js(*standings) == ["holds", "queue", "idle"]
     assert page.js("count", "#memory-picture .link") == 2
     page.show(f"{ASKED.format(7)}lock mcs threads 12\n{ONE_AFTER_THE_OTHER}", 7)
     assert page.text("#memory-note") == "" and len(page.js(*records)) == 12
-    page.press("a")
-    assert page.text("#memory-note") == "Idle: 10 threads"
+    assert page.press("a").text("#memory-note") == "Idle: 10 threads"
     page.show(f"{ASKED.format(5)}lock ticket threads 1\n0 acquire\n0 add\n0 read\n0 release\n"
               "0 read\n", 5)
     assert "served" not in page.text("#memory-picture")
@@ -261,9 +230,7 @@ def test_who_stands_where_is_not_drawn(page):
     "out of order": ("mcs-third-linked-before-second", 12, ["2", "2"])})
 def test_where_pointers_lead(page, lesson, move, records):
     """The tail points to the last record, and a record to its successor in the queue."""
-    page.open(f"#lesson={lesson}&move={move}")
-    page.press("a")
-    page.becomes(records, "pointedAt")
+    page.open(f"#lesson={lesson}&move={move}").press("a").becomes(records, "pointedAt")
 
 
 @cases("lesson, move, arrows", {
@@ -271,6 +238,4 @@ def test_where_pointers_lead(page, lesson, move, records):
     "grant": ("mcs-late-link", 16, [[13, 14], [15, 16]])})
 def test_what_ended_a_wait(page, lesson, move, arrows):
     """An arrow leads from the write that ended a wait to the step that waited."""
-    page.open(f"#lesson={lesson}&move={move}")
-    page.press("a")
-    assert page.js("waitsEnded") == arrows
+    assert page.open(f"#lesson={lesson}&move={move}").press("a").js("waitsEnded") == arrows

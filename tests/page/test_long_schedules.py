@@ -42,7 +42,7 @@ def test_loads_and_steps(page, record_property, lock):
     page.open()
     text = text_of(lock, 64, 65536)
     [load] = least(lambda: [page.js("loads", text, ROUNDS)], [LOAD_MS])
-    page.js("inMode", "lessons")
+    page.call("inMode", "lessons")
     steps = least(lambda: page.js("steps", PLACES, STEPS, ROUNDS), [STEP_MS] * (len(PLACES) + 1))
     record_property("measured", f"load {load:.0f} ms, step {max(steps):.0f} ms")
     assert page.shown()["moves"] == 65536
@@ -81,6 +81,5 @@ def test_an_edit_of_a_long_text(page, record_property):
 
 def test_what_undo_keeps(page):
     """Undo takes back at least 20 of the last choices, and keeps at most MOST_BYTES bytes."""
-    page.open()
-    place, kept, size = page.js("undone", CHOICES)
+    place, kept, size = page.open().js("undone", CHOICES)
     assert place == 60060 and 20 <= kept < CHOICES and size <= MOST_BYTES, (place, kept, size)

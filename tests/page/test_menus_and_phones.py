@@ -13,44 +13,34 @@ def test_the_menu_closes(page, width, height):
     """A choice, a click elsewhere or on its button, and Escape close the menu."""
     page.resize(width, height)
     for away in ["#mode-quiz", "#position", "#menu", None]:
-        page.open(LESSON)
-        page.click("#menu")
+        page.open(LESSON).click("#menu")
         assert page.js("isMenu") and page.js("attribute", "#menu", "aria-expanded") == "true"
         if away:
             page.click(away)
         else:
-            page.js("focus", "#theme")
-            page.press("Escape")
-            assert page.js("focused") == "menu"
+            assert page.call("focus", "#theme").press("Escape").js("focused") == "menu"
         assert not page.js("isMenu"), away
         assert page.js("attribute", "#menu", "aria-expanded") == "false"
 
 
 def test_several_files(page):
     """The page shows the first dropped file, lists the others with the lessons, and says so."""
-    page.open(LESSON)
-    page.press("o")
-    assert page.js("count", "#lessons .kept") == 0
-    page.press("Escape")
-    page.js("dropFiles", [
+    assert page.open(LESSON).press("o").js("count", "#lessons .kept") == 0
+    page.press("Escape").call("dropFiles", [
         ["a.txt", f"#! title First\n{ONE}"], ["b.txt", f"#! title Second\n{ONE}"]])
-    page.becomes("First", "text", "#title")
-    told = page.until("text", "#notice")
+    told = page.becomes("First", "text", "#title").until("text", "#notice")
     assert "a.txt is shown" in told and "other file is kept" in told, told
-    page.press("Escape", "o")
-    assert "Second" in page.text("#lessons .kept")
+    assert "Second" in page.press("Escape", "o").text("#lessons .kept")
 
 
 @pytest.mark.parametrize("files, more", [(20, "8 more"), (13, "1 more")])
 def test_many_files(page, files, more):
     """The browser keeps all dropped files, and the start lists them, the last ones in a fold."""
     page.open(LESSON)
-    page.js("dropFiles", [[f"{at}.txt", f"#! title Number {at}.\n{ONE}"] for at in range(files)])
+    page.call("dropFiles", [[f"{at}.txt", f"#! title Number {at}.\n{ONE}"] for at in range(files)])
     assert f"{files - 1} other files are kept" in page.until("text", "#notice")
-    page.press("Escape", "o")
-    assert page.js("texts", "#lessons .kept summary") == [more]
-    page.click("#lessons .kept summary")
-    page.click("#lessons .kept details button:last-of-type")
+    assert page.press("Escape", "o").js("texts", "#lessons .kept summary") == [more]
+    page.click("#lessons .kept summary").click("#lessons .kept details button:last-of-type")
     assert page.text("#title") == f"Number {files - 1}."
 
 
@@ -60,22 +50,17 @@ def test_many_files(page, files, more):
     (0, "The 19 other files are not kept. The browser has no room for more.")])
 def test_files_without_room(page, room, said):
     """If the browser has no room, the page says how many files it keeps, and lists those."""
-    page.before("leaveRoom", room)
-    page.open(LESSON)
-    page.js("dropFiles", [[f"{at}.txt", f"#! title Number {at}.\n{ONE}"] for at in range(20)])
+    page.before("leaveRoom", room).open(LESSON)
+    page.call("dropFiles", [[f"{at}.txt", f"#! title Number {at}.\n{ONE}"] for at in range(20)])
     assert page.until("text", "#notice") == f"0.txt is shown. {said}"
-    page.press("Escape", "o")
-    assert len(page.js("texts", "#lessons [data-kept]")) == room
+    assert len(page.press("Escape", "o").js("texts", "#lessons [data-kept]")) == room
 
 
 def test_a_long_title(page):
     """A long title makes neither the page nor the start scroll sideways."""
-    page.resize(1366, 768)
-    page.open(LESSON)
-    page.show(f"#! title {'W' * 5000}\n{ONE}")
+    page.resize(1366, 768).open(LESSON).show(f"#! title {'W' * 5000}\n{ONE}")
     assert page.js("fitsAcross")
-    page.press("o")
-    assert page.js("fitsAcross")
+    assert page.press("o").js("fitsAcross")
 
 
 def test_a_text_that_is_too_large(page):
@@ -84,25 +69,19 @@ def test_a_text_that_is_too_large(page):
     page.show("lock ticket threads 2\n0 acquire\n0 add\n1 acquire\n1 add\n" + "1 read\n" * 65000)
     said, wrap = page.js("instead")
     assert "too much to edit here" in said and wrap == "soft"
-    page.lesson("mcs-late-link")
-    page.press("o")
+    page.lesson("mcs-late-link").press("o")
     assert page.js("texts", "#lessons [data-kept]") == ["Your own schedule at move 0"]
 
 
 def test_beginning_a_new_schedule(page):
     """The button of the form is in view at 1366 by 768."""
-    page.resize(1366, 768)
-    page.open(LESSON)
-    page.press("g")
-    page.js("openNew")
+    page.resize(1366, 768).open(LESSON).press("g").call("openNew")
     assert page.js("isFree", "#new button")
 
 
 def test_lines_have_numbers(page):
     """A refusal names a line of the code, and the line shows this number."""
-    page.open("#lesson=mcs-late-link&move=7")
-    page.press("g", "w")
-    page.js("choose", 0, "write")
+    page.open("#lesson=mcs-late-link&move=7").press("g", "w").call("choose", 0, "write")
     assert "in line 12 of the code" in page.text("#now")
     line, number, is_counted = page.js("numbered", 12)
     assert line.startswith("cas(tail, me, nil)") and "counter(line)" in number and is_counted
@@ -110,8 +89,7 @@ def test_lines_have_numbers(page):
 
 def test_the_move_on_a_phone(page):
     """A phone shows the holders, the queue, the outcome in words, and the sentence."""
-    page.resize(390, 844)
-    page.open("#lesson=mcs-late-link&move=10")
+    page.resize(390, 844).open("#lesson=mcs-late-link&move=10")
     parts = ["[data-holders]", "[data-queue]", ".plain", ".say"]
     assert page.js("seenOfMove", parts) == parts
 
@@ -122,19 +100,14 @@ def test_the_move_on_a_phone(page):
 def test_how_one_begins(page, device, hint):
     if device == "fingers":
         page.before("withFingers")
-    page.open("#lesson=mcs-late-link&move=0")
-    assert page.text("#now .hint") == hint
+    assert page.open("#lesson=mcs-late-link&move=0").text("#now .hint") == hint
 
 
 def test_a_finger(page):
     """A swipe to the left goes a move forward, and no control is smaller than a finger."""
-    page.resize(390, 844)
-    page.open("#lesson=mcs-late-link&move=10")
-    page.js("swipe", -120)
+    page.resize(390, 844).open("#lesson=mcs-late-link&move=10").call("swipe", -120)
     assert page.js("place") == 11
-    page.js("swipe", 120)
-    assert page.js("place") == 10
-    assert page.js("small") == []
+    assert page.call("swipe", 120).js("place") == 10 and page.js("small") == []
 
 
 @cases("swipe, place", {
@@ -143,21 +116,15 @@ def test_a_finger(page):
     "steep up": ((120, 1, "lanes", -60), 10), "slanted": ((-120, 1, "lanes", 59), 11),
     "beside the lanes": ((120, 1, "now"), 9)})
 def test_which_swipe_steps(page, swipe, place):
-    """One finger makes a step that moves by more than 48, and more than twice as far across as
-    down. Two fingers zoom the page."""
-    page.resize(390, 844)
-    page.open("#lesson=mcs-late-link&move=10")
-    page.js("swipe", *swipe)
+    """A step moves by more than 48, and twice as far across as down. Two fingers zoom."""
+    page.resize(390, 844).open("#lesson=mcs-late-link&move=10").call("swipe", *swipe)
     assert page.js("place") == place
 
 
 def test_a_finger_in_the_text(page):
     """A finger that moves over the text scrolls the text, and makes no step."""
-    page.resize(390, 844)
-    page.open("#lesson=mcs-late-link&move=10")
-    page.press("e")
-    page.js("swipe", -120, 1, "text")
-    assert page.shown(mode="own")["place"] == 10
+    page.resize(390, 844).open("#lesson=mcs-late-link&move=10").press("e")
+    assert page.call("swipe", -120, 1, "text").shown(mode="own")["place"] == 10
 
 
 @cases("size, part, place", {
@@ -166,9 +133,7 @@ def test_a_finger_in_the_text(page):
     "beside wide code": ((844, 390), "now", 11)})
 def test_a_finger_in_a_wide_part(page, size, part, place):
     """A finger that moves over a part that is wider than its room scrolls it, and makes no step."""
-    page.resize(*size)
-    page.open("#lesson=mcs-late-link&move=10")
-    page.js("swipe", -120, 1, part)
+    page.resize(*size).open("#lesson=mcs-late-link&move=10").call("swipe", -120, 1, part)
     assert page.js("place") == place
 
 
@@ -188,25 +153,18 @@ def test_ticks_that_would_be_a_bar(page):
     ticks = "#slider-picture .tick.enters"
     assert page.js("count", ticks) == 5
     turn = "0 acquire\n0 add\n0 read\n0 release\n0 read\n0 write\n"
-    page.show("lock ticket threads 1\n" + turn * 1000, 6000)
-    assert page.js("count", ticks) == 0
+    assert page.show("lock ticket threads 1\n" + turn * 1000, 6000).js("count", ticks) == 0
 
 
 def test_without_the_machine(page):
     """Tools that need the machine are disabled, and the reader can close the banner."""
-    page.before("withoutMachine")
-    page.resize(1366, 768)
-    page.open(LESSON)
+    page.before("withoutMachine").resize(1366, 768).open(LESSON)
     assert page.text("#banner span").startswith("This browser has no 64-bit WebAssembly memory, so")
     assert page.js("disabled", ["mode-own", "mode-play", "show-find"]) == [True] * 3
-    page.press("e")
-    assert page.shown()["mode"] == "lessons"
-    page.press("o")
-    assert page.js("texts", "#lessons .ways :disabled b") == page.js(
+    assert page.press("e").shown()["mode"] == "lessons"
+    assert page.press("o").js("texts", "#lessons .ways :disabled b") == page.js(
         "texts", "#lessons .ways [data-way]:not([data-way=plans]) b")
     assert page.js("count", "#lessons .ways :enabled") == 1
-    page.press("Escape")
-    [before] = page.js("tops", ["#time"])
-    page.click("#close-banner")
-    [after] = page.js("tops", ["#time"])
+    [before] = page.press("Escape").js("tops", ["#time"])
+    [after] = page.click("#close-banner").js("tops", ["#time"])
     assert after < before < 145, (before, after)

@@ -11,9 +11,8 @@ import re
 
 import pytest
 
-from reports import LESSONS, moves_of
+from reports import LESSONS, MOVES, SCHEDULES
 from tab import PAGE
-from tree import EXAMPLES
 
 FEW = 40
 # Font families of systems, each with a monospaced family.
@@ -32,12 +31,10 @@ HIDES = re.compile(r"^#! ask (\d+) hide (?:\w+ )*sentence (?:\w+ )*:", re.MULTIL
 
 
 def states():
-    """(link, whether a question hides the sentence) of each place of each lesson, with the places
-    of refused moves."""
+    """(link, whether a question hides the sentence) of each place of each lesson."""
     for name, report in LESSONS.items():
-        text = (EXAMPLES / f"{name}.schedule").read_text("latin-1")
-        asked = {int(move) for move in HIDES.findall(text)}
-        last = len(moves_of(report)) + report.startswith("refused") + ("\nrefused" in report)
+        asked = {int(move) for move in HIDES.findall(SCHEDULES[name])}
+        last = len(MOVES[name]) + report.startswith("refused") + ("\nrefused" in report)
         for place in range(last + 1):
             yield f"#lesson={name}&move={place}", place in asked
 
@@ -78,9 +75,7 @@ def test_letters_of_the_system(page, without_letters, letters):
     links = [one for one in states() if one[0].split("&")[0].removeprefix("#lesson=")
              in OF_EACH_LOCK][::THIRD]
     for size in [(1280, 720), (1024, 768), (390, 844)]:
-        page.resize(*size)
-        page.open(links[0][0], path)
-        assert page.js("drawnIn", letters), letters
+        assert page.resize(*size).open(links[0][0], path).js("drawnIn", letters), letters
         found = zip(links, page.js("wrongAt", links))
         wrong.update({(link, *size): said for (link, _), said in found if said})
     assert not wrong, (len(wrong), list(wrong.items())[:FEW])

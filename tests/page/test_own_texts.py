@@ -10,10 +10,7 @@ MOST_OF_A_TRACE = 4194304  # bytes
 
 def test_typed(page):
     """The page plays a text while the reader types it into the field."""
-    page.open("#lesson=mcs-late-link&move=0")
-    page.click("#mode-own")
-    page.click("#clear")
-    page.click("#text")
+    page.open("#lesson=mcs-late-link&move=0").click("#mode-own").click("#clear").click("#text")
     page.press("Control+a")
     page.press(*"\n".join(["lock rw-simple threads 2", "0 rlock", "0 section", "1 wlock",
                            "1 sektion"]).replace("\n", "\ue007"))
@@ -38,9 +35,7 @@ def test_typed(page):
 def test_files(page, tmp_path, data, said, count):
     path = tmp_path / "schedule.txt"
     path.write_bytes(data)
-    page.open()
-    page.choose_file("#file", path)
-    page.until("verdictHas", said)
+    page.open().choose_file("#file", path).until("verdictHas", said)
     assert page.shown()["moves"] == count
     assert page.js("count", "#text:disabled") == (len(data) > MOST_EDITED)
 
@@ -51,8 +46,7 @@ def test_a_file_that_was_changed(page, tmp_path):
     page.open()
     for text, end in [(HEAD, "end 2"), (HEAD + b"0 read\n", "end 3")]:
         path.write_bytes(text)
-        page.choose_file("#file", path)
-        page.until("verdictEnds", end)
+        page.choose_file("#file", path).until("verdictEnds", end)
         assert page.js("value", "#file") == ""
 
 
@@ -78,25 +72,17 @@ def test_a_title_by_default(page):
 
 def test_the_line_of_the_move(page):
     """The line of the move has a sign beside its number, and the caret chooses the move."""
-    page.open()
-    page.show("lock ticket threads 2\n0 acquire\n0 add\n0 read\n", 2)
+    page.open().show("lock ticket threads 2\n0 acquire\n0 add\n0 read\n", 2)
     assert page.text("#gutter .here") == "▸ 3"
-    page.click("#text")
-    page.shown(position="3 of 3")
-    page.press("ArrowUp", "ArrowUp")
-    page.shown(position="2 of 3")
-    page.press("Control+Home", "ArrowDown", "ArrowDown", "ArrowDown")
-    page.shown(position="3 of 3")
-    page.press("ArrowUp")
-    page.shown(position="2 of 3")
-    page.click("#text")
-    page.shown(position="3 of 3")
-    page.go(1)
-    page.press("Home")
+    page.click("#text").shown(position="3 of 3")
+    page.press("ArrowUp", "ArrowUp").shown(position="2 of 3")
+    page.press("Control+Home", "ArrowDown", "ArrowDown", "ArrowDown").shown(position="3 of 3")
+    page.press("ArrowUp").shown(position="2 of 3")
+    page.click("#text").shown(position="3 of 3")
+    page.go(1).press("Home")
     assert page.shown()["position"] == "1 of 3", "the caret is in the same line"
     # In another text the caret was in no line before.
-    page.show("lock ticket threads 2\n0 acquire\n0 add\n1 acquire\n")
-    page.click("#text")
+    page.show("lock ticket threads 2\n0 acquire\n0 add\n1 acquire\n").click("#text")
     page.shown(position="3 of 3")
 
 
@@ -105,27 +91,20 @@ def test_numbers_beside_a_long_text(page):
     page.open()
     page.show("lock ticket threads 2\n0 acquire\n0 add\n1 acquire\n1 add\n" + "1 read\n" * 200)
     for move in (0, 150, 204, 3):
-        page.go(move)
-        page.js("blur")
-        shown = page.js("marked")
+        shown = page.go(move).call("blur").js("marked")
         assert shown["number"] == move + 1 and shown["isSeen"] and set(shown["far"]) == {0}, shown
         first, last = shown["seen"][0], shown["seen"][-1]
         assert shown["seen"] == list(range(first, last + 1)), shown
         assert len(shown["seen"]) >= shown["most"] - 1 > 5, shown
     # So is a line next to the last one in view.
     for move in range(4, 4 + shown["most"]):
-        page.go(move)
-        page.js("blur")
-        assert page.js("marked")["isSeen"], move
-    page.js("writeAt", 1100)
-    page.becomes("51", "text", "#gutter div div")
-    page.go(200)
+        assert page.go(move).call("blur").js("marked")["isSeen"], move
+    page.call("writeAt", 1100).becomes("51", "text", "#gutter div div").go(200)
     assert page.text("#gutter div div") == "51", "who writes is not led away"
 
 
 def test_numbers_while_one_types(page):
-    page.open()
-    page.show("lock ticket threads 2\n")
+    page.open().show("lock ticket threads 2\n")
     assert page.js("numbersOf", "lock ticket threads 2\n0 acquire\n0 add\n") == 4
 
 
@@ -134,30 +113,23 @@ def test_returns_within_a_line(page):
     page.open()
     for begin, end in [("# a\rb\r\n", "\r\n"), ("# a\rb\r\r\n", "\r")]:
         page.show(f"{begin}lock ticket threads 1\r\n0 acquire{end}")
-        page.js("click", "#verdict [data-returns]")
-        assert page.shown(moves=1, place=0)["text"] == (
+        assert page.call("click", "#verdict [data-returns]").shown(moves=1, place=0)["text"] == (
             f"# a\rb\nlock ticket threads 1\n0 acquire{end[1:]}")
 
 
 def test_the_line_of_a_refused_move(page):
     """The page shows the refused move while the caret is in its line or below."""
-    page.open()
-    page.show("lock ticket threads 2\n0 acquire\n0 read\n1 acquire\n", 1)
-    page.click("#text")
+    page.open().show("lock ticket threads 2\n0 acquire\n0 read\n1 acquire\n", 1).click("#text")
     page.press("Control+Home", "ArrowDown", "ArrowDown")
     assert page.shown(position="refused")["place"] == 2
-    page.press("ArrowUp")
-    page.shown(position="1 of 1")
-    page.press("ArrowDown", "ArrowDown")
-    page.shown(position="refused")
+    page.press("ArrowUp").shown(position="1 of 1")
+    page.press("ArrowDown", "ArrowDown").shown(position="refused")
 
 
 def test_dropped_and_pasted(page):
-    page.open()
-    page.js("dropFile", "lock mcs threads 1\n0 acquire\n")
-    page.until("verdictEnds", "end 1")
+    page.open().call("dropFile", "lock mcs threads 1\n0 acquire\n").until("verdictEnds", "end 1")
     assert page.text("#notice") == "", "there is no other file"
-    page.js("paste", "lock rw-fifo threads 1\n0 rlock\n0 section\n")
+    page.call("paste", "lock rw-fifo threads 1\n0 rlock\n0 section\n")
     page.until("verdictEnds", "end 2")
 
 
@@ -167,13 +139,10 @@ ONE_MOVE = "lock mcs threads 1\n0 acquire\n"
 @pytest.mark.parametrize("field", ["#text", "#find-sketch", "#find-rounds"])
 def test_a_text_brought_into_a_field(page, field):
     """A field takes the text itself, and the schedule stays. A file is opened there too."""
-    page.open("#lesson=mcs-late-link&move=9")
-    page.press("e")
-    before = page.shown()
+    before = page.open("#lesson=mcs-late-link&move=9").press("e").shown()
     for kind in ["dragover", "drop", "paste"]:
         assert page.js("bringInto", kind, field, ONE_MOVE), kind
-    assert page.shown() == before
-    assert not page.js("dragFileOver", field)
+    assert page.shown() == before and not page.js("dragFileOver", field)
     assert not page.js("dropFile", ONE_MOVE, field)
     page.until("verdictEnds", "end 1")
 
@@ -192,8 +161,7 @@ def test_a_text_brought_to_another_control(page, control):
 
 def test_a_trace_dropped_into_the_text(page):
     """It takes the place of the schedule, as a trace that is pasted does."""
-    page.open("#lesson=mcs-late-link&move=9")
-    page.press("e")
+    page.open("#lesson=mcs-late-link&move=9").press("e")
     assert not page.js("bringInto", "drop", "#text", TRACE)
     assert page.shown(moves=2)["area"] == TRACE
 
@@ -201,36 +169,30 @@ def test_a_trace_dropped_into_the_text(page):
 def test_a_file_that_is_too_large(page):
     """A file of more than 4,194,304 bytes is not opened, since a part would look like the whole.
     Without its values, a trace has at most as many bytes as a schedule."""
-    page.open("#lesson=mcs-late-link&move=9")
-    before = page.shown()
-    page.js("dropLarge", TRACE, MOST_OF_A_TRACE + 1)
+    before = page.open("#lesson=mcs-late-link&move=9").shown()
+    page.call("dropLarge", TRACE, MOST_OF_A_TRACE + 1)
     page.becomes("A file of more than 4,194,304 bytes is not opened.", "text", "#notice")
     assert page.shown() == before
-    page.js("dropLarge", TRACE, MOST_OF_A_TRACE)
-    page.until("verdictEnds", "fault TooLong")
+    page.call("dropLarge", TRACE, MOST_OF_A_TRACE).until("verdictEnds", "fault TooLong")
     begin = "lock ticket threads 2\n0 acquire\n0 add\n1 acquire\n1 add\n"
     trace = begin + "1 read now_serving found 0\n" * 45000
     assert MOST < len(trace) < MOST_OF_A_TRACE
-    page.js("dropFile", trace)
-    page.until("verdictEnds", "end 45004")
+    page.call("dropFile", trace).until("verdictEnds", "end 45004")
 
 
 def test_a_text_that_is_opened_while_one_types(page):
     """What was typed a moment before a lesson is opened is no edit of the lesson."""
-    page.open("#lesson=mcs-late-link&move=9")
-    page.press("e")
-    page.js("typeAndOpen", "lock mcs threads 1\n", "ticket-hand-over")
+    page.open("#lesson=mcs-late-link&move=9").press("e")
+    page.call("typeAndOpen", "lock mcs threads 1\n", "ticket-hand-over")
     page.becomes("#lesson=ticket-hand-over&move=0", "address")
     page.shown(lesson="ticket-hand-over", moves=10)
 
 
 def test_a_file_that_cannot_be_read(page):
     """The page says so, and what it shows stays."""
-    page.open("#lesson=mcs-late-link&move=9")
-    page.js("readNothing")
-    page.js("dropFile", "lock mcs threads 1\n0 acquire\n")
-    page.becomes("The file could not be read.", "text", "#notice")
-    page.shown(place=9)
+    page.open("#lesson=mcs-late-link&move=9").call("readNothing")
+    page.call("dropFile", "lock mcs threads 1\n0 acquire\n")
+    page.becomes("The file could not be read.", "text", "#notice").shown(place=9)
 
 
 def test_saved(page, tmp_path):
@@ -238,10 +200,7 @@ def test_saved(page, tmp_path):
     data = b"# \xff no text\r\nlock ticket threads 1\n0 acquire"
     path = tmp_path / "mine.txt"
     path.write_bytes(data)
-    page.open("#lesson=mcs-late-link&move=0")
-    page.click("#mode-own")
-    page.choose_file("#file", path)
+    page.open("#lesson=mcs-late-link&move=0").click("#mode-own").choose_file("#file", path)
     page.until("verdictEnds", "end 1")
     assert page.js("fieldOfOpen") == "file"
-    page.click("#save")
-    assert page.saved("schedule.txt", len(data)) == data
+    assert page.click("#save").saved("schedule.txt", len(data)) == data

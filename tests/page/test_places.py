@@ -28,8 +28,7 @@ def same(parts, side):
 
 def test_the_head_of_a_move(page):
     """The number, the thread with its move, and at the right edge the outcome."""
-    page.open(LATE_LINK)
-    page.press("a")
+    page.open(LATE_LINK).press("a")
     [now], [number], [who], [outcome] = boxes(
         page, "#now", "#now .head > b", "#now .head > span:first-of-type", "#now .outcome")
     assert in_a_row([number, who, outcome])
@@ -38,8 +37,7 @@ def test_the_head_of_a_move(page):
 
 def test_what_is_said_of_a_move(page):
     """Each fact is beside its name, and the facts are below each other in one column."""
-    page.open("#lesson=ticket-hand-over&move=5")
-    page.press("a")
+    page.open("#lesson=ticket-hand-over&move=5").press("a")
     names, facts, *others = boxes(
         page, "#now .facts dt", "#now .facts dd", "#now .head", "#now .own-say", "#now .question",
         "#now .facts", "#now details.aside")
@@ -51,8 +49,7 @@ def test_what_is_said_of_a_move(page):
 
 def test_lines_of_code(page):
     """Threads are at the right edge of their lines, which are below each other."""
-    page.open("#lesson=mcs-third-linked-before-second&move=12")
-    page.press("a")
+    page.open("#lesson=mcs-third-linked-before-second&move=12").press("a")
     [code], lines, words, discs = boxes(
         page, "#code-lines", ".code-line", ".code-line code", ".code-line .discs:has(.disc)")
     [round_ones] = boxes(page, "#code .disc")
@@ -66,8 +63,7 @@ def test_lines_of_code(page):
 
 def test_the_text_and_its_verdict(page):
     """Numbers are beside the text, tools above it, and the verdict below it."""
-    page.open()
-    page.show("lock ticket threads 2\n0 aquire\n")
+    page.open().show("lock ticket threads 2\n0 aquire\n")
     [side], [tools], [field], [gutter], [text], [band], [verdict] = boxes(
         page, "#side", "#own .row", "#field", "#gutter", "#text", "#band .fault", "#verdict")
     assert in_a_column([tools, field, verdict]) and in_a_row([gutter, text])
@@ -79,17 +75,14 @@ def test_the_text_and_its_verdict(page):
 
 def test_room_for_the_text(page):
     """In a low window at least five lines of the text have room, and the rest is scrolled."""
-    page.resize(1366, 600)
-    page.open("#lesson=mcs-third-linked-before-second&move=12")
-    page.press("g")
+    page.resize(1366, 600).open("#lesson=mcs-third-linked-before-second&move=12").press("g")
     [[field], [text]] = boxes(page, "#field", "#text")
     assert all(one["bottom"] - one["top"] >= 5 * 22 for one in (field, text))
 
 
 def test_choices_of_threads(page):
     """Each row has the disc of a thread, its name, and its choices at the right edge."""
-    page.open("#lesson=fifo-writer-behind-downgrade&move=3")
-    page.press("g")
+    page.open("#lesson=fifo-writer-behind-downgrade&move=3").press("g")
     rows = list(zip(*boxes(page, "#choices .disc", "#choices .who", "#choices .choices"),
                     strict=True))
     assert len(rows) == 2 and all(in_a_row(row) for row in rows)
@@ -103,8 +96,7 @@ def test_choices_of_threads(page):
     (390, ["back", "forward", "run", "slider", "position"])])
 def test_the_foot(page, width, parts):
     """The buttons, the slider and the position are in a row at the foot of the window."""
-    page.resize(width, 900)
-    page.open(LATE_LINK)
+    page.resize(width, 900).open(LATE_LINK)
     found = [one for [one] in boxes(page, *(f"footer #{part}" for part in parts))]
     assert in_a_row(found), found
     assert found[0]["left"] <= 23 and width - 23 <= found[-1]["right"] <= width
@@ -125,14 +117,12 @@ def test_the_head_of_the_page(page):
 @pytest.mark.parametrize("width, beside", [(1440, True), (800, False)])
 def test_why_a_line_is_there(page, width, beside):
     """The code is beside the changes, or above them in a narrow window."""
-    page.resize(width, 900)
-    page.open(LATE_LINK)
-    page.press("y")
+    page.resize(width, 900).open(LATE_LINK).press("y")
     [code], [changes], [back], [place], [forward] = boxes(
         page, "#why-code", "#why-changes", "#why-back", "#why-place", "#why-next")
     assert in_a_row([back, place, forward])
     assert (code["right"] <= changes["left"]) == beside == (code["bottom"] > changes["top"] + 1)
-    page.js("scrollDown", "#why")
+    page.call("scrollDown", "#why")
     [code], [changes] = boxes(page, "#why-code", "#why-changes")
     assert code["top"] >= 0 if beside else in_a_column([code, changes])
 
@@ -154,17 +144,14 @@ def test_cards_of_the_start(page):
 
 def test_a_notice(page):
     """It is in the middle of the window, at its foot."""
-    page.open(LATE_LINK)
-    page.press("l")
-    page.until("text", "#notice")
+    page.open(LATE_LINK).press("l").until("text", "#notice")
     [[notice]] = boxes(page, "#notice")
     assert abs(notice["left"] + notice["right"] - 1440) <= 2 and 860 < notice["bottom"] < 900
 
 
 def test_what_is_said_without_the_machine(page):
     """The button that closes it is at the right edge, beside what is said, above all parts."""
-    page.before("withoutMachine")
-    page.open(LATE_LINK)
+    page.before("withoutMachine").open(LATE_LINK)
     [banner], [said], [close], [work] = boxes(
         page, "#banner", "#banner span", "#banner button", "#work")
     assert in_a_row([said, close]) and in_a_column([banner, work])
@@ -193,8 +180,7 @@ def are_near(parts, side, other_side):
 @cases("width, height, link, rows", ROWS)
 def test_the_parts_of_the_page(page, width, height, link, rows):
     """Parts fill the page's width and the room above its foot, with narrow gaps between them."""
-    page.resize(width, height)
-    page.open(link)
+    page.resize(width, height).open(link)
     grid = [*(row.split() for row in rows), ["foot"]]
     names = sorted({name for row in grid for name in row} - {"foot"})
     found = dict(zip([*names, "foot"], boxes(page, *(f"#{name}" for name in names), "footer")))

@@ -5,7 +5,7 @@ import zlib
 
 import pytest
 
-from reports import LESSONS, moves_of
+from reports import MOVES
 from tree import cases
 
 MOST_SHEETS = 12
@@ -14,14 +14,12 @@ LATE_LINK = "#lesson=mcs-late-link&move=9"
 
 def test_a_lesson(page):
     name = "mcs-third-linked-before-second"
-    page.open(f"#lesson={name}&move=12")
-    assert page.pdf().startswith(b"%PDF")
+    assert page.open(f"#lesson={name}&move=12").pdf().startswith(b"%PDF")
     rows = page.js("rows")
     assert [row[:4] + row[5:] for row in rows] == [
         [str(number), f"thread {thread}", word, outcome, hold, queue]
-        for number, (thread, word, outcome, hold, queue) in enumerate(moves_of(LESSONS[name]), 1)]
-    assert all(row[4] for row in rows)
-    assert page.js("count", "#paper .strip") >= 2
+        for number, (thread, word, outcome, hold, queue) in enumerate(MOVES[name], 1)]
+    assert all(row[4] for row in rows) and page.js("count", "#paper .strip") >= 2
     assert page.js("count", "#paper .future") == 0
     assert page.js("count", "#paper > p") == 0, "all moves are there"
 
@@ -38,10 +36,8 @@ TRACE = """lock ticket threads 2
 
 def test_a_trace(page):
     """A row of the table has the line as it was recorded, and where."""
-    page.open(LATE_LINK)
-    page.js("paste", TRACE)
-    page.shown(moves=3)
-    page.js("drawPaper")
+    page.open(LATE_LINK).call("paste", TRACE).shown(moves=3)
+    page.call("drawPaper")
     assert [row[2].split() for row in page.js("rows")] == [
         ["acquire", "mine.c:10"], ["add", "next_ticket", "found", "0", "mine.c:13"], ["read"]]
 
@@ -51,32 +47,26 @@ def test_a_trace(page):
     "de": ("de", ["Zug", "Thread", "Aufruf oder Schritt", "Ergebnis", "Was er tat", "Hält",
                   "Schlange"])})
 def test_the_heads_of_columns(page, language, heads):
-    page.open(f"{LATE_LINK}&lang={language}")
-    page.js("drawPaper")
+    page.open(f"{LATE_LINK}&lang={language}").call("drawPaper")
     assert page.js("texts", "#paper th") == heads
 
 
 def test_only_paper_is_printed(page):
-    page.open("#lesson=ticket-hand-over&move=5")
-    page.js("drawPaper")
+    page.open("#lesson=ticket-hand-over&move=5").call("drawPaper")
     assert page.js("onPaper") == [True, False, "rgb(255, 255, 255)", "rgb(0, 0, 0)"]
 
 
 def test_no_explanation_is_printed(page):
-    page.open("#lesson=ticket-hand-over&move=5")
-    page.js("pointAt", "main .term")
-    page.press("l", "e")
+    page.open("#lesson=ticket-hand-over&move=5").call("pointAt", "main .term").press("l", "e")
     page.until("text", "#notice")
-    page.js("pointAt", "main .term")
-    page.js("drawPaper")
+    page.call("pointAt", "main .term").call("drawPaper")
     parts = ["tip-box", "notice", "side", "time"]
     assert page.js("screenAndPaper", parts) == [parts, []]
 
 
 def test_no_warning_is_printed(page):
     """What is wrong with a link, here that it has no end, is not on the sheets."""
-    page.open("#schedule=bG9jayBtY3MgdGhyZWFkcyAyCjAgYWNxdWlyZQo")
-    page.js("drawPaper")
+    page.open("#schedule=bG9jayBtY3MgdGhyZWFkcyAyCjAgYWNxdWlyZQo").call("drawPaper")
     assert page.js("screenAndPaper", ["damaged", "time"]) == [["damaged", "time"], []]
 
 
@@ -99,8 +89,7 @@ def turns(threads, count):
 @pytest.mark.parametrize("threads, count", [(2, 1500), (8, 60), (12, 60), (64, 381), (64, 65536)])
 def test_a_long_schedule(page, threads, count):
     """A long schedule has as many moves around the current one as fit on twelve sheets."""
-    page.open()
-    page.show(turns(threads, count), count // 2)
+    page.open().show(turns(threads, count), count // 2)
     number = sheets(page.pdf())
     rows = [int(row[0]) for row in page.js("rows")]
     assert len(rows) >= 60 and rows[0] <= count // 2 <= rows[-1], rows
@@ -111,39 +100,30 @@ def test_a_long_schedule(page, threads, count):
 # two for all else. One move more would need a row on a thirteenth sheet.
 @pytest.mark.parametrize("move, first, last", [(0, 1, 133), (750, 684, 816), (1500, 1368, 1500)])
 def test_which_part_is_printed(page, move, first, last):
-    """Above a part of a long schedule it is said which part it is, with the shown move in its
-    middle."""
-    page.open()
-    page.show(turns(2, 1500), move)
-    page.js("drawPaper")
+    """Above a part it is said which it is. The shown move is in its middle."""
+    page.open().show(turns(2, 1500), move).call("drawPaper")
     assert [int(row[0]) for row in page.js("rows")] == list(range(first, last + 1))
     assert page.text("#paper > p") == f"Moves {first} to {last} of 1500"
 
 
 def test_a_long_queue(page):
-    """Of a long list of threads the table has the first, and how many there are. Nobody holds the
-    lock, since thread 0 never polls."""
-    page.open()
-    page.show(turns(64, 381), 381)
-    page.js("drawPaper")
+    """The first of a long list, and how many. Nobody holds, since thread 0 never polls."""
+    page.open().show(turns(64, 381), 381).call("drawPaper")
     assert page.js("rows")[-1][5:] == ["-", "0,1,2,3,4,5,6,7,… (64)"]
 
 
 def test_questions_on_paper(page):
-    """The questions of all moves are printed, with their answers, from that before the first move
-    to that of the last one."""
+    """The questions of all moves with their answers, also before the first and at the last."""
     page.open()
     asked = "".join(f"#! ask {move} Number {move}?\n#! answer {move} It is.\n" for move in range(3))
-    page.show(f"lock ticket threads 1\n{asked}0 acquire\n0 add\n")
-    page.js("drawPaper")
+    page.show(f"lock ticket threads 1\n{asked}0 acquire\n0 add\n").call("drawPaper")
     assert page.js("texts", "#paper .asked dt") == ["0", "1", "2"]
     assert page.js("texts", "#paper .asked .answer") == ["It is."] * 3
 
 
 def test_a_refused_move_on_paper(page):
     """The strips have the refused move after the accepted ones, with its number crossed out."""
-    page.open("#lesson=refused-already-holds&move=0")
-    page.js("drawPaper")
+    page.open("#lesson=refused-already-holds&move=0").call("drawPaper")
     numbers = [str(number) for number in range(1, 3)]
     assert page.js("texts", "#paper .strip .number") == [*numbers, "✕"]
     assert page.js("count", "#paper .strip [data-refused] .refused-mark") == 1
@@ -151,16 +131,11 @@ def test_a_refused_move_on_paper(page):
 
 
 def test_forty_moves_in_one_row(page):
-    page.open()
-    page.show(turns(8, 40), 40)
-    page.js("drawPaper")
-    assert page.js("movesOfStrips") == [40]
+    assert page.open().show(turns(8, 40), 40).call("drawPaper").js("movesOfStrips") == [40]
 
 
 def test_memory_and_code(page):
-    page.open(LATE_LINK)
-    page.js("drawPaper")
-    figure = page.js("words", "#paper .figure")
+    figure = page.open(LATE_LINK).call("drawPaper").js("words", "#paper .figure")
     for part in ["after move 9", "tail", "no link", "cas(tail, me, nil), or else:", "pred = Ann"]:
         assert part in figure
     assert page.js("words", "#paper td:nth-child(2)") == "Ann (0)"
@@ -177,9 +152,7 @@ def test_memory_on_paper(page, lesson, moves):
     """A sheet has the memory and the line of code of the move that is shown on the page."""
     page.open(f"#lesson={lesson}")
     for move in moves:
-        page.go(move)
-        page.press("a")
-        page.js("drawPaper")
+        page.go(move).press("a").call("drawPaper")
         for there, here in [("#memory-picture text", "#paper .figure svg text"),
                             ("#code-lines .here code", "#paper .code .here code"),
                             ("#memory-says", "#paper .figure svg + p")]:
@@ -214,11 +187,9 @@ def test_marks_to_fill_in(page):
     thread with a name has its number too: the table names it by both."""
     page.open()
     for name, given in GIVEN.items():
-        page.lesson(name)
-        page.js("print", "exercise")
-        shown = page.js("marksToFillIn")
+        shown = page.lesson(name).call("print", "exercise").js("marksToFillIn")
         assert shown["askew"] == shown["overlaps"] == [], name
-        words = [move[1] for move in moves_of(LESSONS[name])]
+        words = [move[1] for move in MOVES[name]]
         assert shown["words"] == [[number, word] for number, word in enumerate(words, 1)], name
         assert shown["notes"] == [f"thread {thread}" for thread in given], name
 
@@ -229,8 +200,7 @@ def test_marks_of_many_threads(page, threads):
     page.open()
     names = "".join(f"#! name {thread} Name{thread}\n" for thread in range(threads))
     calls = "".join(f"{thread} acquire\n" for thread in range(threads))
-    page.show(f"{names}lock ticket threads {threads}\n{calls}")
-    page.js("print", "exercise")
+    page.show(f"{names}lock ticket threads {threads}\n{calls}").call("print", "exercise")
     shown = page.js("marksToFillIn")
     assert shown["askew"] == shown["overlaps"] == []
     assert shown["words"] == [[number, "acquire"] for number in range(1, threads + 1)]
@@ -240,29 +210,23 @@ def test_marks_of_many_threads(page, threads):
 
 def test_a_black_screen_on_paper(page):
     """The black screen of a hall changes nothing on paper."""
-    page.open(f"{LATE_LINK}&hall")
-    page.js("drawPaper")
+    page.open(f"{LATE_LINK}&hall").call("drawPaper")
     bodies = [page.js("bodyOnPaper")]
-    page.press(".")
-    assert page.js("count", "body.blank") == 1
+    assert page.press(".").js("count", "body.blank") == 1
     bodies.append(page.js("bodyOnPaper"))
     assert bodies[0] == bodies[1] and bodies[0][0] > 400, bodies
 
 
 def test_after_an_exercise_sheet(page):
     """After an exercise sheet, the browser's own command prints the answers again."""
-    page.open(LATE_LINK)
-    page.js("print", "exercise")
-    page.js("drawPaper")
+    page.open(LATE_LINK).call("print", "exercise").call("drawPaper")
     assert "record that nobody reads" in page.js("words", "#paper")
 
 
 def test_a_link_asks_for_a_sheet(page):
     """A link offers a sheet, and Enter prints it."""
-    page.open(f"{LATE_LINK}&sheet=exercise")
-    assert page.js("offered") == "exercise"
-    page.js("stubPrint")
-    page.press("Enter")
+    assert page.open(f"{LATE_LINK}&sheet=exercise").js("offered") == "exercise"
+    page.call("stubPrint").press("Enter")
     assert page.js("printed") == "exercise" and page.js("count", "dialog[open]") == 0
 
 
@@ -284,10 +248,7 @@ UNSEEN = ".tools, footer, #work, #bar, #notice, dialog, #paper button"
 @cases("sheet, wanted", {"worked": ("worked", WORKED), "exercise": ("exercise", EXERCISE)})
 def test_where_parts_are_on_a_sheet(page, sheet, wanted):
     """Each part is as wide as its place, below the one before it, and nothing else is printed."""
-    page.resize(1040, 700)
-    page.open(LATE_LINK)
-    page.js("print", sheet)
-    page.press("?")
+    page.resize(1040, 700).open(LATE_LINK).call("print", sheet).press("?")
     parts = page.js("onSheet", [*(f"#paper {one}" for one in wanted), "#paper > *", UNSEEN])
     assert parts.pop(UNSEEN) == []
     shown = parts.pop("#paper > *")
@@ -304,11 +265,8 @@ def test_where_parts_are_on_a_sheet(page, sheet, wanted):
 
 
 def test_room_to_write(page):
-    """Two lines of 7 mm are below each question, and a row of the table has 5.7 mm for an answer,
-    in columns as wide as each other."""
-    page.resize(1040, 700)
-    page.open(LATE_LINK)
-    page.js("print", "exercise")
+    """Two lines of 7 mm below each question, and 5.7 mm for an answer, in equal columns."""
+    page.resize(1040, 700).open(LATE_LINK).call("print", "exercise")
     lines, rows = page.js("onSheet", ["#paper p.blank", "#paper .blanks td:nth-child(n + 4)"]
                           ).values()
     assert [height for *_, height in lines] == [26] * 10
@@ -324,18 +282,13 @@ POLLS = "0 wlock\n0 section\n1 rlock\n" + "1 section\n" * 28
 @pytest.mark.parametrize("threads", [2, 6])
 @pytest.mark.parametrize("sheet", ["worked", "exercise"])
 def test_no_word_runs_into_the_next(page, sheet, threads):
-    page.resize(1600, 900)
-    page.open(LATE_LINK)
-    page.show(f"lock rw-fifo threads {threads}\n{POLLS}")
-    page.js("print", sheet)
-    assert page.js("wordsOnWords") == [[], []]
+    page.resize(1600, 900).open(LATE_LINK).show(f"lock rw-fifo threads {threads}\n{POLLS}")
+    assert page.call("print", sheet).js("wordsOnWords") == [[], []]
 
 
 def test_a_fault_on_paper(page):
     """The button that mends a line is not printed, and the lines around it are, to the left."""
-    page.open(LATE_LINK)
-    page.show("lock ticket threads 2\n0 aquire\n1 acquire\n")
-    page.js("drawPaper")
+    page.open(LATE_LINK).show("lock ticket threads 2\n0 aquire\n1 acquire\n").call("drawPaper")
     assert page.js("count", "#paper [data-mend]") == 1
     parts = page.js("onSheet", ["#paper button", "#paper .text-around", "#paper .wrong-part"])
     assert parts["#paper button"] == []

@@ -3,37 +3,28 @@ import re
 
 import pytest
 
-from tree import EXAMPLES, cases
+from reports import SCHEDULES, remarks
+from tree import cases
 
 HIDES = re.compile(r"^#! ask (\d+) hide ([a-z ]+?) : ", re.MULTILINE)
-QUESTIONS = [(path.stem, int(move), parts.split()) for path in sorted(EXAMPLES.glob("*.schedule"))
-             for move, parts in HIDES.findall(path.read_text("latin-1"))]
+QUESTIONS = [(name, int(move), parts.split()) for name, text in SCHEDULES.items()
+             for move, parts in HIDES.findall(text)]
 assert len(QUESTIONS) >= 35
-
-
-def remark(name, word, move):
-    """The question or the answer at a move of a lesson, which may have several lines."""
-    text = (EXAMPLES / f"{name}.schedule").read_text("latin-1")
-    return " ".join(re.findall(
-        rf"^#! {word} {move} (?:hide [a-z ]+? : )?(.+)$", text, re.MULTILINE))
 
 
 def test_each_question_has_its_answer(page):
     page.open()
     for name, move, _ in QUESTIONS:
-        page.lesson(name, move)
-        page.press("a")
-        assert page.js("texts", "#now .question p") == [
-            f"Question: {remark(name, 'ask', move)}", remark(name, "answer", move)], (name, move)
+        ask, answer = (" ".join(remarks(name, f"{what} {move}")) for what in ("ask", "answer"))
+        said = page.lesson(name, move).press("a").js("texts", "#now .question p")
+        assert said == [f"Question: {ask}", answer], (name, move)
 
 
 def test_each_part_comes_with_the_answer(page):
     page.open()
     for name, move, parts in QUESTIONS:
-        page.lesson(name, move)
-        before = page.js("beside")
-        page.press("a")
-        after = page.js("beside")
+        before = page.lesson(name, move).js("beside")
+        after = page.press("a").js("beside")
         where = (name, move, before, after)
         if "sentence" in parts:
             assert before["sentence"] == "" != after["sentence"], where
@@ -50,8 +41,7 @@ def test_each_part_comes_with_the_answer(page):
 
 
 def enter(page, summary):
-    page.js("focus", summary)
-    page.press("Enter")
+    page.call("focus", summary).press("Enter")
 
 
 WAYS = {"click": lambda page, summary: page.click(summary), "Enter": enter}
@@ -59,28 +49,23 @@ WAYS = {"click": lambda page, summary: page.click(summary), "Enter": enter}
 
 @cases("way", WAYS)
 def test_it_comes_without_a_key_too(page, way):
-    """A click on the answer, and Enter, show what key A shows, hide it again, and keep the focus
-    there. What was seen lets a step go on."""
+    """A click and Enter show and hide what A shows, and keep the focus. A step then goes on."""
     summary = "#now .question summary"
-    page.open("#lesson=ticket-hand-over&move=5")
-    covered = page.js("beside")
-    page.press("a")
-    shown = page.js("beside")
+    covered = page.open("#lesson=ticket-hand-over&move=5").js("beside")
+    shown = page.press("a").js("beside")
     page.press("a")
     for wanted in (shown, covered, shown):
         way(page, summary)
         assert page.js("beside") == wanted != (covered if wanted == shown else shown)
         assert page.js("focused") == "summary"
-    page.press("ArrowRight")
-    assert page.shown()["place"] == 6
+    assert page.press("ArrowRight").shown()["place"] == 6
 
 
 @cases("way", WAYS)
 @pytest.mark.parametrize("look", ["&hall", "&embed"])
 def test_it_comes_in_the_bar_too(page, way, look):
     """In a hall and in a frame the question is above memory, which the answer shows."""
-    page.open(f"#lesson=mcs-late-link&move=9{look}&show=memory")
-    assert not page.js("beside")["links"]
+    assert not page.open(f"#lesson=mcs-late-link&move=9{look}&show=memory").js("beside")["links"]
     way(page, "#current .question summary")
     assert page.js("beside")["links"] and page.js("count", "#current .question details[open]") == 1
 
@@ -91,14 +76,13 @@ def test_the_story_comes_without_a_key_too(page, way):
     page.open("#lesson=ticket-hand-over&move=0")
     way(page, "#now .story summary")
     assert page.js("count", "#now .story[open]") == 1
-    page.press("a")
-    assert page.js("count", "#now .story[open]") == 0
+    assert page.press("a").js("count", "#now .story[open]") == 0
 
 
 def test_who_has_a_ticket_is_not_drawn(page):
     """A ticket is a place in the queue, also on the wheel of narrow words."""
     page.open()
-    text = (EXAMPLES / "ticket-hand-over.schedule").read_text()
+    text = SCHEDULES["ticket-hand-over"]
     for width in ("", " bits 2"):
         page.show(text.replace("threads 2", f"threads 2{width}"), 5)
         shown = [page.js("count", "#memory-picture .token")]
@@ -108,10 +92,8 @@ def test_who_has_a_ticket_is_not_drawn(page):
 
 
 def test_who_is_in_the_queue_is_not_drawn(page):
-    """In Play, no disc has the colour of a thread that holds or is in the queue, as a question asks
-    at move 5."""
-    page.open("#lesson=ticket-hand-over&move=5")
-    page.press("g")
+    """In Play no disc tells who holds or is in the queue, as a question asks at move 5."""
+    page.open("#lesson=ticket-hand-over&move=5").press("g")
     discs = [("count", f"#choices .disc.{one}") for one in ("asked", "holds", "queue")]
     assert [page.js(*one) for one in discs] == [2, 0, 0]
     page.press("a")
@@ -119,13 +101,11 @@ def test_who_is_in_the_queue_is_not_drawn(page):
 
 
 def test_who_is_announced_is_not_said(page):
-    """At the monitor an announced writer wants to write, like one that is not, as a question asks
-    at move 4."""
+    """An announced writer wants to write, like one that is not, as a question asks."""
     page.open("#lesson=fifo-reader-waits-behind-writer&move=4")
     wants = ("texts", "#memory-picture .wants title")
     assert page.js(*wants) == ["wants to write"]
-    page.press("a")
-    assert page.js(*wants) == ["announced, awaits the readers"]
+    assert page.press("a").js(*wants) == ["announced, awaits the readers"]
 
 
 def test_one_prompt(page):
@@ -140,32 +120,27 @@ def test_where_questions_are(page):
     asked = [move for name, move, _ in QUESTIONS if name == "mcs-late-link"]
     assert page.js("marked") == {"numbers": asked, "slider": asked}
     assert page.js("texts", "#lanes .note") == ["thread 0", "thread 1"], "below Ann and Bob"
-    page.go(0)
-    assert page.js("marked")["slider"] == asked, "also of moves to come"
+    assert page.go(0).js("marked")["slider"] == asked, "also of moves to come"
     page.show(OWN, 5)
     assert page.js("marked") == {"numbers": [3, 4, 5], "slider": [3, 4, 5]}, "5 is the last move"
 
 
 def test_the_key_of_the_next_question(page):
-    """J goes to the nearest question ahead, in whichever order the text has them, and to none after
-    the last move."""
+    """J goes to the nearest question ahead, in any order of the text, and to none after."""
     page.open()
     asks = "".join(f"#! ask {move} Who?\n" for move in (9, 4, 3))
     page.show(asks + OWN[OWN.index("lock"):])
     for place in (3, 4, 4):
-        page.press("j")
-        page.shown(place=place)
+        page.press("j").shown(place=place)
 
 
 def test_who_holds_is_not_drawn(page):
     """No lane, picture or code tells whether a reader is still inside, as a question asks."""
-    page.resize(1366, 768)
-    page.open("#lesson=simple-writer-after-readers&move=9")
+    page.resize(1366, 768).open("#lesson=simple-writer-after-readers&move=9")
     signs, beyond = page.js("readers")
     assert signs == 0 and beyond < -10, (signs, beyond)
     assert page.js("texts", "#memory-picture .room ~ .note")[0] == "?"
-    page.press("a")
-    signs, beyond = page.js("readers")
+    signs, beyond = page.press("a").js("readers")
     assert signs >= 1 and beyond > -10, (signs, beyond)
 
 
@@ -191,9 +166,7 @@ lock ticket threads 2
 def test_the_form_of_before_is_valid(page, move, question, hidden):
     """A question that does not name what it hides, as in older texts, hides caption and arrows.
     Names that are no parts of the page belong to the question's own text."""
-    page.open()
-    page.show(OWN, move)
-    shown = page.js("beside")
+    shown = page.open().show(OWN, move).js("beside")
     found = [part for part in ("sentence", "facts", "caption") if not shown[part]]
     assert found == hidden, shown
     assert page.text("#now .question p") == f"Question: {question}"
@@ -204,9 +177,7 @@ def test_the_form_of_before_is_valid(page, move, question, hidden):
     ("values", [])])
 def test_one_part_is_hidden(page, part, parts):
     """The report's line is one of the facts, and no part hides another."""
-    page.open()
-    page.show(OWN.replace("hide sentence facts", f"hide {part}"), 4)
-    shown = page.js("beside")
+    shown = page.open().show(OWN.replace("hide sentence facts", f"hide {part}"), 4).js("beside")
     assert [one for one in ("sentence", "facts", "report", "caption") if not shown[one]] == parts
     assert shown["values"] == (["?"] * 4 if part == "values" else ["0", "1", "0", "1"])
 
@@ -231,24 +202,19 @@ WAITS = "A question waits here: A shows its answer, another → goes on."
 @pytest.mark.parametrize("look, key", [("", "ArrowRight"), ("&hall", "PageDown")])
 def test_a_step_stops_once(page, look, key):
     """A step stops once at a question with an unseen answer, and a notice says how to go on."""
-    page.open(f"#lesson=mcs-late-link&move=6{look}")
-    page.press(key)
+    page.open(f"#lesson=mcs-late-link&move=6{look}").press(key)
     assert page.shown()["place"] == 7 and page.js("waiting") == ["", 0]
-    page.press(key)
-    assert page.shown()["place"] == 7 and page.js("waiting") == [WAITS, 1]
-    page.press(key)
-    assert page.shown()["place"] == 8 and page.js("waiting")[1] == 0
+    assert page.press(key).shown()["place"] == 7 and page.js("waiting") == [WAITS, 1]
+    assert page.press(key).shown()["place"] == 8 and page.js("waiting")[1] == 0
     assert page.js("count", "#notice:not([hidden])") == 0, "it is of the move before"
-    page.press("a", key)
-    assert page.shown()["place"] == 9, "an answer that was seen lets one go on"
+    assert page.press("a", key).shown()["place"] == 9, "an answer that was seen lets one go on"
     page.press(key, "ArrowLeft", key)
     assert page.shown()["place"] == 8 and page.js("waiting")[1] == 1, "at the next visit again"
 
 
 def test_the_end_waits_for_the_answer(page):
     """If the last move has a question, the lesson's point waits for its answer."""
-    page.open()
-    page.show(f"#! learn Who comes first.\n{OWN}", 5)
+    page.open().show(f"#! learn Who comes first.\n{OWN}", 5)
     ended = ("count", "#now .last")
     assert page.js(*ended) == 0
     page.press("a")

@@ -63,15 +63,17 @@ def moves_of(text):
     return text.split("; ")
 
 
+def pasted(page, head, moves):
+    """Pastes a trace whose moves are apart by `; `."""
+    return page.call("paste", text_of(head, moves_of(moves)))
+
+
 @pytest.mark.parametrize("lock", AGREEING)
 def test_equal_values(page, lock):
     """Each line is beside the values of the lock, and all lines are accepted."""
     head, rows = AGREEING[lock]
     trace = text_of(head, [line for line, _ in rows])
-    page.resize(1280, 720)
-    page.open(LESSON)
-    page.js("paste", trace)
-    shown = page.shown(moves=len(rows))
+    shown = page.resize(1280, 720).open(LESSON).call("paste", trace).shown(moves=len(rows))
     assert shown["held"] == shown["text"] == shown["area"] == trace
     assert shown["place"] == 0 and "This is a trace. Each move has" in page.text("#notice")
     assert page.js("underNotice") == []
@@ -83,27 +85,24 @@ def test_equal_values(page, lock):
 
 def test_missing_parts_are_not_compared(page):
     moves = ["0 acquire", "0 write", "0 swap tail", "0 release", "0 read next", "0 cas tail left 0"]
-    page.open(LESSON)
-    page.js("paste", text_of("lock mcs threads 1", moves))
+    page.open(LESSON).call("paste", text_of("lock mcs threads 1", moves))
     assert page.shown(moves=6, refused=False)["verdict"].startswith("All 6 moves are accepted.")
     assert page.js("recordedAt", 3) == [[], [], ["0 swap tail", "tail found 0 left 1, entered"]]
 
 
 def test_in_german(page):
-    page.open(f"{LESSON}&lang=de")
-    page.js("paste", text_of("lock mcs threads 2", moves_of(SECOND + "1 swap tail found 0")))
+    pasted(page.open(f"{LESSON}&lang=de"), "lock mcs threads 2", SECOND + "1 swap tail found 0")
     shown = page.shown(refused=True)
     for said in ["Der aufgezeichnete Lauf: swap tail fand 0. Die Sperre hier: fand 1.",
                  "Thread 0 hat tail zuletzt geschrieben, in Zeile 4: den Wert 1.",
                  "Das Wort hatte 0 bis Zeile 4"]:
         assert said in shown["now"] and said in shown["spoken"], shown
-    page.go(3)
-    assert page.js("texts", "#now .recorded") == [
+    assert page.go(3).js("texts", "#now .recorded") == [
         "Aufgezeichnet", "0 swap tail found 0 left 1",
         "Sperre hier", "tail found 0 left 1, entered"]
     assert page.text("#notice") == "Das ist ein Trace. In Zeile 7 weicht er von der Sperre ab."
-    page.js("paste", text_of("lock mcs threads 2", moves_of(
-        LINKED + "1 write next of 0 left 2; 0 release; 1 write locked left 1")))
+    pasted(page, "lock mcs threads 2",
+           LINKED + "1 write next of 0 left 2; 0 release; 1 write locked left 1")
     assert ("Zeile 10 ist auf locked of 1: vielleicht sind beide Schritte vertauscht."
             in page.shown(refused=True)["now"])
 
@@ -120,40 +119,27 @@ def test_ways(page, tmp_path, way):
         path.write_text(WRONG)
         page.choose_file("#file", path)
     else:
-        page.js(way, [["run.trace", WRONG]] if way == "dropFiles" else WRONG)
+        page.call(way, [["run.trace", WRONG]] if way == "dropFiles" else WRONG)
     shown = page.shown(refused=True, moves=1)
     assert shown["held"] == WRONG and "add next_ticket found 1. The lock" in shown["now"]
 
 
 def test_a_text_is_written_on_where_it_is_no_trace(page):
-    page.open(LESSON)
-    page.press("e")
-    assert not page.js("pasteIntoText", RIGHT)
+    assert not page.open(LESSON).press("e").js("pasteIntoText", RIGHT)
     assert page.js("pasteIntoText", "0 acquire\n")
     assert page.js("pasteIntoText", "lock mcs threads 2\n0 acquire\n")
 
 
 def test_it_stays_a_trace(page):
     """A trace stays one in links, while it is edited, and in Play, and Undo brings it back."""
-    page.open(LESSON)
-    page.js("paste", WRONG)
-    page.js("leave")
-    address = page.js("address")
+    address = page.open(LESSON).call("paste", WRONG).call("leave").js("address")
     assert address.endswith("&move=2")
-    page.open(address)
-    assert page.shown(refused=True)["held"] == WRONG
-    page.press("e")
-    page.js("write", RIGHT)
-    shown = page.shown(moves=3, refused=False)
+    assert page.open(address).shown(refused=True)["held"] == WRONG
+    shown = page.press("e").call("write", RIGHT).shown(moves=3, refused=False)
     assert shown["held"] == RIGHT and "All 3 moves are accepted. Each word" in shown["verdict"]
-    page.undo()
-    assert page.shown(refused=True)["held"] == WRONG
-    page.undo()
-    page.js("write", RIGHT)
-    page.go(2)
-    page.press("g")
-    page.js("choose", 0, "read")
-    assert page.shown(moves=3)["held"] == RIGHT
+    assert page.undo().shown(refused=True)["held"] == WRONG
+    page.undo().call("write", RIGHT).go(2).press("g")
+    assert page.call("choose", 0, "read").shown(moves=3)["held"] == RIGHT
     page.go(2)
     assert page.js("recorded") == ["0 add next_ticket found 0", "next_ticket found 0 left 1, moved"]
     assert page.shown()["spoken"].endswith(" The recorded run has the same.")
@@ -164,15 +150,11 @@ def test_it_stays_a_trace(page):
 def test_a_trace_in_play_without_its_story(page):
     """A story that no longer holds is left out, and what is said of a line goes with the line."""
     noted = RIGHT.replace("0 read\n", "# line {} is lock.c:9\n0 read\n")
-    page.open(LESSON)
-    page.js("paste", f"# A run\n{noted.format(4)}0 release\n0 read\n")
-    page.press("g")
-    page.go(3)
-    page.js("choose", 0, "release")
+    page.open(LESSON).call("paste", f"# A run\n{noted.format(4)}0 release\n0 read\n").press("g")
+    page.go(3).call("choose", 0, "release")
     assert page.shown(moves=4)["held"] == f"{noted.format(3)}0 release\n"
-    page.go(2)
-    assert page.js("recorded") == ["0 add next_ticket found 0 lock.c:9",
-                                   "next_ticket found 0 left 1, moved"]
+    assert page.go(2).js("recorded") == [
+        "0 add next_ticket found 0 lock.c:9", "next_ticket found 0 left 1, moved"]
 
 
 def told():
@@ -190,8 +172,7 @@ def test_the_program_says_the_same(page):
     assert len(answers) == 9
     page.open(LESSON)
     for trace, answer in answers:
-        page.js("paste", trace)
-        shown = page.shown(refused=True, held=trace)
+        shown = page.call("paste", trace).shown(refused=True, held=trace)
         line, code = answer["line"], answer["code"]
         assert f"refused line {line} {code}" in shown["verdict"], answer
         # The page words the values of `Busy` and of a count in another way.
@@ -207,22 +188,17 @@ def test_the_program_refuses_the_same_line(page):
     page.open(LESSON)
     for lock, moves, _ in rows:
         trace = text_of(f"lock {lock} threads 2", moves)
-        page.js("paste", trace)
-        shown = page.shown(held=trace)
+        shown = page.call("paste", trace).shown(held=trace)
         assert f"refused line {len(moves) + 1} " in shown["verdict"], (trace, shown["verdict"])
 
 
 @pytest.mark.parametrize("size", [(1440, 900), (1366, 768), (1024, 768), (390, 844)])
 def test_all_of_it_is_seen(page, size):
     """Everything about a move is visible, at an accepted move and at the refused one."""
-    page.resize(*size)
-    page.open(LESSON)
-    page.js("paste", NOTED)
-    page.press("e")
+    page.resize(*size).open(LESSON).call("paste", NOTED).press("e")
     page.shown(refused=True, mode="lessons")
     assert page.js("wholeOf", ".refused-text", ".source", ".refusal") == [1, 1, 3]
-    page.go(3)
-    assert page.js("wholeOf", ".say", "dd.recorded") == [1, 2]
+    assert page.go(3).js("wholeOf", ".say", "dd.recorded") == [1, 2]
 
 
 # A trace as a recorder writes it.
@@ -244,9 +220,7 @@ lock ticket threads 2 bits 8
 
 def test_lines_of_the_source(page):
     """The page names the source line of each move, and of the write that decided a refusal."""
-    page.open(LESSON)
-    page.js("paste", NOTED)
-    shown = page.shown(refused=True, moves=3)
+    shown = page.open(LESSON).call("paste", NOTED).shown(refused=True, moves=3)
     assert page.text("#now .source") == page.text("#verdict .source") == "wrong.c:14"
     for said in ["Thread 0 wrote next_ticket last, in line 5 (wrong.c:13): it left 1.",
                  "The word had 0 until line 5: perhaps this add was a load and a store, or is "
@@ -280,8 +254,5 @@ def test_lines_of_the_source(page):
         "a word of no thread", "a fault after it", "a fault"])
 def test_texts(page, text, said, count):
     """Comments, faults and texts that are no traces get their usual messages."""
-    page.open(LESSON)
-    page.press("e")
-    page.js("paste", text)
-    shown = page.shown(moves=count)
+    shown = page.open(LESSON).press("e").call("paste", text).shown(moves=count)
     assert said in shown["verdict"] and shown["text"] == text

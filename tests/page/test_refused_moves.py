@@ -1,7 +1,7 @@
 """Lessons, links, paper and Play show a refused move as a scene of its own."""
 import pytest
 
-from tree import EXAMPLES
+from reports import SCHEDULES
 
 # The lesson, the number of accepted moves, the last line of the report, and parts of the message.
 # Written by hand from examples/ and docs/LOCKS.md.
@@ -49,17 +49,14 @@ def check_scene(page, count, last, parts):
 @pytest.mark.parametrize("name, count, last, parts", LESSONS, ids=[row[0] for row in LESSONS])
 def test_lesson(page, name, count, last, parts):
     """Keys step to the scene, the address then names it, and a link opens it."""
-    page.open(f"#lesson=refused-{name}&move=0")
-    assert "refused" not in page.shown()["now"]
+    assert "refused" not in page.open(f"#lesson=refused-{name}&move=0").shown()["now"]
     page.press(*["ArrowRight"] * (count + 1))
     check_scene(page, count, last, parts)
     line = page.text("#now .refused-text").split()
     assert page.text("#now mark.bad") == line[name != "no-such-thread"], "what is struck through"
     shown = page.shown(mode="lessons")
     place = f"#lesson=refused-{name}&move={count + 1}"
-    page.becomes(place, "address")
-    page.open(place)
-    assert page.shown() == shown
+    assert page.becomes(place, "address").open(place).shown() == shown
     paper, is_crossed = page.js("onPaper")
     assert is_crossed
     for part in [last, *parts]:
@@ -83,8 +80,7 @@ def test_the_word_that_decided_it(page):
     page.open()
     page.show("lock ticket threads 2\n0 acquire\n0 add\n1 acquire\n1 add\n1 read\n0 write\n", 5)
     assert page.js("markedWords") == ["now_serving read"]
-    page.go(6)
-    assert page.js("markedWords") == ["next_ticket changed"]
+    assert page.go(6).js("markedWords") == ["next_ticket changed"]
 
 
 @pytest.mark.parametrize("name, word", [("no-such-thread", "1"), ("wrong-lock", "ticket")])
@@ -103,8 +99,7 @@ def test_a_lane_without_a_thread(page):
 @pytest.mark.parametrize("name, code", [
     ("wrong-step", "ticket := add(next_ticket, 1)"), ("no-call", "")])
 def test_the_line_that_is_due(page, name, code):
-    page.open(f"#lesson=refused-{name}&move=9")
-    assert page.text("#code-lines .here code") == code
+    assert page.open(f"#lesson=refused-{name}&move=9").text("#code-lines .here code") == code
 
 
 @pytest.mark.parametrize("name, last, parts", FAULTS, ids=[row[0] for row in FAULTS])
@@ -115,7 +110,7 @@ def test_fault_on_paper(page, name, last, parts):
     for part in [last, *parts]:
         assert part in paper
     number = int(last.split()[2])
-    lines = (EXAMPLES / f"fault-{name}.schedule").read_text("ascii").split("\n")
+    lines = SCHEDULES[f"fault-{name}"].split("\n")
     assert page.js("texts", "#paper tr.wrong") == [f"✕ {number} {lines[number - 1]}".strip()]
     # Six lines before it and six after it, as far as there are any.
     around = [at for at in range(1, len(lines) + 1) if abs(at - number) <= 6]
@@ -130,24 +125,20 @@ WRONG_LINE = 17
 
 def test_a_wrong_step_in_play(page):
     """The page says why the step is wrong. Another choice replaces it, and undo brings it back."""
-    page.open("#lesson=mcs-late-link&move=8")
-    page.press("g", "w")
+    page.open("#lesson=mcs-late-link&move=8").press("g", "w")
     assert page.js("count", "#every:checked") == 1
     assert page.js("count", "#choices :is(.due, .may)") == 0, "nothing shows what is accepted"
-    page.js("choose", 0, "write")
+    page.call("choose", 0, "write")
     check_scene(page, 8, f"refused line {WRONG_LINE} WrongStep next cas",
                 ["The next step is “cas”", "found Ann.next = nil",
                  "This is not the next step of Ann.", "Here Ann could make the step “cas”."])
-    page.js("choose", 1, "release")
+    page.call("choose", 1, "release")
     assert f"refused line {WRONG_LINE} Busy" in page.text("#now")
-    page.press("u")
-    assert "WrongStep next cas" in page.text("#now")
-    page.js("choose", 0, "cas")
-    assert page.text("#position") == "9 of 9"
+    assert "WrongStep next cas" in page.press("u").text("#now")
+    assert page.call("choose", 0, "cas").text("#position") == "9 of 9"
 
 
 def test_a_digit_leaves_the_choice(page):
     """For a thread with several calls, a digit chooses the thread, and Tab the call."""
-    page.open("#lesson=fifo-reader-waits-behind-writer&move=0")
-    page.press("g", "0", "Tab")
+    page.open("#lesson=fifo-reader-waits-behind-writer&move=0").press("g", "0", "Tab")
     assert page.js("focusedChoice") == {"thread": "0", "word": "wlock"}

@@ -63,22 +63,17 @@ def test_no_play_for_what_is_known(page):
     ids=["play", "text", "two locks"])
 def test_plays_of_acts(page, link, key, acts):
     """The number of replays after a click, a key or typing, when the page is at rest."""
-    page.open(link)
-    page.press(key)
+    page.open(link).press(key)
     assert [(what, page.js("playsOf", act)) for what, act, _ in acts] == [
         (what, plays) for what, _, plays in acts]
 
 
 def test_back_and_forward(page):
     """Back to the lesson, which the page still knows, takes no replay, and forward takes one."""
-    page.open(LATE_LINK)
-    page.press("g")
-    assert page.js("playsOf", [("choose", 0, "cas")]) == 1
+    assert page.open(LATE_LINK).press("g").js("playsOf", [("choose", 0, "cas")]) == 1
     page.until("addressBegins", "#schedule=")
     plays = page.js("playsNow")
-    page.js("back")
-    page.until("isLesson", "mcs-late-link")
+    page.call("back").until("isLesson", "mcs-late-link")
     assert page.js("playsNow") == plays
-    page.js("forward")
-    page.until("isLesson", None)
+    page.call("forward").until("isLesson", None)
     assert page.js("playsNow") == plays + 1

@@ -31,17 +31,13 @@ def sent(tmp_path):
 })
 def test_refused_trace(page, sent, fragment, said, told):
     """The page opens at the refused step with both values, and a reload keeps the place."""
-    page.open(fragment, sent(ODD))
-    shown = page.shown(refused=True, moves=1, mode="own")
+    shown = page.open(fragment, sent(ODD)).shown(refused=True, moves=1, mode="own")
     assert shown["held"] == ODD.decode("latin-1")
     assert said in shown["now"] and said in shown["verdict"]
     assert page.text("#now mark.bad") == "1" and page.text("#notice") == told
     assert page.js("count", "dialog[open]") == 0
-    page.press("ArrowLeft")
-    page.shown(place=1)
-    page.js("leave")
-    page.reload()
-    assert page.shown(place=1)["held"] == ODD.decode("latin-1")
+    page.press("ArrowLeft").shown(place=1)
+    assert page.call("leave").reload().shown(place=1)["held"] == ODD.decode("latin-1")
 
 
 def test_accepted_trace(page, sent):
@@ -49,8 +45,7 @@ def test_accepted_trace(page, sent):
     assert page.shown(refused=False, moves=3, place=0)["held"] == RIGHT
     assert page.text("#notice") == (
         "This is a trace. Each move has what the recorded run found beside what the lock has.")
-    page.go(2)
-    assert page.js("texts", "#now .recorded") == [
+    assert page.go(2).js("texts", "#now .recorded") == [
         "Recorded", "0 add next_ticket found 0",
         "Lock here", "next_ticket found 0 left 1, moved"]
 
@@ -58,8 +53,7 @@ def test_accepted_trace(page, sent):
 def test_schedule(page, sent):
     """A schedule has no values, and the page checks its moves all the same."""
     text = "lock mcs threads 2\n0 acquire\n0 release\n"
-    page.open(path=sent(text.encode()))
-    page.go(2)
+    page.open(path=sent(text.encode())).go(2)
     assert "refused line 3 Busy" in page.shown(refused=True, held=text)["verdict"]
 
 
@@ -73,9 +67,5 @@ def test_browser_that_keeps_nothing(page, sent):
     """If a trace is too long for a link and not stored, a reload reads it from the page again."""
     rounds = 2000 * "0 acquire\n0 add\n0 read\n0 release\n0 read\n0 write\n"
     text = RIGHT.replace("threads 1\n", f"threads 1\n{rounds}")
-    page.before("keepNothing")
-    page.open(path=sent(text.encode()))
-    page.shown(refused=True, moves=12001)
-    page.js("leave")
-    page.reload()
-    assert page.shown(refused=True, moves=12001)["held"] == text
+    page.before("keepNothing").open(path=sent(text.encode())).shown(refused=True, moves=12001)
+    assert page.call("leave").reload().shown(refused=True, moves=12001)["held"] == text

@@ -5,26 +5,18 @@ import subprocess
 
 import pytest
 
-from tree import EXAMPLES
+from reports import MOVES, SCHEDULES, remarks
 
-LESSONS = [path.stem for path in sorted(EXAMPLES.glob("*.schedule"))
-           if not path.stem.startswith(("refused", "fault"))]
+LESSONS = [name for name in SCHEDULES if not name.startswith(("refused", "fault"))]
 MOST_PAGES = 2
-
-
-def remarks(name, what):
-    """The lines of a lesson's questions or answers."""
-    text = (EXAMPLES / f"{name}.schedule").read_text("latin-1")
-    return re.findall(rf"^#! {what} \d+ (?:hide [a-z ]+ : )?(.+)$", text, re.MULTILINE)
 
 
 def test_marks_and_places(page):
     """The sheet has blanks for every mark, for words, holder and queue."""
     page.open()
     for name in LESSONS:
-        page.lesson(name)
-        shown = page.js("sheet")
-        moves = len((EXAMPLES / f"{name}.report").read_text().splitlines()) - 1
+        shown = page.lesson(name).js("sheet")
+        moves = len(MOVES[name])
         assert shown["waits"] == shown["spans"] == shown["values"] == 0, (name, shown)
         assert shown["blanks"] == moves and shown["lines"] == 2, (name, shown)
         assert shown["discs"] == 0, "no thread has a line before the first move"
@@ -42,8 +34,6 @@ WORDS = {
         ["tail"], [[f"thread {one}", "next,locked", 2] for one in range(3)]),
     "simple-downgrade": (["readers", "flag"], []),
     "fifo-downgrade": (["readAcquires", "readReleases", "flag"], [])}
-
-
 # As wide as three records of 150 with gaps of 62, or 460. Words end at 90, records at 218, and two
 # rows of places are below, of 44 and with an edge of 40.
 SIZES = {name: "0 0 636 302" if name == "mcs-third-linked-before-second" else
@@ -53,8 +43,7 @@ SIZES = {name: "0 0 636 302" if name == "mcs-third-linked-before-second" else
 @pytest.mark.parametrize("name", WORDS)
 def test_words_to_be_filled_in(page, name):
     """The blank memory has each word of the lock, and records with their fields."""
-    page.open(f"#lesson={name}&move=0")
-    page.js("sheet")
+    page.open(f"#lesson={name}&move=0").call("sheet")
     words, records = WORDS[name]
     assert page.js("texts", "#paper .figure > div:first-child .note")[:2] == ["Holds", "Queue"]
     assert page.js("viewBoxes") == [SIZES[name]] * page.js("count", "#paper .figure svg")
@@ -67,29 +56,24 @@ def test_after_which_moves_memory_is_asked_for(page):
     page.open()
     asked = 0
     for name in LESSONS:
-        schedule = (EXAMPLES / f"{name}.schedule").read_text("latin-1")
         moves = sorted({int(move) for move, parts in re.findall(
-            r"^#! ask (\d+) hide ([a-z ]+) : ", schedule, re.MULTILINE) if "memory" in parts})
+            r"^#! ask (\d+) hide ([a-z ]+) : ", SCHEDULES[name], re.M) if "memory" in parts})
         if len(moves) > 2:
             moves = [moves[len(moves) // 3], moves[2 * len(moves) // 3]]
-        page.lesson(name)
-        page.js("sheet")
+        page.lesson(name).call("sheet")
         asked += len(moves)
         assert page.js("texts", "#paper .figure.blanks > div:not(.code) > h3") == [
             f"Memory after move {move}" for move in moves or ["____"]], name
     assert asked > 8
     page.show("#! ask 1 hide facts standing : Who?\n#! ask 2 hide facts memory : What?\n"
               "lock ticket threads 1\n0 acquire\n0 add\n0 read\n")
-    page.js("sheet")
-    assert page.js("texts", "#paper .figure.blanks > div:not(.code) > h3") == [
+    assert page.call("sheet").js("texts", "#paper .figure.blanks > div:not(.code) > h3") == [
         "Memory after move 2"]
 
 
 def test_the_mark_that_is_explained(page):
     """The legend explains the blank as it is drawn in the lanes."""
-    page.open("#lesson=mcs-late-link&move=0")
-    page.js("sheet")
-    explained, drawn = page.js("blanks")
+    explained, drawn = page.open("#lesson=mcs-late-link&move=0").call("sheet").js("blanks")
     assert len(explained) == len(drawn) == 1 and explained == drawn, (explained, drawn)
     assert page.js("texts", "#paper .legend > span > span") == [
         "to fill in", "called", "moved: the call goes on", "waits: failed poll", "entered", "left"]
@@ -100,17 +84,13 @@ def test_the_mark_that_is_explained(page):
     ("fifo-reader-waits-behind-writer", 6)])
 def test_it_is_the_same_at_each_move(page, name, move):
     """The sheet does not depend on the shown move: it marks no line of code and no thread."""
-    page.open()
-    page.lesson(name)
-    assert page.js("sheetAt", move) == page.js("sheetAt", 0)
+    assert page.open().lesson(name).js("sheetAt", move) == page.js("sheetAt", 0)
 
 
 @pytest.mark.parametrize("name", LESSONS)
 def test_as_a_pdf(page, name, tmp_path):
     """The pages of the PDF have the blanks and no answer, and no page is empty."""
-    page.before("keepSheet")
-    page.open(f"#lesson={name}&move=0")
-    page.js("asExercise")
+    page.before("keepSheet").open(f"#lesson={name}&move=0").call("asExercise")
     path = tmp_path / "sheet.pdf"
     path.write_bytes(page.pdf())
     pages = subprocess.run(["pdftotext", "-layout", path, "-"], check=True, text=True,
@@ -119,7 +99,7 @@ def test_as_a_pdf(page, name, tmp_path):
     assert all(len(one.strip()) > 60 for one in pages), pages
     said = " ".join(" ".join(pages).split())
     assert "Name:" in said and "Date:" in said and "fill in" in said
-    assert not [line for line in remarks(name, "answer") if line in said]
+    assert not [line for line in remarks(name, r"answer \d+") if line in said]
 
 
 def dark(page, path):
@@ -138,17 +118,14 @@ def dark(page, path):
 
 
 def test_it_is_printed_on_white(page, tmp_path):
-    page.before("keepSheet")
-    page.open("#lesson=mcs-late-link&move=0")
-    page.js("asExercise")
+    page.before("keepSheet").open("#lesson=mcs-late-link&move=0").call("asExercise")
     shares = dark(page, tmp_path / "sheet.pdf")
     assert shares and all(share < 0.1 for share in shares), shares
 
 
 def test_a_black_screen_is_printed_on_white(page, tmp_path):
     """In hall mode a full stop makes the screen black, but not what is printed."""
-    page.open("#lesson=mcs-late-link&move=9&hall")
-    page.press(".")
+    page.open("#lesson=mcs-late-link&move=9&hall").press(".")
     shares = dark(page, tmp_path / "black.pdf")
     assert shares and all(share < 0.1 for share in shares), shares
 
@@ -157,8 +134,7 @@ def test_questions_of_the_first_moves(page):
     """The sheet has the questions before the first move, at it, and at the last move."""
     page.open()
     asked = "".join(f"#! ask {move} Number {move}?\n" for move in range(3))
-    page.show(f"lock ticket threads 1\n{asked}0 acquire\n0 add\n")
-    page.js("sheet")
+    page.show(f"lock ticket threads 1\n{asked}0 acquire\n0 add\n").call("sheet")
     assert page.js("texts", "#paper .asked dt") == ["0", "1", "2"]
     assert page.js("texts", "#paper .asked dd") == ["Number 0?", "Number 1?", "Number 2?"]
     assert page.text("#now .question p") == "Question: Number 0?"

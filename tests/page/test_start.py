@@ -4,7 +4,8 @@ import re
 import pytest
 
 from replayed import Replay
-from tree import EXAMPLES, cases
+from reports import SCHEDULES, asked_in, remarks
+from tree import cases
 
 LOCKS = ["ticket", "mcs", "rw-simple", "rw-fifo"]
 REFUSED = ("refused", "fault")
@@ -12,8 +13,7 @@ REFUSED = ("refused", "fault")
 
 def test_without_a_link(page):
     """The start has two sentences, the ticket lock first, and in each card its lessons in order."""
-    page.open()
-    assert page.js("isOpen") and page.js("chosen") == "ticket-hand-over"
+    assert page.open().js("isOpen", "lessons") and page.js("chosen") == "ticket-hand-over"
     what = page.text("#lessons .what")
     assert what.count(".") == 2 and "one atomic step at a time" in what, what
     cards = page.js("cards")
@@ -25,8 +25,7 @@ def test_without_a_link(page):
     assert page.js("framed") == ["ticket-hand-over"], "the lesson that is shown below it"
     assert page.js("count", "#lessons .kept") == 0
     listed = [name for card in cards for name, _ in card["lessons"]]
-    assert sorted(listed) == sorted(path.stem for path in EXAMPLES.glob("*.schedule")
-                                    if not path.stem.startswith(REFUSED))
+    assert sorted(listed) == sorted(one for one in SCHEDULES if not one.startswith(REFUSED))
     for card in cards:
         assert card["live"] >= 4, card
         for at, (name, said) in enumerate(card["lessons"], 1):
@@ -42,31 +41,23 @@ def test_without_a_link(page):
         assert part in one, said
 
 
-def remark(name, what):
-    """What a lesson says of itself, as one text."""
-    text = (EXAMPLES / f"{name}.schedule").read_text("latin-1")
-    return " ".join(re.findall(rf"^#! {what} (.+)$", text, re.MULTILINE))
-
-
 WHY = "Each step is changed in turn, and a shortest run shows what goes wrong."
 
 
 def test_what_a_card_says(page):
     """A card has its lock's name, and of each lesson its number, its title and what one learns. The
     last line leads to why each line of the lock is there."""
-    page.open()
-    assert page.js("texts", "#lessons .lock-card h3") == [
+    assert page.open().js("texts", "#lessons .lock-card h3") == [
         "Ticket lock", "MCS queue lock", "Simple read-write lock", "FIFO read-write lock"]
     for card in page.js("cards"):
         names = [name for name, _ in card["lessons"]]
+        titles, learn = ([" ".join(remarks(name, what)) for name in names]
+                         for what in ("title", "learn"))
         part = f"#lessons [data-lock={card['lock']}] li"
         assert page.js("attribute", f"[data-live={card['lock']}]", "aria-hidden") == "true"
-        assert page.js("texts", f"{part} .number") == [
-            *map(str, range(1, len(names) + 1)), "Y"]
-        assert page.js("texts", f"{part} b") == [
-            *(remark(name, "title") for name in names), "Why each line is there"]
-        assert page.js("texts", f"{part} .learn") == [*(remark(name, "learn") for name in names),
-                                                      WHY]
+        assert page.js("texts", f"{part} .number") == [*map(str, range(1, len(names) + 1)), "Y"]
+        assert page.js("texts", f"{part} b") == [*titles, "Why each line is there"]
+        assert page.js("texts", f"{part} .learn") == [*learn, WHY]
     assert page.js("texts", "#lessons .ways b") == ["Your own", "Play", "Find a moment", "Teach"]
     assert page.js("texts", "#lessons .refusals summary") == [
         "What is refused: wrong moves, and texts that are no schedules"]
@@ -81,9 +72,7 @@ def test_where_the_parts_of_the_start_are(page):
     what, languages, cards, ways, refusals = (page.js("topsOf", f".{part}") for part in parts)
     assert languages < what < cards < ways < refusals
     assert [len(set(page.js("topsOf", one))) for one in (".lock-card", "[data-way]")] == [1, 1]
-    page.press("Escape")
-    page.show("lock mcs threads 1\n")
-    page.press("Escape", "o")
+    page.press("Escape").show("lock mcs threads 1\n").press("Escape", "o")
     assert page.js("partsOfStart") == ["what", "languages", "kept", "cards", "ways", "refusals"]
 
 
@@ -93,24 +82,20 @@ def test_how_long_each_lesson_takes(page):
     said = {name: text for card in page.js("cards") for name, text in card["lessons"]}
     assert len(said) > 12
     for name, text in said.items():
-        schedule = (EXAMPLES / f"{name}.schedule").read_text("latin-1")
-        questions = len(set(re.findall(r"^#! ask (\d+) ", schedule, re.MULTILINE)))
-        moves = len(re.findall(r"^\d", schedule, re.MULTILINE))
-        minutes = max(1, int((10 * moves + 30 * questions) / 60 + 0.5))
+        moves = len(re.findall(r"^\d", SCHEDULES[name], re.MULTILINE))
+        minutes = max(1, int((10 * moves + 30 * len(asked_in(name))) / 60 + 0.5))
         assert text.endswith(f" {moves} moves, about {minutes} min"), (name, text)
 
 
 def test_a_link_opens_its_lesson(page):
     """A link opens its lesson without the start, and the window has the title of the lesson."""
     page.open("#lesson=mcs-late-link&move=3")
-    assert not page.js("isOpen") and page.text("title") == "The late link - lockreplay"
+    assert not page.js("isOpen", "lessons") and page.text("title") == "The late link - lockreplay"
 
 
 def test_the_first_lesson(page):
     """Enter begins the first lesson, which explains the moves in words of its own."""
-    page.open()
-    page.press("Enter")
-    assert page.js("lessonNow") == "ticket-hand-over"
+    assert page.open().press("Enter").js("lessonNow") == "ticket-hand-over"
     assert page.js("count", "#now .own-say") == 0, "its point was on the card, and is at the end"
     for move in range(1, 11):
         # A step stops once at a question.
@@ -120,31 +105,26 @@ def test_the_first_lesson(page):
         assert "fetch" not in said and "compare" not in said, (move, said)
         folded = page.js("seen", "#now :is(.plain, p.aside, .report-line)")
         assert folded == "", "what the machine says is folded"
-    page.click("#now summary")
-    folded = page.js("seen", "#now :is(.plain, p.aside, .report-line)")
+    folded = page.click("#now summary").js("seen", "#now :is(.plain, p.aside, .report-line)")
     assert "Bob finds its ticket, 1" in folded and "10 0 read entered hold 0" in folded, folded
 
 
 def test_the_point_of_a_schedule_of_ones_own(page):
     """No card says it, so it is before the first move, other than in a lesson."""
-    page.open("#lesson=ticket-hand-over&move=0")
-    assert page.js("count", "#now .own-say") == 0
+    assert page.open("#lesson=ticket-hand-over&move=0").js("count", "#now .own-say") == 0
     page.show("#! learn Who comes first.\nlock ticket threads 1\n")
     assert page.text("#now .own-say") == "Who comes first."
 
 
 def test_a_click_on_no_choice(page):
     """A click on a heading of the start changes nothing."""
-    page.open()
-    page.click("#lessons .lock-card h3")
-    assert page.js("isOpen") and page.js("lessonNow") == "ticket-hand-over"
+    page.open().click("#lessons .lock-card h3")
+    assert page.js("isOpen", "lessons") and page.js("lessonNow") == "ticket-hand-over"
 
 
 def test_behind_the_start(page):
     """If the start is closed, the first lesson is shown, before its first move."""
-    page.open()
-    page.press("Escape")
-    assert not page.js("isOpen")
+    assert not page.open().press("Escape").js("isOpen", "lessons")
     page.shown(lesson="ticket-hand-over", place=0)
 
 
@@ -152,11 +132,9 @@ def test_behind_the_start(page):
     ("en", "Thread 0 is Bob, thread 1 is Ann."), ("de", "Thread 0 ist Bob, Thread 1 ist Ann.")])
 def test_who_is_which_thread(page, language, said):
     """Before the first move the page names the threads, even on the smallest screen."""
-    page.resize(1024, 768)
-    page.open(f"#lesson=ticket-hand-over&move=0&lang={language}")
+    page.resize(1024, 768).open(f"#lesson=ticket-hand-over&move=0&lang={language}")
     assert page.js("seen", "#now .names") == said
-    page.lesson("simple-downgrade")
-    assert page.js("count", "#now .names") == 0, "no names are given"
+    assert page.lesson("simple-downgrade").js("count", "#now .names") == 0, "no names are given"
     for most in (9, 10):
         names = "".join(f"#! name {thread} N{thread}\n" for thread in range(most))
         page.show(f"{names}lock ticket threads 10\n")
@@ -166,59 +144,44 @@ def test_who_is_which_thread(page, language, said):
 
 def test_the_end_of_a_lesson(page):
     """A lesson ends with its point, keys lead to the next one, and the start ticks it off."""
-    page.open("#lesson=ticket-hand-over&move=10")
-    last = page.text("#now .last")
+    last = page.open("#lesson=ticket-hand-over&move=10").text("#now .last")
     assert "What to keep: Take a number, wait until it is shown" in last, last
     button = page.text("#now [data-next]")
     assert button.startswith("Next: The order is that of tickets, not of calls"), button
-    page.press("Enter")
-    assert page.js("lessonNow") == "ticket-order-of-tickets", "the key works without a step"
-    page.press("Enter")
-    assert page.js("lessonNow") == "ticket-order-of-tickets", "it is not at its end"
-    page.js("back")
-    page.shown(lesson="ticket-hand-over", position="10 of 10")
-    page.press("ArrowRight", "Enter")
-    assert page.js("lessonNow") == "ticket-order-of-tickets", "a step leads to the button"
+    further = "ticket-order-of-tickets"
+    assert page.press("Enter").js("lessonNow") == further, "the key works without a step"
+    assert page.press("Enter").js("lessonNow") == further, "it is not at its end"
+    page.call("back").shown(lesson="ticket-hand-over", position="10 of 10")
+    assert page.press("ArrowRight", "Enter").js("lessonNow") == further, "a step leads there"
     # A lesson that was only begun is not ticked off.
-    page.press("ArrowRight", "o")
-    assert page.js("ticked") == ["ticket-hand-over"]
+    assert page.press("ArrowRight", "o").js("ticked") == ["ticket-hand-over"]
     # Under this name earlier versions of the page have kept it.
     assert page.js("stored", "lockreplay.done") == '["ticket-hand-over"]'
 
 
 def test_the_end_of_a_schedule_of_ones_own(page):
     """No lesson follows, and one more step says so."""
-    page.open("#lesson=ticket-hand-over&move=10")
-    page.show("lock ticket threads 1\n0 acquire\n")
-    page.press("ArrowRight")
-    assert page.shown()["place"] == 1 and page.text("#notice") != "That was the last move."
-    page.press("ArrowRight")
-    assert page.shown()["place"] == 1 and page.text("#notice") == "That was the last move."
+    page.open("#lesson=ticket-hand-over&move=10").show("lock ticket threads 1\n0 acquire\n")
+    for is_last in (False, True):
+        assert page.press("ArrowRight").js("place") == 1
+        assert (page.text("#notice") == "That was the last move.") == is_last
 
 
 def test_a_refused_move_ends_its_lesson(page):
     """The refused move ticks the lesson off, and the last accepted move does not."""
-    page.open("#lesson=refused-busy&move=1")
-    page.press("o")
-    assert page.js("ticked") == []
+    assert page.open("#lesson=refused-busy&move=1").press("o").js("ticked") == []
     assert page.js("refusals") == [12, True] and page.js("chosen") == "refused-busy"
     assert page.js("texts", ".refusals h4") == ["Refused moves", "Texts that are not schedules"]
     assert page.js("texts", ".refusals h4 + ol > :first-child .soft") == [
         "refused-no-such-thread", "fault-no-header"]
-    page.press("Escape", "ArrowRight", "o")
-    assert page.js("ticked") == ["refused-busy"]
-    page.press("Escape")
-    page.lesson("fault-bad-header")
-    page.press("o")
+    assert page.press("Escape", "ArrowRight", "o").js("ticked") == ["refused-busy"]
+    page.press("Escape").lesson("fault-bad-header").press("o")
     assert page.js("ticked") == ["refused-busy"], "a text without a move has no end"
 
 
 def test_what_was_kept_is_near_the_top(page):
-    page.resize(1366, 768)
-    page.open("#lesson=mcs-late-link&move=3")
-    page.show("lock mcs threads 2\n")
-    page.show("#! title Mine\nlock mcs threads 2\n0 acquire\n", 1)
-    page.press("e", "o")
+    page.resize(1366, 768).open("#lesson=mcs-late-link&move=3").show("lock mcs threads 2\n")
+    page.show("#! title Mine\nlock mcs threads 2\n0 acquire\n", 1).press("e", "o")
     assert page.js("topOf", "#lessons [data-kept]") < 250
     assert page.js("texts", "#lessons [data-kept]") == [
         "Mine at move 1", "Your own schedule at move 0"]
@@ -227,22 +190,19 @@ def test_what_was_kept_is_near_the_top(page):
     page.press("Escape")
     for number in range(12):
         page.show(f"#! title of {number}\nlock mcs threads 2\n")
-    page.press("o")
-    assert page.js("texts", "#lessons .kept summary") == ["2 more"], "of fourteen"
+    assert page.press("o").js("texts", "#lessons .kept summary") == ["2 more"], "of fourteen"
 
 
 def test_the_ways(page):
     """Each way opens what it names."""
     for way, opened in [("own", "#own"), ("play", "#play"), ("find", "#find"), ("plans", "#plans")]:
-        page.open()
-        page.click(f"[data-way={way}]")
-        assert not page.js("isOpen") and page.js("topOf", opened) >= 0, way
+        page.open().click(f"[data-way={way}]")
+        assert not page.js("isOpen", "lessons") and page.js("topOf", opened) >= 0, way
 
 
 def test_terms_are_explained(page):
     """A term explains itself under the pointer, in the words of the glossary."""
-    page.resize(1366, 768)
-    page.open("#lesson=ticket-hand-over&move=6")
+    page.resize(1366, 768).open("#lesson=ticket-hand-over&move=6")
     for term, meaning in [("holder", "entered a lock and not left it"),
                           ("failed poll", "a step that finds that its thread has to wait"),
                           ("queue", "oldest first, so that the holder is its head")]:
@@ -254,29 +214,23 @@ def test_who_reads_a_term_aloud(page):
     """A term is a button that its explanation describes, as long as that is shown."""
     page.open("#lesson=ticket-hand-over&move=6")
     for term, word in [("holder", "Holds"), ("queue", "Queue")]:
-        page.js("explained", "#now", term)
-        assert page.js("describedTerm") == [word, "button"]
-    page.js("focus", "#forward")
+        assert page.call("explained", "#now", term).js("describedTerm") == [word, "button"]
+    page.call("focus", "#forward")
     assert page.js("describedTerm") is None and page.js("count", "[aria-describedby]") == 0
 
 
 def test_keys_of_a_term(page):
-    """In a hall Escape first closes the explanation, and then leaves. Space and Enter show it
-    again."""
+    """Escape closes the explanation, then the hall. Space and Enter show it again."""
     page.open("#lesson=ticket-hand-over&move=6&hall&show=now,code")
-    page.js("explained", "main", "holder")
+    page.call("explained", "main", "holder")
     for key in ["Space", "Enter"]:
-        page.press("Escape")
-        assert page.js("describedTerm") is None
+        assert page.press("Escape").js("describedTerm") is None
         page.press(key)
         assert page.js("describedTerm") == ["Holds", "button"] and not page.js("isRunning")
-    page.press("Escape")
-    page.js("click", "#now .facts .term")
+    page.press("Escape").call("click", "#now .facts .term")
     assert page.js("describedTerm") == ["Holds", "button"], "a click shows it too"
-    page.press("Escape")
-    assert page.js("inHall")
-    page.press("Escape")
-    assert not page.js("inHall")
+    assert page.press("Escape").js("inHall")
+    assert not page.press("Escape").js("inHall")
 
 
 def test_which_term_a_word_is(page):
@@ -289,38 +243,31 @@ def test_which_term_a_word_is(page):
               "of a linearization point.\nlock ticket threads 1\n0 acquire\n", 1)
     assert page.js("terms", "#now .own-say") == [
         ["Holds", "holder"], ["words", "word"], ["steps", "step"], ["moves", "move"],
-        ["polls", "poll"], ["linked", "link"], ["failed poll", "failed poll"],
-        ["holder", "holder"], ["word", "word"],
-        *([term, term] for term in ["late link", "record", "call", "section", "announce", "queue",
-                                    "linearization point"])]
+        ["polls", "poll"], ["linked", "link"], *([term, term] for term in [
+            "failed poll", "holder", "word", "late link", "record", "call", "section", "announce",
+            "queue", "linearization point"])]
 
 
 def test_a_term_at_the_foot_of_the_window(page):
     """Where there is no room below a term, its explanation is above it."""
-    page.open("#lesson=ticket-hand-over&move=6")
-    assert page.js("isExplainedAbove", "queue")
+    assert page.open("#lesson=ticket-hand-over&move=6").js("isExplainedAbove", "queue")
 
 
 def test_terms_of_the_start_are_explained(page):
     """The explanation of a term of the start is above the dialog."""
-    page.open()
-    said, is_seen = page.js("explained", "#lessons", "holder")
+    said, is_seen = page.open().js("explained", "#lessons", "holder")
     assert said and "entered a lock and not left it" in said and is_seen, said
 
 
 def test_one_card_plays_at_a_time(page):
     """A card plays while it has the focus or the pointer is on it, and no card is left playing."""
-    page.before("keepClocks")
-    page.open()
+    page.before("keepClocks").open()
     assert page.js("clocks") == [800], "the lesson to begin with has the focus"
-    page.js("atCard", "mcs", "pointerenter")
+    page.call("atCard", "mcs", "pointerenter")
     assert page.js("clocks") == [800], "the first card has stopped, though it has the focus"
     for event, playing in [("pointerleave", []), ("pointerenter", [800]), ("focusout", [])]:
-        page.js("atCard", "mcs", event)
-        assert page.js("clocks") == playing, event
-    page.js("atCard", "mcs", "focusin")
-    page.press("Escape")
-    page.becomes([], "clocks")
+        assert page.call("atCard", "mcs", event).js("clocks") == playing, event
+    page.call("atCard", "mcs", "focusin").press("Escape").becomes([], "clocks")
 
 
 # By lock the lesson with the most questions, and the move of the middle one.
@@ -334,35 +281,29 @@ PICTURED = {
 @cases("media", {"reduced": {"prefers-reduced-motion": "reduce"}})
 def test_what_cards_show(page):
     """A card shows the memory of its lesson at a question. It stays so for who wants no motion."""
-    page.before("keepClocks")
-    page.open()
-    page.js("atCard", "mcs", "pointerenter")
+    page.before("keepClocks").open().call("atCard", "mcs", "pointerenter")
     assert page.js("clocks") == []
     for lock, (name, move) in PICTURED.items():
-        replay = Replay((EXAMPLES / f"{name}.schedule").read_bytes())
+        replay = Replay(SCHEDULES[name].encode("latin-1"))
         assert page.js("attribute", f"[data-live={lock}] svg", "aria-label") == (
             replay.caption(replay.states[move])), lock
 
 
 def test_a_card_plays_again(page):
     """The card plays its lesson, and begins it anew after the last move."""
-    page.before("hasten")
-    page.open()
-    for said in ["It is the turn of ticket 1.",
-                 "No ticket is in use."]:
+    page.before("hasten").open()
+    for said in ["It is the turn of ticket 1.", "No ticket is in use."]:
         page.becomes(said, "attribute", "[data-live=ticket] svg", "aria-label")
 
 
 def test_what_a_card_plays(page):
     """With each turn of its clock a card shows the memory after the next move, from the one that it
     showed, and after the last move that before the first one."""
-    page.before("stopClock")
-    page.open()
+    page.before("stopClock").open()
     for lock, (name, move) in PICTURED.items():
-        replay = Replay((EXAMPLES / f"{name}.schedule").read_bytes())
-        page.js("atCard", lock, "focusin")
-        last = len(replay.moves)
-        moves = [*range(move + 1, last + 1), 0, 1, 2]
+        replay = Replay(SCHEDULES[name].encode("latin-1"))
+        page.call("atCard", lock, "focusin")
+        moves = [*range(move + 1, len(replay.moves) + 1), 0, 1, 2]
         assert page.js("turns", lock, len(moves)) == [
             replay.caption(replay.states[at]) for at in moves], lock
 
@@ -371,9 +312,7 @@ def test_what_a_card_plays(page):
 def test_how_wide_pictures_are(page, width):
     """The picture of a card is as wide as the card, on a phone too. It has room for 560 units, so
     its letters are smaller than in a lesson, or for more, so that its height has room."""
-    page.resize(width, 844)
-    page.open()
-    assert page.js("pictures") == [True] * 4
+    assert page.resize(width, 844).open().js("pictures") == [True] * 4
     shares = {round(560 / units, 3) for units in page.js("unitsOfPictures")}
     assert shares <= {1, 0.9, 0.8, 0.7, 0.6} and len(shares) > 1, shares
     assert page.js("cutPictures") == []

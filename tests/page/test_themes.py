@@ -12,10 +12,9 @@ LEAST = 4.5
     "light": ({}, False), "dark": ({"prefers-color-scheme": "dark"}, True)})
 def test_themes(page, is_dark):
     """The theme is the system's, until the reader chooses the other one."""
-    page.open(LATE_LINK)
-    assert page.js("isDark") == is_dark
+    assert page.open(LATE_LINK).js("isDark") == is_dark
     grounds = [luminance(page.js("ground"))]
-    page.js("click", "#theme")
+    page.call("click", "#theme")
     grounds.append(luminance(page.js("ground")))
     light, dark = reversed(grounds) if is_dark else grounds
     assert light > 0.8 and dark < 0.05, grounds
@@ -23,19 +22,16 @@ def test_themes(page, is_dark):
 
 def test_a_theme_that_there_is_not(page):
     """A browser that keeps another theme has that of the system, and the button the other one."""
-    page.before("keepTheme", "pink")
-    page.open(LATE_LINK)
+    page.before("keepTheme", "pink").open(LATE_LINK)
     assert page.js("theme") == "" and page.text("#theme").startswith("Dark ")
-    page.press("d")
-    assert page.js("theme") == "dark" and page.text("#theme").startswith("Light ")
+    assert page.press("d").js("theme") == "dark" and page.text("#theme").startswith("Light ")
 
 
 def test_which_theme_comes_first(page):
     """That of a link, then the one that the browser keeps."""
     page.before("keepTheme", "light")
     for link, theme in [(LATE_LINK, "light"), (f"{LATE_LINK}&theme=dark", "dark")]:
-        page.open(link)
-        assert page.js("theme") == theme
+        assert page.open(link).js("theme") == theme
 
 
 def test_without_colour(page):
@@ -52,13 +48,10 @@ def test_without_colour(page):
     "reads": ("0 rlock\n0 section\n1 wlock\n" + "1 section\n" * 3, "reads"),
     "writes": ("1 wlock\n1 section\n0 rlock\n" + "0 section\n" * 3, "writes")})
 def test_a_word_in_a_bar(page, moves, word):
-    page.open()
-    page.show(f"lock rw-simple threads 2\n{moves}")
+    page.open().show(f"lock rw-simple threads 2\n{moves}")
     for move in (3, 4, 5, 6):
-        page.go(move)
-        assert page.js("wordsInBars") == [[word, True]], move
-    page.go(2)
-    assert page.js("wordsInBars") == [], "it has no room yet"
+        assert page.go(move).js("wordsInBars") == [[word, True]], move
+    assert page.go(2).js("wordsInBars") == [], "it has no room yet"
 
 
 # The states in which threads stand so, and the grounds of their bars, discs, pills and heads, by
@@ -95,12 +88,10 @@ def test_grounds_of_standings(page):
     page.open()
     grounds, inks = {}, {}
     for lesson, move in STATES:
-        page.lesson(lesson, move)
-        page.press("a")
+        page.lesson(lesson, move).press("a")
         grounds |= page.js("groundsOf", list(GROUNDS))
         inks |= page.js("inksOf", list(INKS))
-    assert grounds == GROUNDS
-    assert inks == INKS
+    assert grounds == GROUNDS and inks == INKS
     assert page.js("weights", "#numbers .number.here") == ["700"]
     assert page.js("weights", "#numbers .number:not(.here)") == ["400"]
 
@@ -113,8 +104,7 @@ def test_how_thick_bars_are(page):
 
 def test_what_comes_is_faint(page):
     """Later marks are faint, and so are the arrows to them."""
-    page.open("#lesson=mcs-late-link&move=13&future")
-    faint = page.js("faintMoves")
+    faint = page.open("#lesson=mcs-late-link&move=13&future").js("faintMoves")
     assert faint == [[move, move > 13] for move in range(1, 17)]
     assert page.js("count", "#lanes .arrow.future:not(.halo)") == 2
 
@@ -128,8 +118,7 @@ LINKED = f"{MOVES}1 write\n1 write\n2 acquire\n2 write\n2 swap\n"
 @cases("names", {"none": "", "long": NAMES})
 def test_heads_have_room(page, names):
     """A thread's name in the head of its record does not run into its standing."""
-    page.open()
-    assert page.js("heads", f"{names}lock mcs threads 2\n{MOVES}") == [True, True]
+    assert page.open().js("heads", f"{names}lock mcs threads 2\n{MOVES}") == [True, True]
     page.press("Escape", "h")
     assert page.js("heads", f"{names}lock mcs threads 2\n{MOVES}") == [True, True]
     assert page.js("count", "body.hall") == 1
@@ -137,8 +126,7 @@ def test_heads_have_room(page, names):
 
 def test_names_are_whole(page):
     """A long name is drawn whole if there is room for it."""
-    page.open()
-    shown = page.js("namesDrawn", f"{NAMES}lock mcs threads 2\n{MOVES}1 write\n1 write\n")
+    shown = page.open().js("namesDrawn", f"{NAMES}lock mcs threads 2\n{MOVES}1 write\n1 write\n")
     assert shown["lanes"] == shown["heads"] == ["Wilhelmina", "Montgomery"], shown
     assert shown["next"] == "Montgomery" and shown["inside"], shown
 
@@ -156,18 +144,14 @@ def test_names_that_are_cut(page):
     assert shown["inside"], shown
     # Letters are larger in a hall, and measured anew for it.
     text = f"{LONGER_NAMES}lock mcs threads 2\n{MOVES}"
-    page.js("showEnd", text)
-    page.press("Escape", "h")
-    heads = page.js("texts", ".record > .name")
-    page.open(f"{LATE_LINK}&hall")
-    page.js("showEnd", text)
+    heads = page.call("showEnd", text).press("Escape", "h").js("texts", ".record > .name")
+    page.open(f"{LATE_LINK}&hall").call("showEnd", text)
     assert page.js("texts", ".record > .name") == heads
 
 
 def test_sentences_begin_so(page):
     """A sentence on a move begins with a capital letter, even if the thread has no name."""
-    page.open()
-    page.js("showEnd", f"lock mcs threads 2\n{MOVES}0 release\n0 read\n0 cas\n0 read\n")
+    page.open().call("showEnd", f"lock mcs threads 2\n{MOVES}0 release\n0 read\n0 cas\n0 read\n")
     assert page.text("#now .say") == (
         "Thread 0 polls its own next and waits for the link: it is still nil.")
 
@@ -177,9 +161,7 @@ def test_sentences_begin_so(page):
     ("mcs-late-link", "fails"), ("fifo-downgrade", "writes"), ("refused-not-holder", "refused")])
 def test_letters_of_what_comes(page, theme, lesson, word):
     """Faint letters of later moves have enough contrast in both themes, and include this word."""
-    page.open(f"#lesson={lesson}&move=0&theme={theme}")
-    page.press("f")
-    coming = page.js("coming")
+    coming = page.open(f"#lesson={lesson}&move=0&theme={theme}").press("f").js("coming")
     assert word in [text for text, _, _ in coming], coming
     for text, colour, ground in coming:
         assert contrast(colour, ground) >= LEAST, (text, colour, ground)
@@ -187,9 +169,7 @@ def test_letters_of_what_comes(page, theme, lesson, word):
 
 def test_no_line_through_a_label(page):
     """A label on dashes is drawn over them, with an edge in the colour of the ground."""
-    page.open("#lesson=mcs-late-link&move=0")
-    page.press("f")
-    label = page.js("label")
+    label = page.open("#lesson=mcs-late-link&move=0").press("f").js("label")
     assert label["text"] == "in the queue, not linked" and label["above"], label
     assert label["stroke"] == label["card"] and label["opaque"] == 1, label
     assert label["paintOrder"].startswith("stroke"), label
@@ -199,9 +179,7 @@ def test_no_line_through_a_label(page):
 @pytest.mark.parametrize("width", range(1440, 1446))
 def test_ticks_of_what_was(page, width):
     """The slider shows a tick from its move on, at any width."""
-    page.resize(width, 900)
-    page.open("#lesson=mcs-late-link")
-    assert page.js("ticks", [8, 9]) == [0, 1]
+    assert page.resize(width, 900).open("#lesson=mcs-late-link").js("ticks", [8, 9]) == [0, 1]
 
 
 def test_a_link_that_is_missing(page):
@@ -214,15 +192,13 @@ def test_a_link_that_is_missing(page):
             for kind in (".missing", ":not(.missing)")] == [True, False]
     assert page.js("weights", ".record .field") == ["400"], "of a label in memory, not in the quiz"
     assert page.text("#memory-says .missing") == "Ann is followed by Bob, and only Bob knows."
-    page.go(14)
-    assert page.js("texts", "#now [data-queue] .gap") == ["→"]
+    assert page.go(14).js("texts", "#now [data-queue] .gap") == ["→"]
     assert page.js("count", ":is(#memory-picture .link, #memory-says span).missing") == 0
 
 
 def test_the_wheel(page):
     """On the wheel 0 is at the top, and the other numbers follow clockwise."""
-    page.open("#lesson=ticket-wraps-at-2-bits&move=0")
-    places = page.js("places")
+    places = page.open("#lesson=ticket-wraps-at-2-bits&move=0").js("places")
     middle = [sum(values) / 4 for values in zip(*places)]
     sides = [[(at > center) - (at < center) if abs(at - center) > 9 else 0
               for at, center in zip(place, middle)] for place in places]
@@ -247,8 +223,7 @@ TICKETS = "0 acquire\n0 add\n1 acquire\n1 add\n"
 def test_whose_ticket_it_is(page):
     """On the wheel each thread is at its ticket. For wide words the tickets are in a row, in the
     order of the queue, and the next ticket is the last."""
-    page.open()
-    page.show(f"lock ticket threads 2 bits 2\n{TICKETS}", 4)
+    page.open().show(f"lock ticket threads 2 bits 2\n{TICKETS}", 4)
     assert page.js("threadsAtPlaces") == [["0"], ["1"], [], []]
     page.show(f"lock ticket threads 2\n{TICKETS}", 4)
     assert page.js("texts", "#memory-picture .cell + text") == ["0", "1", "2"]
@@ -277,9 +252,7 @@ def test_a_write_is_a_change(page):
 def test_the_hands(page, text, inner, outer):
     """The outer hand points right, to the count that has advanced, and the inner hand still points
     to 0. The sign of each hand has the name of its word."""
-    page.open()
-    page.show(text, 2)
-    assert page.js("hands") == {"inner": [0, -1], "outer": [1, 0]}
+    assert page.open().show(text, 2).js("hands") == {"inner": [0, -1], "outer": [1, 0]}
     assert page.js("wordsOfHands") == {"inner": inner, "outer": outer}
 
 
@@ -309,8 +282,6 @@ OF_A_LOCK = {
     "mcs": ["in the queue", "holds", "cas fails", "in the queue, not linked"],
     "rw-simple": ["reads", "writes"], "rw-fifo": ["in the queue", "reads", "writes"],
 }
-
-
 MEMORY = {
     "ticket": "Memory: who has which ticket", "mcs": "Memory, in the order of the queue",
     "rw-simple": "Memory, and the threads beside it",
@@ -319,17 +290,14 @@ MEMORY = {
 
 
 def test_what_signs_mean(page):
-    """Each legend has the signs of its lock, beside a head on its memory, and the list of keys has
-    all signs."""
+    """Each legend has the signs of its lock, and the list of keys has all of them."""
     page.open()
     for lock, own in OF_A_LOCK.items():
-        page.show(f"lock {lock} threads 1\n")
-        assert page.js("signs", "#legend") == {
+        assert page.show(f"lock {lock} threads 1\n").js("signs", "#legend") == {
             label: SIGNS[label] for label in [*OF_EACH_LOCK, *own]}, lock
         assert page.js("cutSigns") == [], lock
         assert page.text("#memory-title") == MEMORY[lock]
-    page.press("?")
-    assert page.js("signs", "#sign-list") == {**SIGNS, **OTHER_SIGNS}
+    assert page.press("?").js("signs", "#sign-list") == {**SIGNS, **OTHER_SIGNS}
 
 
 def test_shapes_of_outcomes(page):
@@ -344,8 +312,7 @@ def test_shapes_of_outcomes(page):
 
 def test_which_lesson_is_shown(page):
     """The start marks the lesson that is open, by an edge in the colour of letters."""
-    page.open("#lesson=mcs-late-link&move=3")
-    page.press("o")
+    page.open("#lesson=mcs-late-link&move=3").press("o")
     assert page.js("markedLessons") == ["mcs-late-link"]
 
 

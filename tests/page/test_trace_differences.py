@@ -2,7 +2,7 @@
 values are worked out by hand from docs/LOCKS.md."""
 import pytest
 
-from test_recorded_runs import AGREEING, LESSON, LINKED, SECOND, moves_of, text_of
+from test_recorded_runs import AGREEING, LESSON, LINKED, SECOND, moves_of, pasted, text_of
 
 # A run whose last line is refused, both values, and the cause.
 DIFFERENT = {
@@ -107,9 +107,7 @@ def test_differences(page, name):
     head, moves, wrong, code, said = DIFFERENT[name]
     trace = text_of(head, moves_of(moves))
     line = len(moves_of(moves)) + 1
-    page.open(LESSON)
-    page.js("paste", trace)
-    shown = page.shown(refused=True, moves=line - 2)
+    shown = page.open(LESSON).call("paste", trace).shown(refused=True, moves=line - 2)
     assert shown["place"] == line - 1 and shown["held"] == trace
     assert page.text("#notice") == f"This is a trace. It differs from the lock in line {line}."
     last = moves_of(moves)[-1]
@@ -127,55 +125,47 @@ def test_what_decided_it(page):
     page.open(LESSON)
     for name, decided in [("a value that thread 0 wrote over", ["move 3: 0 swap"]),
                           ("a value that nobody wrote", [])]:
-        head, moves, *_ = DIFFERENT[name]
-        page.js("paste", text_of(head, moves_of(moves)))
-        assert page.js("texts", "#now [data-decided]") == decided
+        assert pasted(page, *DIFFERENT[name][:2]).js("texts", "#now [data-decided]") == decided
 
 
 def test_a_write_that_is_noted_too_late(page):
     """The page names the line of the late write, and steps through no line after a refusal."""
-    page.open(LESSON)
-    page.js("paste", text_of("lock ticket threads 2", moves_of(
-        "0 acquire; 0 add; 0 read; 0 release; 0 read; 1 acquire; 1 add; "
-        "1 read now_serving found 1; 0 write now_serving left 1; 1 release")))
-    shown = page.shown(moves=7, refused=True)
+    shown = pasted(page.open(LESSON), "lock ticket threads 2", (
+        "0 acquire; 0 add; 0 read; 0 release; 0 read; 1 acquire; 1 add; 1 read now_serving found "
+        "1; 0 write now_serving left 1; 1 release")).shown(moves=7, refused=True)
     assert "found 1. The lock here: found 0." in shown["now"]
     assert "Line 10 writes 1 there: perhaps that write is noted too late." in shown["now"]
-    page.press("ArrowRight")
-    assert page.shown()["place"] == 8
-    page.js("paste", text_of("lock mcs threads 2", moves_of(
+    assert page.press("ArrowRight").shown()["place"] == 8
+    pasted(page, "lock mcs threads 2", (
         "0 acquire; 0 write; 0 swap; 0 release; 0 read; 0 cas; 1 acquire; 1 write; "
-        "1 swap tail found 1; 1 release; 1 read; 1 cas; 0 acquire; 0 write; 0 swap")))
+        "1 swap tail found 1; 1 release; 1 read; 1 cas; 0 acquire; 0 write; 0 swap"))
     assert "The word had 1 until line 7" in page.shown(refused=True, moves=8)["now"], (
         "the line before is nearer than the line after, which writes 1 too")
-    page.js("paste", text_of("lock mcs threads 2", moves_of(
+    pasted(page, "lock mcs threads 2", (
         "0 acquire; 0 write; 0 swap; 0 release; 0 read; 0 cas; 0 acquire; 0 write; 0 swap; "
-        "1 acquire; 1 write; 1 swap tail found 0")))
+        "1 acquire; 1 write; 1 swap tail found 0"))
     assert "The word had 0 until line 10" in page.shown(refused=True, moves=11)["now"], (
         "the last time, and not in the beginning")
 
 
 def test_two_steps_in_the_wrong_order(page):
     """The page names the line of the other step, if it is in the same call."""
-    page.open(LESSON)
-    page.js("paste", text_of("lock mcs threads 2", moves_of(
-        LINKED + "1 write next of 0 left 2; 0 release; 1 write locked left 1")))
+    pasted(page.open(LESSON), "lock mcs threads 2",
+           LINKED + "1 write next of 0 left 2; 0 release; 1 write locked left 1")
     assert ("Line 10 is on locked of 1: perhaps the two steps are in the wrong order."
             in page.shown(refused=True)["now"])
-    page.js("paste", text_of("lock mcs threads 2", moves_of(
+    now = pasted(page, "lock mcs threads 2", (
         "0 acquire; 0 write tail left 0; 0 swap; 0 release; 0 read; 0 cas; 0 acquire; "
-        "0 write next of 0")))
-    now = page.shown(refused=True, moves=1)["now"]
+        "0 write next of 0")).shown(refused=True, moves=1)["now"]
     assert "A step on next of 0 may be missing before it" in now and "Line 9" not in now, now
 
 
 def test_a_move_that_the_machine_refuses(page):
     """The page shows a refused move of a trace as one of a schedule. An earlier difference wins."""
-    page.open(LESSON)
-    page.js("paste", "lock mcs threads 2\n0 acquire\n0 swap tail found 0\n")
+    page.open(LESSON).call("paste", "lock mcs threads 2\n0 acquire\n0 swap tail found 0\n")
     shown = page.shown(refused=True, moves=1)
     assert "This is not the next step of thread 0." in shown["now"]
     assert "refused line 3 WrongStep next write" in shown["now"]
     assert page.js("marked") == ["0 swap tail found 0", "swap"]
-    page.js("paste", "lock mcs threads 2\n0 acquire\n0 write tail\n0 release\n")
+    page.call("paste", "lock mcs threads 2\n0 acquire\n0 write tail\n0 release\n")
     assert "The lock here: write on next of 0." in page.shown(refused=True, moves=1)["now"]

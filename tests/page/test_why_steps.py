@@ -49,9 +49,7 @@ BY_HAND = {
 
 def to_stop(page, lock, at):
     """Opens the dialog at a group of lines, counted from 0."""
-    page.open()
-    page.click(f"[data-why={lock}]")
-    page.press(*["ArrowRight"] * at)
+    page.open().click(f"[data-why={lock}]").press(*["ArrowRight"] * at)
 
 
 @cases("lock, at, number, steps", BY_HAND)
@@ -59,8 +57,7 @@ def test_steps_by_hand(page, lock, at, number, steps):
     """The words and the object after a move, the words that it wrote, and the harm."""
     to_stop(page, lock, at)
     for count, (head, values, wrote, has, ends) in steps.items():
-        page.js("stepTo", number, count)
-        step = page.js("step")
+        step = page.call("stepTo", number, count).js("step")
         assert step["number"] == number and step["at"] == count, step
         assert step["head"] == head
         assert [word.split(" = ")[1] for word in step["words"]] == values, (count, step)
@@ -81,8 +78,7 @@ def test_names_of_words(page):
 @pytest.mark.parametrize("lock", LOCKS)
 def test_every_step(page, lock):
     """Each move of each run shows what the program says of it."""
-    page.open()
-    page.click(f"[data-why={lock}]")
+    page.open().click(f"[data-why={lock}]")
     for _, name in stops(lock):
         changes = [change for change in told(lock) if change["step"] == name]
         runs = page.js("steps")
@@ -122,46 +118,32 @@ def plain_value(name, value):
 
 def test_keys_of_steps(page):
     """N and P go from move to move of the run that is shown, and a line begins anew."""
-    page.open(f"{LATE_LINK}9")
-    page.press("y")
-    assert page.js("at") == [0, 0]
+    assert page.open(f"{LATE_LINK}9").press("y").js("at") == [0, 0]
     for key, at in [("p", 0), ("n", 1), ("n", 2), ("p", 1), ("N", 2), ("n", 3), ("n", 4), ("n", 5),
                     ("n", 6), ("n", 7), ("n", 7), ("P", 6)]:
-        page.press(key)
-        assert page.js("at") == [0, at], key
-    page.press("ArrowRight")
-    assert page.js("lines") == [13] and page.js("at") == [0, 0]
-    page.press("n", "ArrowLeft")
-    assert page.js("lines") == [12] and page.js("at") == [0, 0]
-    page.press("y")
-    assert not page.js("isOpen")
+        assert page.press(key).js("at") == [0, at], key
+    assert page.press("ArrowRight").js("lines") == [13] and page.js("at") == [0, 0]
+    assert page.press("n", "ArrowLeft").js("lines") == [12] and page.js("at") == [0, 0]
+    assert not page.press("y").js("isOpen", "why")
     # Here the page's own keys act again.
-    page.press("n")
-    assert page.text("dialog[open] h2") == "Lesson plans"
+    assert page.press("n").text("dialog[open] h2") == "Lesson plans"
 
 
 def test_steps_by_mouse(page):
     """The buttons of a run and its list of moves choose a move, and the keys go on from there."""
-    page.open(f"{LATE_LINK}9")
-    page.press("y")
-    page.click("[data-of='1'][data-step='1']")
+    page.open(f"{LATE_LINK}9").press("y").click("[data-of='1'][data-step='1']")
     assert page.js("at") == [1, 1]
-    page.press("n")
-    assert page.js("at") == [1, 2]
-    page.click("[data-of='1'][data-step='-1']")
-    assert page.js("at") == [1, 1]
+    assert page.press("n").js("at") == [1, 2]
+    assert page.click("[data-of='1'][data-step='-1']").js("at") == [1, 1]
     page.click("[data-of='0'][data-count='6']")
     assert page.js("at") == [0, 6] and page.js("step")["head"].endswith(" changed")
     assert page.js("outlines") == ["solid"], "the current move alone has a frame"
-    page.press("p")
-    assert page.js("at") == [0, 5]
+    assert page.press("p").js("at") == [0, 5]
 
 
 def test_a_screen_reader_follows(page):
     """One move is the current one, and what is said of it is a status."""
-    page.open(f"{LATE_LINK}9")
-    page.press("y")
-    assert page.js("count", "#why li[aria-current]") == 0
+    assert page.open(f"{LATE_LINK}9").press("y").js("count", "#why li[aria-current]") == 0
     page.press("n", "n", "n")
     assert page.js("texts", "#why li[aria-current=step]") == ["0 SwapTail pred := swap(tail, me)"]
     assert page.js("attribute", ".stepped .why-step", "role") == "status"
@@ -171,21 +153,14 @@ def test_a_screen_reader_follows(page):
 
 
 def test_steps_in_german(page):
-    page.open("#lang=de")
-    page.click("[data-why=rw-fifo]")
-    page.press(*["ArrowRight"] * 7)
-    page.js("stepTo", 0, 0)
-    assert page.js("step")["head"] == "Vor dem ersten Zug"
+    page.open("#lang=de").click("[data-why=rw-fifo]").press(*["ArrowRight"] * 7)
+    assert page.call("stepTo", 0, 0).js("step")["head"] == "Vor dem ersten Zug"
     assert page.js("step")["object"] == "Das sequentielle Objekt: niemand ist drinnen."
-    page.press("n", "n", "n", "n")
-    assert page.js("step")["object"] == (
+    assert page.press("n", "n", "n", "n").js("step")["object"] == (
         "Das sequentielle Objekt: drinnen sind die Leser 0, Thread 1 ist angekündigt.")
-    page.press("n")
-    assert page.js("step")["ends"] == [
+    assert page.press("n").js("step")["ends"] == [
         "✕ Das sequentielle Objekt erlaubt das nicht: Thread 1 tritt als Schreiber ein, während "
         "die Leser 0 drinnen sind und Thread 1 angekündigt ist."]
-    page.open("#lang=de")
-    page.click("[data-why=mcs]")
-    page.press("ArrowRight", "n", "n", "n")
+    page.open("#lang=de").click("[data-why=mcs]").press("ArrowRight", "n", "n", "n")
     assert page.js("step")["head"].startswith("Zug 3 von 22: 0 SwapTail")
     assert page.js("step")["wrote"] == ["tail = Thread 0"]

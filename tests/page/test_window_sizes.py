@@ -3,12 +3,9 @@ threads are in view.
 
 A laptop with large letters, a projector, a browser at 150 %, half a screen; and a phone.
 """
-import re
-
 import pytest
 
-from reports import LESSONS, moves_of
-from tree import EXAMPLES
+from reports import LESSONS, MOVES, asked_in
 
 in_windows = pytest.mark.parametrize("width, height", [
     (1920, 937), (1536, 730), (1366, 650), (1280, 720), (1024, 768), (960, 540), (960, 1040),
@@ -26,16 +23,12 @@ WITH_VARIABLES = [f"#lesson={lesson}&move={move}" for lesson, moves in [
 
 @in_windows
 def test_the_line_and_the_question(page, width, height):
-    page.resize(width, height)
-    page.open(ASKED[0])
-    assert page.js("outOfView", ASKED) == []
+    assert page.resize(width, height).open(ASKED[0]).js("outOfView", ASKED) == []
 
 
 @in_windows
 def test_the_variables_of_threads(page, width, height):
-    page.resize(width, height)
-    page.open(WITH_VARIABLES[0])
-    assert page.js("variables", WITH_VARIABLES) == []
+    assert page.resize(width, height).open(WITH_VARIABLES[0]).js("variables", WITH_VARIABLES) == []
 
 
 def test_how_far_lines_of_code_are_apart(page):
@@ -43,8 +36,7 @@ def test_how_far_lines_of_code_are_apart(page):
     page.open("#lesson=mcs-late-link&move=9")
     found = set()
     for height in range(560, 960, 20):
-        page.resize(1440, height)
-        apart, all_seen = page.js("lineHeight"), page.js("areAllLinesSeen")
+        apart, all_seen = page.resize(1440, height).js("lineHeight"), page.js("areAllLinesSeen")
         assert apart == 23 or 19 <= apart < 23 and all_seen, (height, apart)
         found.add((apart == 23, all_seen))
     assert found == {(True, False), (False, True), (True, True)}
@@ -59,10 +51,9 @@ def test_how_far_lines_of_code_are_indented(page):
 @pytest.mark.parametrize("width, height", [(1024, 600), (960, 540), (900, 600)])
 def test_each_line_of_a_step(page, width, height):
     """Both lines of a section are in view at each move, if there is room for two."""
-    page.resize(width, height)
-    page.open("#lesson=fifo-downgrade&move=0")
+    page.resize(width, height).open("#lesson=fifo-downgrade&move=0")
     for name in ["fifo-downgrade", "simple-second-writer", "fifo-second-writer"]:
-        assert page.js("linesOutOfView", name, len(moves_of(LESSONS[name]))) == [], name
+        assert page.js("linesOutOfView", name, len(MOVES[name])) == [], name
 
 
 LESSON, THREE = "#lesson=mcs-late-link&move=9", "#lesson=mcs-third-linked-before-second&move=12"
@@ -94,18 +85,14 @@ ARRANGED = {
 
 
 def test_how_parts_are_arranged(page):
-    page.open(LESSON)
-    page.press("Escape")
+    page.open(LESSON).press("Escape")
     for name, (width, height, link, *arranged) in ARRANGED.items():
-        page.resize(width, height)
-        page.js("follow", link)
+        page.resize(width, height).call("follow", link)
         page.wait(lambda: page.js("arranged") == arranged,
                   lambda: f"{name}: {page.js('arranged')} is not {arranged}")
-    page.js("follow", LESSON)
-    page.press("g")
+    page.call("follow", LESSON).press("g")
     for width, layout in [(1459, "medium"), (1460, "wide")]:
-        page.resize(width, 800)
-        page.becomes([layout, "most", 1], "arranged")
+        page.resize(width, 800).becomes([layout, "most", 1], "arranged")
 
 
 def test_whose_variables(page):
@@ -113,18 +100,14 @@ def test_whose_variables(page):
     page.open("#lesson=mcs-late-link&move=12")
     own = "#memory-picture .record .own ~ text"
     assert page.js("texts", own) == ["pred = Ann", "Bob’s own variable"]
-    page.go(14)
-    assert page.js("texts", own) == ["succ = Bob", "Ann’s own variable"]
+    assert page.go(14).js("texts", own) == ["succ = Bob", "Ann’s own variable"]
 
 
 def test_how_large_memory_is(page):
-    """Where there is room, memory is drawn larger, up to 1.3 times, and else smaller. That of many
-    threads is at one scale, and folded."""
+    """Memory is drawn up to 1.3 times larger; that of many threads at one scale, folded."""
     for width, height, least, most in [(1920, 1080, 1.3, 1.3), (1440, 900, 1, 1.3),
                                        (1024, 600, 0.6, 1)]:
-        page.resize(width, height)
-        page.open(LESSON)
-        scale, fits = page.js("scaleOfMemory")
+        scale, fits = page.resize(width, height).open(LESSON).js("scaleOfMemory")
         assert least <= round(scale, 2) <= most and fits, (width, scale)
     page.resize(1440, 900)
     for threads, large in [(12, False), (13, True), (64, True)]:
@@ -140,14 +123,10 @@ def test_room_for_all_moves(page):
 
 @pytest.mark.parametrize("lesson, move", [("mcs-late-link", 12), ("fifo-second-writer", 13)])
 def test_a_line_out_of_view(page, lesson, move):
-    """A line that was out of view comes into the middle, so that lines before and after it are in
-    view too."""
-    page.resize(1024, 600)
-    page.open(f"#lesson={lesson}&move={move}")
-    page.go(1)
+    """A line that was out of view comes into the middle."""
+    page.resize(1024, 600).open(f"#lesson={lesson}&move={move}").go(1)
     assert page.js("linesAround")[0] == 0
-    page.go(move)
-    before, after = page.js("linesAround")
+    before, after = page.go(move).js("linesAround")
     assert before > 0 and after > 0 and abs(before - after) <= 1, (before, after)
 
 
@@ -155,8 +134,7 @@ def test_a_line_out_of_view(page, lesson, move):
     (1024, 768, ""), (1366, 650, ""), (390, 844, ""), (1024, 768, "&hall&show=time,now")])
 def test_letters_of_another_move(page, width, height, look):
     """How large letters are does not depend on the move that was shown before."""
-    page.resize(width, height)
-    page.open(f"{LESSON}{look}")
+    page.resize(width, height).open(f"{LESSON}{look}")
     moves = list(range(17))
     forward, back = page.js("sizesAt", moves), page.js("sizesAt", moves[::-1])
     assert forward == back[::-1] and len({one[0] for one in forward}) > 1, forward
@@ -169,11 +147,9 @@ def test_memory_keeps_its_room(page):
 
 
 def test_how_high_lanes_are(page):
-    """Two lanes are as high as can be, 85 each with a foot of 6; on a phone they have 100 at least,
-    and in the lowest windows 82."""
+    """Two lanes have 85 each and a foot of 6; on a phone 100 at least, in low windows 82."""
     for width, height, lanes in [(1440, 900, 176), (360, 640, 100), (844, 390, 82)]:
-        page.resize(width, height)
-        page.open(LESSON)
+        page.resize(width, height).open(LESSON)
         assert page.js("heightOfLanes") == lanes, (width, height)
 
 
@@ -187,10 +163,7 @@ SHARES = [
 
 def test_how_high_six_lanes_are(page):
     for width, height, look, share in SHARES:
-        page.resize(width, height)
-        page.open(f"{LESSON}{look}")
-        page.show(SIX, 6)
-        page.js("inMode", "lessons")
+        page.resize(width, height).open(f"{LESSON}{look}").show(SIX, 6).call("inMode", "lessons")
         assert page.js("heightOfLanes") == round(share * height), (width, height, look)
 
 
@@ -198,30 +171,19 @@ def test_the_line_in_the_lowest_window(page):
     """A phone on its side is too low for the page, but the line is in view all the same."""
     page.resize(844, 390)
     for link in ASKED:
-        page.open(link)
-        assert page.js("lowest") == [True, True], link
-
-
-def answered(name):
-    """The moves of a lesson that have a question with an answer."""
-    text = (EXAMPLES / f"{name}.schedule").read_text("latin-1")
-    asked, answered = [set(map(int, re.findall(rf"^#! {word} (\d+) ", text, re.MULTILINE)))
-                       for word in ("ask", "answer")]
-    return sorted(asked & answered)
+        assert page.open(link).js("lowest") == [True, True], link
 
 
 # The moves that have a question with an answer, for each lesson without a refusal or fault.
-ASKED_IN = {name: answered(name) for name, report in LESSONS.items()
-            if not report.startswith(("fault", "refused"))}
+ASKED_IN = {name: sorted(asked_in(name) & asked_in(name, "answer"))
+            for name, report in LESSONS.items() if not report.startswith(("fault", "refused"))}
 
 
 @pytest.mark.parametrize("language", ["en", "de"])
 @pytest.mark.parametrize("width, height", [(360, 780), (390, 844)])
 def test_the_answer_on_a_phone(page, width, height, language):
     """In Play, with the choices below, "Answer" needs no scrolling."""
-    page.resize(width, height)
-    page.open(f"#lesson=mcs-late-link&move=9&lang={language}")
-    page.press("g")
+    page.resize(width, height).open(f"#lesson=mcs-late-link&move=9&lang={language}").press("g")
     assert sum(map(len, ASKED_IN.values())) > 20
     for name, moves in ASKED_IN.items():
         assert page.js("hidden", name, moves) == [], name
@@ -230,8 +192,7 @@ def test_the_answer_on_a_phone(page, width, height, language):
 @pytest.mark.parametrize("language", ["en", "de"])
 def test_the_answer_fits(page, language):
     """On a small projector the move, its question and the answer need no scrolling."""
-    page.resize(1024, 768)
-    page.open(f"#lesson=mcs-late-link&move=9&lang={language}")
+    page.resize(1024, 768).open(f"#lesson=mcs-late-link&move=9&lang={language}")
     assert sum(map(len, ASKED_IN.values())) > 20
     scrolled = {name: page.js("scrolledWithAnswer", name, moves)
                 for name, moves in ASKED_IN.items()}

@@ -61,10 +61,7 @@ const linesOfPatterns = () => ['hatch', 'ruled']
 const markedLessons = () => all('#lesson-list [data-lesson]').filter((one) => (
   nameOf(getComputedStyle(one).borderTopColor) === 'ink')).map((one) => one.dataset.lesson);
 
-function showEnd(letters) {
-  show(letters);
-  go(Infinity);
-}
+const showEnd = (letters) => show(letters, Infinity);
 
 // Whether each head of a record has a gap between the thread's name and its standing.
 function heads(letters) {
@@ -90,8 +87,8 @@ function namesDrawn(letters) {
     const [text, frame] = [one, one.parentNode.querySelector('.word, .own')].map(rect);
     return text.left >= frame.left && text.right <= frame.right;
   };
-  const [heads, line] = [all('.record > .name'), rect(document.querySelector('.lane-line')).left];
-  const next = document.querySelector('.record .value');
+  const [heads, line] = [all('.record > .name'), rect('.lane-line').left];
+  const next = pick('.record .value');
   return {
     lanes: all('.lane-name').map(drawn), lanesWhole: all('.lane-name title').map(drawn),
     heads: heads.map(drawn), headsWhole: heads.map(pointed),
@@ -121,10 +118,9 @@ function shareOf(node) {
 
 // The colour below a text: the card, or the bar that the text is in.
 function groundBelow(node, card) {
-  const at = rect(node);
+  const [at, middle] = [rect(node), middleY(node)];
   const isBelow = (one) => {
     const { left, right, top, bottom } = rect(one);
-    const middle = at.top + at.height / 2;
     return left <= at.left && at.right <= right && top <= middle && middle <= bottom;
   };
   const bar = !node.closest('.move')
@@ -147,8 +143,7 @@ function coming() {
 
 // The label on the dashes of a thread that is not linked.
 function label() {
-  const [node, line] = ['.unlinked-text.future', '.unlinked.future']
-    .map((one) => document.querySelector(one));
+  const [node, line] = ['.unlinked-text.future', '.unlinked.future'].map(pick);
   const { stroke, strokeOpacity, strokeWidth, paintOrder, opacity } = getComputedStyle(node);
   return {
     stroke, paintOrder, text: node.textContent, card: styleOf('#time').backgroundColor,
@@ -159,21 +154,15 @@ function label() {
 }
 
 // The number of ticks for failed moves on the slider, at each of these moves.
-const ticks = (moves) => moves.map((move) => {
-  go(move);
-  return count('#slider-picture .tick.fails');
-});
+const ticks = (moves) => atEach(moves, () => count('#slider-picture .tick.fails'));
 
 // The middle of each number on a wheel, in numeric order.
-const places = () => all('#memory-picture .place circle').map(rect)
-  .map(({ left, right, top, bottom }) => [(left + right) / 2, (top + bottom) / 2]);
+const places = () => all('#memory-picture .place circle').map((it) => [middleX(it), middleY(it)]);
 
 // The threads that are beside each number of a wheel, in the order of the numbers.
-const threadsAtPlaces = () => places().map(([x, y]) => all('#memory-picture .token')
-  .filter((one) => {
-    const { left, right, top, bottom } = rect(one.querySelector('circle'));
-    return Math.hypot((left + right) / 2 - x, (top + bottom) / 2 - y) < 60;
-  }).map((one) => one.querySelector('text').textContent));
+const threadsAtPlaces = () => places().map(([x, y]) => all('#memory-picture .token circle')
+  .filter((one) => Math.hypot(middleX(one) - x, middleY(one) - y) < 60)
+  .map((one) => one.parentNode.querySelector('text').textContent));
 
 // The directions of the hands of a wheel. Right and down count as 1.
 const hands = () => Object.fromEntries(['inner', 'outer'].map((name) => {
@@ -188,20 +177,20 @@ const wordsOfHands = () => Object.fromEntries(all('#memory-picture .hand + text'
   .map((one) => [one.previousElementSibling.classList[1], one.textContent]));
 
 const isDashed = (selector) => styleOf(selector).strokeDasharray !== 'none';
-const shapeOf = (selector) => document.querySelector(selector).tagName;
+const shapeOf = (selector) => pick(selector).tagName;
 // The signs of the legend that are higher than their pictures.
 const cutSigns = () => all('#legend svg > *').filter((one) => {
   const { y, height } = one.getBBox();
   return y < 0 || y + height > one.parentElement.height.baseVal.value;
-}).map((one) => plain(one.closest('span').textContent));
+}).map((one) => saidBy(one.closest('span')));
 
-const signShape = (label) => all('#legend > span').find((one) => plain(one.textContent) === label)
-  .querySelector('.step').tagName;
+const signShape = (label) => (
+  all('#legend > span').find((one) => saidBy(one) === label).querySelector('.step').tagName);
 
 // By its meaning, the elements and classes of each sign, and its pattern.
 const signs = (list) => Object.fromEntries(all(`${list} > span`).map((one) => {
   const parts = all('svg > *', one).map((part) => [part.tagName, ...part.classList].join('.'));
   const pattern = one.innerHTML.match(/url\(#(\w+)\)/)?.[1];
-  return [plain(one.textContent).replace(/^\+9|^Bob/, ''), [...parts, pattern].filter(Boolean)
-    .join(' ')];
+  const label = saidBy(one).replace(/^\+9|^Bob/, '');
+  return [label, [...parts, pattern].filter(Boolean).join(' ')];
 }));

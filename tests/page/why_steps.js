@@ -1,6 +1,5 @@
 // A run of a changed lock, move by move, in the dialog that says why each line is there.
 
-const isOpen = () => byId('why').open;
 const lines = () => all('#why-code .here').map((one) => Number(one.dataset.number));
 
 // The run that is shown move by move: the number of its change, how many moves were made, and what
@@ -9,22 +8,18 @@ function step() {
   const sections = all('#why-changes section');
   const number = sections.findIndex((one) => one.matches('.stepped'));
   const panel = sections[number].querySelector('.why-step');
-  const lines = all('p', panel).map((line) => plain(line.textContent));
+  const [lines, words, wrote] = ['p', '.why-words code', '.why-words mark']
+    .map((part) => all(part, panel).map(saidBy));
   const moves = all('li', sections[number]);
-  const words = all('.why-words code', panel).map((word) => plain(word.textContent));
   return {
     number, at: moves.findIndex((move) => move.ariaCurrent === 'step') + 1, head: lines[0], words,
     names: words.map((word) => word.split(' = ')[0]),
     values: words.map((word) => word.split(' = ')[1]),
-    wrote: all('.why-words mark', panel).map((word) => plain(word.textContent)),
-    object: lines[2], ends: lines.slice(3),
+    wrote, object: lines[2], ends: lines.slice(3),
   };
 }
 
-const at = () => {
-  const { number, at: count } = step();
-  return [number, count];
-};
+const at = () => [step().number, step().at];
 
 // The outlines of the moves that have one.
 const outlines = () => all('#why-changes li').map((one) => getComputedStyle(one).outlineStyle)
@@ -32,7 +27,7 @@ const outlines = () => all('#why-changes li').map((one) => getComputedStyle(one)
 
 // Goes to a move by the buttons of a run, whose first click may leave another run.
 function stepTo(number, count) {
-  const button = (by) => document.querySelector(`[data-of="${number}"][data-step="${by}"]`);
+  const button = (by) => pick(`[data-of="${number}"][data-step="${by}"]`);
   button(1).click();
   while (at()[1] > count) button(-1).click();
   while (at()[1] < count) button(1).click();

@@ -1,6 +1,6 @@
 // Parts that are out of view in a window.
 
-const foot = () => rect(document.querySelector('footer'));
+const foot = () => rect('footer');
 
 function isSeen(node, part) {
   const [{ top, bottom, left, right }, box] = [node, part].map(rect);
@@ -11,11 +11,9 @@ function isSeen(node, part) {
 // The line of code, the question and the move's sentence, if out of view, at each of these links.
 const outOfView = (fragments) => fragments.flatMap((fragment) => {
   follow(fragment);
-  const seen = all('.code-line.here, #now .say, #now .question > p, #now .question summary')
-    .filter((one) => one.checkVisibility());
+  const seen = visible('.code-line.here, #now .say, #now .question > p, #now .question summary');
   const out = seen.filter((one) => !isSeen(one, one.closest('#code-lines, #now')));
-  return [...out.map((one) => one.textContent.trim()),
-    ...seen.length > 2 ? [] : [`${fragment}: too little is there`]];
+  return [...out.map(saidBy), ...seen.length > 2 ? [] : [`${fragment}: too little is there`]];
 });
 
 // The variables of threads beside their records that are out of view, at each of these links.
@@ -36,21 +34,26 @@ function lowest() {
   return [top >= 0 && bottom <= foot().top, scrollHeight > innerHeight + 1];
 }
 
-// The moves of a lesson at which "Answer" is out of view.
-function hidden(name, moves) {
+// The moves of a lesson at which something is so.
+function movesOf(name, moves, isSo) {
   lesson(name);
   return moves.filter((move) => {
     go(move);
-    const [answer, now] = ['#now summary', '#now'].map((one) => rect(document.querySelector(one)));
+    return isSo();
+  });
+}
+
+// The moves of a lesson at which "Answer" is out of view.
+function hidden(name, moves) {
+  return movesOf(name, moves, () => {
+    const [answer, now] = ['#now summary', '#now'].map(rect);
     return answer.top < now.top || answer.bottom > now.bottom;
   });
 }
 
 // The moves of a lesson at which the part with the move is scrolled once the answer is shown.
 function scrolledWithAnswer(name, moves) {
-  lesson(name);
-  return moves.filter((move) => {
-    go(move);
+  return movesOf(name, moves, () => {
     key('a');
     const { scrollHeight, clientHeight } = byId('now');
     return !count('#now details[open]') || scrollHeight > clientHeight + 1;
@@ -59,9 +62,7 @@ function scrolledWithAnswer(name, moves) {
 
 // The moves of a lesson at which a line of the step is out of view, though there is room for all.
 function linesOutOfView(name, last) {
-  lesson(name);
-  return Array.from({ length: last }, (_, at) => last - at).filter((move) => {
-    go(move);
+  return movesOf(name, movesTo(last).slice(1).reverse(), () => {
     const [lines, box] = [all('.code-line.here'), byId('code-lines')];
     const height = rect(lines.at(-1)).bottom - rect(lines[0]).top;
     return height <= box.clientHeight + 1 && !lines.every((one) => isSeen(one, box));
@@ -86,11 +87,11 @@ const indents = () => all('#code-lines code').map((line) => {
 });
 
 const areAllLinesSeen = () => all('.code-line').every((one) => isSeen(one, byId('code-lines')));
-const lineHeight = () => document.querySelector('.code-line').offsetHeight;
+const lineHeight = () => pick('.code-line').offsetHeight;
 
 // How many dots a unit of memory's picture has, and whether the picture is in view.
 function scaleOfMemory() {
-  const svg = document.querySelector('#memory-picture svg');
+  const svg = pick('#memory-picture svg');
   return [Number(svg.getAttribute('width')) / svg.viewBox.baseVal.width,
     inside(rect(svg), rect(byId('memory-picture')))];
 }
@@ -103,14 +104,6 @@ function linesAround() {
 }
 
 // How the sentences on each of these moves fit, and how far lines of code are apart there.
-const sizesAt = (moves) => moves.map((move) => {
-  go(move);
-  return [byId('now').dataset.fit ?? '', lineHeight()];
-});
-
-const heightsOfMemory = (last) => Array.from({ length: last + 1 }, (_, move) => {
-  go(move);
-  return byId('memory-picture').clientHeight;
-});
-
+const sizesAt = (moves) => atEach(moves, () => [byId('now').dataset.fit ?? '', lineHeight()]);
+const heightsOfMemory = (last) => atEach(movesTo(last), () => byId('memory-picture').clientHeight);
 const heightOfLanes = () => byId('lanes').offsetHeight;
