@@ -8,10 +8,11 @@ ghost use Rattle.std.specs.List.{All};
 ghost use Rattle.std.specs.Prelude.{◌≡◌, ◌++◌, ◌∷◌, [], IfOk, OnOk, length, vec_len};
 
 use lk_text::follow::{follow_file, follow_input, unread};
-use lk_text::formats::{COLORED, Format, PLAIN, put_counts, put_json, put_tap, put_text};
+use lk_text::formats::{COLORED, Format, PLAIN, put_counts, put_json, put_plan, put_tap, put_text};
 use lk_text::progress::Progress;
 use lk_text::report::{Ending, Report};
-use lk_text::{Failure, STANDARD, Text, escaped, put_plan};
+use lk_text::{Failure, STANDARD, Text, escaped};
+use lk_trace::{Event, TraceReader};
 use std::alloc::{AllocError, Global};
 use std::io::{Read, Write};
 use std::rt::Runtime;
@@ -84,34 +85,26 @@ impl<'a> Reports<'a> {
     }
 }
 
+type Checked = Result<Report, AllocError>;
+
 // Checks the file of this name. A terminal is `told` how far it is.
-fn check_file<R: Runtime>(
-    rt: &R,
-    alloc: Global,
-    name: &str,
-    told: bool,
-) -> Result<Report, AllocError>
+fn check_file<R: Runtime>(rt: &R, alloc: Global, name: &str, told: bool) -> Checked
     ensures { IfOk result
         (λ report. EndsInput (left_in R.File.remaining R.Reader.remaining) report.ending) }
 {
     let mut progress = Progress::new(rt, told);
     let shown = escaped(alloc, name)?;
-    let report = follow_file(
-        rt,
-        alloc,
-        name,
-        &[],
-        |number, _, _| -> Result<(), AllocError> {
-            progress.line(shown.as_str(), number);
-            Ok(())
-        },
-    );
+    let each = |number: u64, _: &TraceReader, _: Event| -> Result<(), AllocError> {
+        progress.line(shown.as_str(), number);
+        Ok(())
+    };
+    let report = follow_file(rt, alloc, name, &[], each);
     progress.end();
     report
 }
 
 // Checks a file that was opened, or could not be.
-fn check_opened<I: Read + Drop>(alloc: Global, input: io::Result<I>) -> Result<Report, AllocError>
+fn check_opened<I: Read + Drop>(alloc: Global, input: io::Result<I>) -> Checked
     ensures { IfOk result (λ report. EndsInput I.remaining report.ending) }
 {
     match input {
@@ -127,7 +120,7 @@ fn check_side_by_side<R: Threads + Sync, I: Read + Send + Drop>(
     rt: &R,
     alloc: Global,
     inputs: Vec<io::Result<I>>,
-) -> Result<Vec<Result<Report, AllocError>>, AllocError>
+) -> Result<Vec<Checked>, AllocError>
     ensures one_each { IfOk result (λ reports. vec_len reports ≡ vec_len inputs) }
     ensures each { IfOk result (λ reports. AreChecked I.remaining reports.items) }
 {

@@ -13,7 +13,7 @@ use lk_search::{Coverage, Kind, LOCKS, Observed, kinds_of};
 use lk_text::follow::follow_file;
 use lk_text::formats::{PLAIN, put_text};
 use lk_text::report::{Ending, worst};
-use lk_text::{Text, Value, has_counter, json};
+use lk_text::{Outputs, Text, Value, has_counter, json};
 use lk_trace::{Event, Made, TraceLine, TraceReader};
 use std::alloc::{AllocError, Global};
 use std::fmt::InlineText;
@@ -82,20 +82,15 @@ fn take_file<R: Runtime>(
         (λ ending. EndsInput (left_in R.File.remaining R.Reader.remaining) ending) }
 {
     let mut kind = None;
-    let report = follow_file(
-        rt,
-        alloc,
-        name,
-        &[],
-        |_, trace, event| -> Result<(), AllocError> {
-            match event {
-                Event::Began(header) => kind = Some(header.kind()),
-                Event::Made(line, made) => note_move(coverages, trace, line, made),
-                _ => {}
-            }
-            Ok(())
-        },
-    )?;
+    let each = |_: u64, trace: &TraceReader, event: Event| -> Result<(), AllocError> {
+        match event {
+            Event::Began(header) => kind = Some(header.kind()),
+            Event::Made(line, made) => note_move(coverages, trace, line, made),
+            _ => {}
+        }
+        Ok(())
+    };
+    let report = follow_file(rt, alloc, name, &[], each)?;
     if let Some(coverage) = kind.and_then(|kind| coverage_of(coverages, kind)) {
         coverage.end_trace(report.summary.wraps());
     }
@@ -197,10 +192,9 @@ fn count_of(coverage: &Coverage, name: &str) -> u64 {
         .map_or(0, |(_, count)| *count)
 }
 
-// Names each kind of a lock that there was not.
-fn put_unseen(errors: &mut Text, coverage: &Coverage) -> bool {
+// Names each kind that there was not of a lock.
+fn put_unseen(errors: &mut Text, coverage: &Coverage) {
     let lock = lock_text(coverage.kind());
-    let mut missing = false;
     for (kind, count) in kinds_of(coverage.kind()).iter().zip(coverage.counts()) {
         if *count == 0 {
             let places = [
@@ -208,26 +202,20 @@ fn put_unseen(errors: &mut Text, coverage: &Coverage) -> bool {
                 ("name", Value::Text(kind.name)),
             ];
             errors.fill("locktrace: missing in {lock}: {name}\n", &places);
-            missing = true;
         }
     }
-    missing
 }
 
-// Names each kind that there was not of each lock with a trace.
-fn put_all_unseen(errors: &mut Text, coverages: &[Coverage]) -> bool {
+// Names the kinds that are required and were in no trace: of each lock with a trace all, or these.
+// True if there is one.
+fn put_missing(errors: &mut Text, coverages: &[Coverage], all: bool, required: &[String]) -> bool {
     let mut missing = false;
     for coverage in coverages {
-        if coverage.traces() > 0 && put_unseen(errors, coverage) {
+        if all && coverage.traces() > 0 && coverage.seen() < kinds_of(coverage.kind()).len() {
+            put_unseen(errors, coverage);
             missing = true;
         }
     }
-    missing
-}
-
-// Names the kinds that are required and were in no trace. True if there is one.
-fn put_missing(errors: &mut Text, coverages: &[Coverage], all: bool, required: &[String]) -> bool {
-    let mut missing = all && put_all_unseen(errors, coverages);
     for name in required {
         if coverages
             .iter()
@@ -259,26 +247,20 @@ fn take_files<R: Runtime>(
     Ok(endings)
 }
 
-/// Counts which kinds of transition the traces took, and writes the counts to `text`, and what else
-/// there is to say to `errors`. The status is the greatest of those of the traces' endings, and
-/// `Refused` if a kind that is required is missing.
-///
-/// # Errors
-///
-/// A request for memory was refused.
+/// Counts which kinds of transition the traces took. The status is the greatest of those of the
+/// traces' endings, and `Refused` if a kind that is required is missing.
 pub fn cover_traces<R: Runtime>(
     rt: &R,
-    alloc: Global,
     job: &CoverJob,
-    text: &mut Text,
-    errors: &mut Text,
+    said: &mut Outputs,
 ) -> Result<u8, AllocError>
     ensures { IfOk result (λ status. IsCovered (left_in R.File.remaining R.Reader.remaining)
         (length job.now.files.items) status) }
 {
+    let (alloc, errors) = (said.alloc, &mut said.errors);
     let mut coverages = nothing_counted(alloc)?;
     let endings = take_files(rt, alloc, &job.files, coverages.as_mut_slice(), errors)?;
-    put_coverage(text, alloc, job.format, &coverages);
+    put_coverage(&mut said.text, alloc, job.format, &coverages);
     let missing = put_missing(errors, &coverages, job.all, &job.required);
     let least = if missing {
         Status::Refused

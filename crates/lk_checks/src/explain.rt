@@ -6,11 +6,11 @@ ghost use Rattle.lk_text.specs.Sources.{left_in};
 ghost use Rattle.lk_text.specs.Verdicts.{EndsInput};
 
 use crate::transitions::put_sentence;
-use lk_lines::{MOVE_NAMES, move_named, move_text, outcome_text};
-use lk_locks::{Machine, Move, Outcome, SectionEffect};
+use lk_lines::{MOVE_NAMES, move_named, outcome_text};
+use lk_locks::{Machine, Move, SectionEffect};
 use lk_text::follow::follow_file;
-use lk_text::formats::{BARE, PLAIN, lose_with, put_text};
-use lk_text::phrases::{Lock, put_standing};
+use lk_text::formats::{BARE, PLAIN, lose_with, put_said, put_text};
+use lk_text::phrases::{Lock, put_move, put_standing};
 use lk_text::report::{Ending, Report};
 use lk_text::{Failure, Text, Value};
 use lk_trace::{Event, Made, TraceLine, TraceReader, name_at};
@@ -30,17 +30,11 @@ pub struct ExplainJob {
     pub names: Vec<String>,
 }
 
-const CAME: &str = "{number}: {thread} {step}: {outcome}";
-
 const SAME: &str = ", {word} {found}";
 
 const CHANGED: &str = ", {word} {found} to {left}";
 
 const THREADS: &str = "  the lock has {threads} threads, from 0 on\n";
-
-const DUE: &str = "  due: {thread} {step}\n";
-
-const CALL: &str = " {thread} {step}";
 
 // Writes what a step found and left.
 fn put_values(text: &mut Text, lock: &Lock, effect: Effect) {
@@ -65,27 +59,8 @@ fn put_changes(text: &mut Text, lock: &Lock, section: SectionEffect) {
     }
 }
 
-// Writes a move, and what came of it.
-fn put_outcome(text: &mut Text, number: u64, line: TraceLine, outcome: Outcome) {
-    let places = [
-        ("number", Value::Number(number)),
-        ("thread", Value::Number(u64::from(line.thread))),
-        ("step", Value::Text(move_text(line.action))),
-        ("outcome", Value::Text(outcome_text(outcome))),
-    ];
-    text.fill(CAME, &places);
-}
-
-// Writes a move that was made in the line of this number.
-fn put_move(
-    text: &mut Text,
-    names: &[String],
-    lock: &Lock,
-    number: u64,
-    line: TraceLine,
-    made: Made,
-) {
-    put_outcome(text, number, line, made.outcome);
+// Writes what a move that was made found and left, its sentence, and who holds and waits then.
+fn put_made(text: &mut Text, job: &ExplainJob, lock: &Lock, line: TraceLine, made: Made) {
     if let Some(effect) = made.effect {
         put_values(text, lock, effect);
     }
@@ -93,7 +68,7 @@ fn put_move(
         put_changes(text, lock, section);
     }
     text.put("; ");
-    put_sentence(text, names, lock, line, made);
+    put_sentence(text, &job.names, lock, line, made);
     text.put("; ");
     put_standing(text, lock);
     text.put("\n");
@@ -103,10 +78,11 @@ fn put_move(
 fn put_calls(text: &mut Text, machine: &Machine<WordArray>, thread: u8) {
     text.put("  accepted would be:");
     for word in MOVE_NAMES {
-        let named = move_named(word.as_bytes());
-        if named.is_some_and(|action| machine.check(thread, action).is_ok()) {
-            let number = Value::Number(u64::from(thread));
-            text.fill(CALL, &[("thread", number), ("step", Value::Text(word))]);
+        if let Some(action) = move_named(word.as_bytes())
+            && machine.check(thread, action).is_ok()
+        {
+            text.put(" ");
+            put_move(text, thread, action);
         }
     }
     text.put("\n");
@@ -122,9 +98,9 @@ fn put_due(text: &mut Text, machine: &Machine<WordArray>, thread: u8) {
     let Some(next) = machine.next_step(thread) else {
         return put_calls(text, machine, thread);
     };
-    let number = Value::Number(u64::from(thread));
-    let step = Value::Text(move_text(Move::Step(next)));
-    text.fill(DUE, &[("thread", number), ("step", step)]);
+    text.put("  due: ");
+    put_move(text, thread, Move::Step(next));
+    text.put("\n");
 }
 
 // Describes the move of a line, if it is asked for.
@@ -135,7 +111,12 @@ fn put_event(text: &mut Text, job: &ExplainJob, trace: &TraceReader, number: u64
     let (lock, (first, last)) = (checker.lock(), job.lines);
     match event {
         Event::Made(line, made) if first <= number && number <= last => {
-            put_move(text, &job.names, lock, number, *line, *made);
+            text.put_number(number);
+            text.put(": ");
+            put_move(text, line.thread, line.action);
+            text.put(": ");
+            text.put(outcome_text(made.outcome));
+            put_made(text, job, lock, *line, *made);
         }
         _ => {}
     }
@@ -156,29 +137,19 @@ const HELP: &str = "  help: {text}\n";
 
 const MORE_AT: &str = "  {line}: {text}\n";
 
-// Writes a text that belongs to a line.
-fn put_more(text: &mut Text, sentence: &str, line: u64, said: &Text) {
-    let places = [("line", Value::Number(line)), ("text", Value::Part(said))];
-    text.fill(sentence, &places);
-}
-
 // Writes why a trace ends. The moves before it were explained.
 fn put_end(text: &mut Text, report: &Report) {
     let hangs = report.ending == Ending::Hangs;
     let (front, more) = if hangs { (BARE, MORE_AT) } else { (ENDS, MORE) };
-    put_more(text, front, report.line, &report.message);
+    put_said(text, front, report.line, &report.message);
     if report.ending != Ending::Refused {
         for note in report.notes.as_slice() {
-            put_more(text, more, note.line, &note.text);
+            put_said(text, more, note.line, &note.text);
         }
         lose_with(text, &report.notes);
     }
-    if !report.standing.is_empty() {
-        put_more(text, MORE, 0, &report.standing);
-    }
-    if !report.help.is_empty() {
-        put_more(text, HELP, 0, &report.help);
-    }
+    put_said(text, MORE, 0, &report.standing);
+    put_said(text, HELP, 0, &report.help);
 }
 
 /// Describes each move of a trace that is asked for, and gives the ending of the trace.

@@ -1,7 +1,7 @@
 -- Definitions. The logs of a run have a fault as texts, or the search for their order ends. By this
 -- the job ends.
 use Rattle.std.specs.Prelude.{◌≡◌, ◌≢◌, ◌⊎◌, ◌<◌, ⊤, ℕ, List, [], true, Option, None, Some, IfSome}
-use Rattle.std.specs.Prelude.{Ok, Err}
+use Rattle.std.specs.Prelude.{Result, Ok, Err}
 use Rattle.lk_order.specs.Logs.{IsFaultOf, Reading, ThreadLog, line_read, log_read}
 use Rattle.lk_order.specs.declared.log.reader.LogFault.{LogFault}
 use Rattle.lk_order.specs.Orders.{Ordered, IsOrder, next_line}
@@ -18,8 +18,6 @@ use Rattle.lk_text.specs.declared.course.Fate.{Fate}
 use Rattle.lk_jobs.specs.declared.order.search.BadLog.{BadLog}
 use Rattle.lk_jobs.specs.declared.order.search.BadLog.TheVariants as bad
 use Rattle.lk_jobs.specs.declared.order.search.Search.{Search}
-use Rattle.lk_jobs.specs.declared.order.search.Sought.{Sought}
-use Rattle.lk_jobs.specs.declared.order.search.Sought.TheVariants as sought
 
 -- the lines of a text are read as a log's, one after another, up to what is left of it
 pub data Reads (text : List ℕ) : List ℕ → Reading → Type 0 where
@@ -95,12 +93,12 @@ abbrev pub ending_of_bad : BadLog → Ending
 ending_of_bad bad.Unread = Unread
 ending_of_bad log = Faulty
 
-abbrev pub ending_of_sought : Sought → Ending
-ending_of_sought (sought.Bad log) = ending_of_bad log
-ending_of_sought (sought.Order s) = ending_of_search s
+abbrev pub ending_of_sought : Result Search BadLog → Ending
+ending_of_sought (Err log) = ending_of_bad log
+ending_of_sought (Ok s) = ending_of_search s
 
 -- something is wrong with the logs in such files; or an order was looked for, and the answer is a
 -- search's
-abbrev pub IsSought : {F : Type 0} → (F → Option (List ℕ)) → Sought → Type 0
-IsSought of_file (sought.Bad log) = IsBad of_file log
-IsSought of_file (sought.Order s) = IsSearch s
+abbrev pub IsSought : {F : Type 0} → (F → Option (List ℕ)) → Result Search BadLog → Type 0
+IsSought of_file (Err log) = IsBad of_file log
+IsSought of_file (Ok s) = IsSearch s

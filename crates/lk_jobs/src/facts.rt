@@ -22,17 +22,10 @@ fn thread_in(header: Shape, text: &str) -> Option<u8> {
 
 // The code of the phase with this name. What a phase carries is no part of its name.
 fn phase_named(name: &str) -> Option<u8> {
-    for code in 0..PHASES {
-        let whole = InlineText::<64>::of(phase_of(u64::from(code), 0).debug());
-        let (own, _) = whole
-            .as_str()
-            .split_once('(')
-            .unwrap_or((whole.as_str(), ""));
-        if own == name {
-            return Some(code);
-        }
-    }
-    None
+    (0..PHASES).find(|code| {
+        let whole = InlineText::<64>::of(phase_of(u64::from(*code), 0).debug());
+        whole.as_str().split('(').next() == Some(name)
+    })
 }
 
 // The value of a word, after its name.
@@ -68,12 +61,8 @@ fn fact_of(header: Shape, text: &str) -> Option<Fact> {
 
 // Whether a list of threads has this one.
 fn is_listed(header: Shape, list: &str, thread: u8) -> bool {
-    for name in list.split(',') {
-        if thread_in(header, name) == Some(thread) {
-            return true;
-        }
-    }
-    false
+    list.split(',')
+        .any(|name| thread_in(header, name) == Some(thread))
 }
 
 // Adds the order of a queue: who is first, and who comes directly after whom. Answers whether the
@@ -107,28 +96,18 @@ fn add_queue(header: Shape, list: &str, facts: &mut Vec<Fact>) -> Result<bool, A
     Ok(true)
 }
 
-// Adds what one part of a line says. Answers whether that is a fact.
-fn add_part(header: Shape, text: &str, facts: &mut Vec<Fact>) -> Result<bool, AllocError> {
-    if let Some(list) = text.strip_prefix("queue ") {
-        return add_queue(header, list, facts);
-    }
-    let Some(fact) = fact_of(header, text) else {
-        return Ok(false);
-    };
-    facts.push(fact)?;
-    Ok(true)
-}
-
 /// The facts of a lock of this shape that a text says, with `, ` between them: `hold 0`,
 /// `queue 0,1`, `1 at SetLocked`, `next of 0 2`. `None` if some part of it says none.
-///
-/// # Errors
-///
-/// A request for memory was refused.
 pub fn facts_of(alloc: Global, header: Shape, text: &str) -> Result<Option<Vec<Fact>>, AllocError> {
     let mut facts = Vec::new(alloc);
     for part in text.split(", ") {
-        if !add_part(header, part, &mut facts)? {
+        if let Some(list) = part.strip_prefix("queue ") {
+            if !add_queue(header, list, &mut facts)? {
+                return Ok(None);
+            }
+        } else if let Some(fact) = fact_of(header, part) {
+            facts.push(fact)?;
+        } else {
             return Ok(None);
         }
     }

@@ -6,7 +6,7 @@ ghost use Rattle.std.specs.Char.{is_ascii_digit};
 ghost use Rattle.std.specs.List.{list_all};
 ghost use Rattle.lk_jobs.specs.FileNames.{IsOwnName, IsScheduleName};
 
-use lk_text::{Failure, escaped};
+use lk_text::Failure;
 use std::alloc::{AllocError, Global};
 use std::fmt::Write as _;
 use std::fs::OpenOptions;
@@ -62,65 +62,63 @@ fn is_own_name(name: &[u8]) -> bool
 }
 
 /// A folder, and the command that writes into it.
-#[derive(Clone, Copy)]
-pub struct Folder<'a> {
+#[derive(Drop)]
+pub struct Folder<'a, R> {
+    pub rt: &'a R,
+    pub alloc: Global,
     pub path: &'a str,
     pub command: &'a str,
 }
 
-impl Folder<'_> {
-    fn path_of(&self, alloc: Global, name: &str) -> Result<String, AllocError> {
+impl<R: Files> Folder<'_, R> {
+    fn path_of(&self, name: &str) -> Result<String, AllocError> {
         let path = self.path;
-        format!(in alloc; "{path}/{name}")
+        format!(in self.alloc; "{path}/{name}")
     }
 
-    fn draft_of(&self, alloc: Global, name: &str) -> Result<String, AllocError> {
+    fn draft_of(&self, name: &str) -> Result<String, AllocError> {
         let path = self.path;
-        format!(in alloc; "{path}/{name}{DRAFT}")
+        format!(in self.alloc; "{path}/{name}{DRAFT}")
     }
 
-    fn list_name(&self, alloc: Global) -> Result<String, AllocError> {
+    fn list_name(&self) -> Result<String, AllocError> {
         let command = self.command;
-        format!(in alloc; "{command}.list")
+        format!(in self.alloc; "{command}.list")
+    }
+
+    // Removes a file, if it is there; of a link, the link.
+    fn remove(&self, path: &str) -> Result<(), Failure> {
+        match fs::remove_file(self.rt, path) {
+            Err(error) if error.kind() == ErrorKind::NotFound => Ok(()),
+            removed => Failure::unless(self.alloc, WRITE, path, removed),
+        }
     }
 
     // Removes what the list of an earlier run names, and the list.
-    fn remove_earlier<R: Files>(&self, rt: &R, alloc: Global) -> Result<(), Failure> {
-        let path = self.path_of(alloc, self.list_name(alloc)?.as_str())?;
-        let file = match fs::open(rt, path.as_str()) {
-            Ok(file) => file,
+    fn remove_earlier(&self) -> Result<(), Failure> {
+        let path = self.path_of(self.list_name()?.as_str())?;
+        let list = match fs::open(self.rt, path.as_str()) {
             Err(error) if error.kind() == ErrorKind::NotFound => return Ok(()),
-            Err(error) => return Err(Failure::of_file(alloc, READ, path.as_str(), &error)),
+            file => file.and_then(|file| io::read_to_string(self.alloc, file)),
         };
-        let list = match io::read_to_string(alloc, file) {
-            Ok(list) => list,
-            Err(error) => return Err(Failure::of_file(alloc, READ, path.as_str(), &error)),
-        };
+        let list = Failure::unless(self.alloc, READ, path.as_str(), list)?;
         for name in list.lines() {
             if is_own_name(name.as_bytes()) {
-                remove(rt, alloc, self.path_of(alloc, name)?.as_str())?;
+                self.remove(self.path_of(name)?.as_str())?;
             }
         }
-        remove(rt, alloc, path.as_str())
+        self.remove(path.as_str())
     }
 
     // Fails if the folder has something in the place of one of these files.
-    fn leave_others<R: Files>(
-        &self,
-        rt: &R,
-        alloc: Global,
-        names: &[String],
-    ) -> Result<(), Failure> {
-        let command = self.command;
+    fn leave_others(&self, names: &[String]) -> Result<(), Failure> {
         for name in names {
-            let path = self.path_of(alloc, name)?;
-            match fs::symlink_metadata(rt, path.as_str()) {
+            let path = self.path_of(name)?;
+            match fs::symlink_metadata(self.rt, path.as_str()) {
                 Err(error) if error.kind() == ErrorKind::NotFound => {}
-                Err(error) => return Err(Failure::of_file(alloc, READ, path.as_str(), &error)),
-                Ok(_) => {
-                    let path = escaped(alloc, path.as_str())?;
-                    let text = format!(in alloc; "{path} is not of an earlier {command}")?;
-                    return Err(Failure::InPlace(text));
+                found => {
+                    Failure::unless(self.alloc, READ, path.as_str(), found)?;
+                    return Failure::in_place(self.alloc, path.as_str(), self.command);
                 }
             }
         }
@@ -132,84 +130,52 @@ impl Folder<'_> {
     /// # Errors
     ///
     /// There is another file in the place of one of these; or a file cannot be read or removed.
-    pub fn clear<R: Files>(&self, rt: &R, alloc: Global, names: &[String]) -> Result<(), Failure> {
-        if let Err(error) = fs::create_dir_all(rt, self.path) {
-            return Err(Failure::of_file(alloc, WRITE, self.path, &error));
-        }
-        self.remove_earlier(rt, alloc)?;
-        self.leave_others(rt, alloc, names)
+    pub fn clear(&self, names: &[String]) -> Result<(), Failure> {
+        let made = fs::create_dir_all(self.rt, self.path);
+        Failure::unless(self.alloc, WRITE, self.path, made)?;
+        self.remove_earlier()?;
+        self.leave_others(names)
     }
 
     /// A file that gets its name from `finish`.
-    pub fn create<R: Files>(&self, rt: &R, alloc: Global, name: &str) -> Result<R::File, Failure> {
-        let draft = self.draft_of(alloc, name)?;
-        remove(rt, alloc, draft.as_str())?;
+    pub fn create(&self, name: &str) -> Result<R::File, Failure> {
+        let draft = self.draft_of(name)?;
+        self.remove(draft.as_str())?;
         let mut options = OpenOptions::new();
         options.write(true).create_new(true);
-        match options.open(rt, draft.as_str()) {
-            Ok(file) => Ok(file),
-            Err(error) => Err(Failure::of_file(alloc, WRITE, draft.as_str(), &error)),
-        }
+        let file = options.open(self.rt, draft.as_str());
+        Failure::unless(self.alloc, WRITE, draft.as_str(), file)
     }
 
     /// Gives a file its name if all of it was written, and else removes it.
-    pub fn finish<R: Files>(
-        &self,
-        rt: &R,
-        alloc: Global,
-        name: &str,
-        written: Result<(), Failure>,
-    ) -> Result<(), Failure> {
-        let (draft, path) = (self.draft_of(alloc, name)?, self.path_of(alloc, name)?);
+    pub fn finish(&self, name: &str, written: Result<(), Failure>) -> Result<(), Failure> {
+        let (draft, path) = (self.draft_of(name)?, self.path_of(name)?);
         let done = match written {
-            Ok(()) => fs::rename(rt, draft.as_str(), path.as_str()).map_err(Failure::Output),
+            Ok(()) => fs::rename(self.rt, draft.as_str(), path.as_str()),
             Err(failure) => {
-                remove(rt, alloc, draft.as_str())?;
-                Err(failure)
+                self.remove(draft.as_str())?;
+                match failure {
+                    Failure::Output(error) => Err(error),
+                    failure => return Err(failure),
+                }
             }
         };
-        match done {
-            Err(Failure::Output(error)) => {
-                Err(Failure::of_file(alloc, WRITE, path.as_str(), &error))
-            }
-            done => done,
-        }
+        Failure::unless(self.alloc, WRITE, path.as_str(), done)
     }
 
     /// Writes a file.
-    pub fn write<R: Files>(
-        &self,
-        rt: &R,
-        alloc: Global,
-        name: &str,
-        text: &str,
-    ) -> Result<(), Failure> {
-        let mut file = self.create(rt, alloc, name)?;
+    pub fn write(&self, name: &str, text: &str) -> Result<(), Failure> {
+        let mut file = self.create(name)?;
         let written = file.write_all(text.as_bytes()).map_err(Failure::Output);
-        self.finish(rt, alloc, name, written)
+        self.finish(name, written)
     }
 
     /// Writes the list of the files that were written.
-    pub fn write_list<R: Files>(
-        &self,
-        rt: &R,
-        alloc: Global,
-        names: &[String],
-    ) -> Result<(), Failure> {
-        let mut list = String::new(alloc);
+    pub fn write_list(&self, names: &[String]) -> Result<(), Failure> {
+        let mut list = String::new(self.alloc);
         for name in names {
             writeln!(list, "{name}")?;
         }
-        self.write(rt, alloc, self.list_name(alloc)?.as_str(), list.as_str())
-    }
-}
-
-// Removes a file, if it is there; of a link, the link.
-fn remove<R: Files>(rt: &R, alloc: Global, path: &str) -> Result<(), Failure> {
-    match fs::remove_file(rt, path) {
-        Err(error) if error.kind() != ErrorKind::NotFound => {
-            Err(Failure::of_file(alloc, WRITE, path, &error))
-        }
-        _ => Ok(()),
+        self.write(self.list_name()?.as_str(), list.as_str())
     }
 }

@@ -4,6 +4,9 @@
 //! for the lines of a sketch (`find`, `sketch`), for schedules that take every transition (`tour`),
 //! and to be counted or drawn (`space`). Changed locks are searched for what each step is for
 //! (`why`).
+//!
+//! A call that gives an `AllocError` does so only if a request for memory was refused, and one that
+//! gives a `SearchFault` only then, or if there are more states than the limit.
 #![tactic(auto)]
 
 mod endless;

@@ -12,6 +12,7 @@ mod logs;
 mod report;
 mod search;
 
+use crate::folder::Folder;
 use files::{write_files, write_trace};
 use lk_order::{Log, Order};
 use lk_text::course::Course;
@@ -21,7 +22,7 @@ use lk_text::report::Ending;
 use lk_text::{Failure, STANDARD, Text, Value};
 use logs::take_logs;
 use report::{OrderReport, put_cut, put_hang, put_stuck};
-pub use search::{BadLog, Search, Sought, search_logs};
+pub use search::{BadLog, Search, Sought, ending_of, search_logs};
 use std::alloc::Global;
 use std::io::{Eprint, Write};
 use std::rt::Files;
@@ -41,23 +42,6 @@ pub struct OrderJob {
 const TOO_LONG: &str = "{moves} in no schedule. A schedule has at most 65536 moves, and after \
     those somebody was in a call";
 
-// Writes the trace and the schedules of an order into a folder.
-fn write_found<R: Files>(
-    rt: &R,
-    alloc: Global,
-    order: &Order,
-    hung: Option<&Course>,
-    folder: &str,
-    report: &mut OrderReport,
-) -> Result<(), Failure> {
-    let left_out = write_files(rt, alloc, order, hung, folder)?;
-    if left_out > 0 {
-        let moves = Value::Count(left_out as u64, "move is", "moves are");
-        report.warnings.say(0, TOO_LONG, &[("moves", moves)]);
-    }
-    Ok(())
-}
-
 // Writes an order, to the output or into the job's folder.
 fn write_order<R: Files, O: Write>(
     rt: &R,
@@ -69,10 +53,20 @@ fn write_order<R: Files, O: Write>(
 ) -> Result<(), Failure> {
     let (order, hung) = (&search.found.order, search.hung.as_ref());
     if folder == STANDARD {
-        write_trace(alloc, order, hung, output)
-    } else {
-        write_found(rt, alloc, order, hung, folder, report)
+        return write_trace(alloc, order, hung, output);
     }
+    let folder = Folder {
+        rt,
+        alloc,
+        path: folder,
+        command: "order",
+    };
+    let left_out = write_files(order, hung, &folder)?;
+    if left_out > 0 {
+        let moves = Value::Count(left_out as u64, "move is", "moves are");
+        report.warnings.say_in("", 0, TOO_LONG, &[("moves", moves)]);
+    }
+    Ok(())
 }
 
 // Says how far an order came, and why not further. `names` has the files of the threads, and `open`
@@ -109,22 +103,18 @@ fn order_into<R: Files + Eprint, O: Write>(
         Ok(taken) => taken,
         Err(bad) => {
             report.details = Some(bad.details());
-            return Ok(Sought::Bad(bad));
+            return Ok(Err(bad));
         }
     };
     let logs = taken.shelf.logs(alloc)?;
     progress.begin("ordering", moves_of(&logs));
-    let search = match search_logs(alloc, logs, &taken.open)? {
-        Some(search) => search,
-        None => {
-            report.messages.say(0, "the logs are not of one run", &[]);
-            return Ok(Sought::Bad(BadLog::OtherLock));
-        }
+    let Some(search) = search_logs(alloc, logs, &taken.open)? else {
+        return Ok(Err(BadLog::OtherLock));
     };
     progress.begin("writing", moves_of(search.found.order.logs()));
     write_order(rt, alloc, &search, &job.folder, report, output)?;
     put_ending(report, &search, &taken.names, &taken.open);
-    Ok(Sought::Order(search))
+    Ok(Ok(search))
 }
 
 // Writes what is said of a job. Where the output has the trace, all of it goes to `errors`.
@@ -173,6 +163,6 @@ pub fn order_logs<R: Files + Eprint, O: Write>(
     if job.quiet {
         return Ok(sought);
     }
-    put_report(alloc, &report, sought.ending(), job, output, errors)?;
+    put_report(alloc, &report, ending_of(&sought), job, output, errors)?;
     Ok(sought)
 }

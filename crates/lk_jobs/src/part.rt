@@ -32,6 +32,9 @@ pub enum LineFault {
     Endless,
 }
 
+/// Why a line is none of a sketch, if it is none.
+pub type Faulted = Result<Option<LineFault>, AllocError>;
+
 // Why each lock of this shape refuses the move of a line, whatever was done before.
 fn always_refused(header: Shape, line: &TraceLine) -> Option<Refusal>
     ensures { IfSome result (λ refusal. (s : State) → s.kind ≡ header.kind
@@ -135,12 +138,7 @@ impl Part {
     }
 
     // Adds all that a line asks for, or answers why it is none.
-    fn add(
-        &mut self,
-        alloc: Global,
-        header: Shape,
-        line: &str,
-    ) -> Result<Option<LineFault>, AllocError> {
+    fn add(&mut self, alloc: Global, header: Shape, line: &str) -> Faulted {
         if let Some(text) = line.strip_prefix(IS) {
             let Some(facts) = facts_of(alloc, header, text)? else {
                 return Ok(Some(LineFault::NoFact));
@@ -149,36 +147,18 @@ impl Part {
             return Ok(None);
         }
         let (kind, threads, text) = (header.kind(), header.threads(), line.as_bytes());
-        if admit(&mut self.admitted, kind, threads, self.count, text)? {
-            Ok(None)
-        } else {
-            Ok(Some(LineFault::Unread(SketchFault::BadLine)))
-        }
+        let is_line = admit(&mut self.admitted, kind, threads, self.count, text)?;
+        Ok((!is_line).then_some(LineFault::Unread(SketchFault::BadLine)))
     }
 
     /// Adds what a line admits or bars, or answers why it is none.
-    ///
-    /// # Errors
-    ///
-    /// A request for memory was refused.
-    pub fn admit(
-        &mut self,
-        alloc: Global,
-        header: Shape,
-        line: &str,
-    ) -> Result<Option<LineFault>, AllocError> {
+    pub fn admit(&mut self, alloc: Global, header: Shape, line: &str) -> Faulted {
         let first = self.admitted.len();
-        if let Some(fault) = self.add(alloc, header, line)? {
-            return Ok(Some(fault));
-        }
-        Ok(self.never(header, first))
+        let fault = self.add(alloc, header, line)?;
+        Ok(fault.or_else(|| self.never(header, first)))
     }
 
     /// Adds the text of a line.
-    ///
-    /// # Errors
-    ///
-    /// A request for memory was refused.
     pub fn note(&mut self, alloc: Global, line: &str, occurs: Occurs) -> Result<(), AllocError> {
         let text = String::from_str(alloc, line)?;
         self.lines.push(SketchLine { text, occurs })?;
@@ -186,16 +166,7 @@ impl Part {
     }
 
     /// Adds a line for a lock of this shape, or answers why it is none.
-    ///
-    /// # Errors
-    ///
-    /// A request for memory was refused.
-    pub fn take(
-        &mut self,
-        alloc: Global,
-        header: Shape,
-        line: &str,
-    ) -> Result<Option<LineFault>, AllocError> {
+    pub fn take(&mut self, alloc: Global, header: Shape, line: &str) -> Faulted {
         let occurs = occurrence_of(line);
         let Some(count) = self.count_after(occurs) else {
             return Ok(Some(LineFault::Unread(SketchFault::TooManyLines)));
@@ -207,15 +178,7 @@ impl Part {
     }
 
     /// Adds a line that every position meets, or answers that these are too many.
-    ///
-    /// # Errors
-    ///
-    /// A request for memory was refused.
-    pub fn take_always(
-        &mut self,
-        alloc: Global,
-        line: &str,
-    ) -> Result<Option<LineFault>, AllocError> {
+    pub fn take_always(&mut self, alloc: Global, line: &str) -> Faulted {
         let Some(count) = self.count_after(Occurs::AsPosition) else {
             return Ok(Some(LineFault::Unread(SketchFault::TooManyLines)));
         };

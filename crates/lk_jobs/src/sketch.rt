@@ -4,13 +4,13 @@
 ghost use Rattle.std.specs.Prelude.{◌≡◌};
 ghost use Rattle.lk_text.specs.Texts.{Grows};
 
-use crate::part::{LineFault, Occurs, Part};
+use crate::part::{Faulted, LineFault, Occurs, Part};
 use lk_lines::{Status, is_skipped, number_of};
 use lk_locks::Shape;
 use lk_search::{Rounds, SketchFault, is_barring};
 use lk_text::follow::unread;
-use lk_text::formats::{PLAIN, put_text};
-use lk_text::{Text, Value, open, put_wrong, take_lines, wrong_in_header};
+use lk_text::formats::{BARE, PLAIN, put_line, put_text};
+use lk_text::{Outputs, Text, Value, open, put_wrong, take_lines, wrong_in_header};
 use lk_trace::{Due, TextFault, read_header, unreadable_sketch_line};
 use std::alloc::{AllocError, Global};
 use std::fmt::InlineText;
@@ -99,7 +99,7 @@ impl Sketch {
     }
 
     // Reads the line after which everything happens again and again.
-    fn take_again(&mut self, alloc: Global) -> Result<Option<LineFault>, AllocError> {
+    fn take_again(&mut self, alloc: Global) -> Faulted {
         if self.cycle.is_some() {
             return Ok(Some(LineFault::Unread(SketchFault::BadLine)));
         }
@@ -109,12 +109,7 @@ impl Sketch {
 
     // Reads a line for a lock of this shape. What must not happen again and again is barred before
     // a line after the last one that has to be met.
-    fn take_line(
-        &mut self,
-        alloc: Global,
-        header: Shape,
-        line: &[u8],
-    ) -> Result<Option<LineFault>, AllocError> {
+    fn take_line(&mut self, alloc: Global, header: Shape, line: &[u8]) -> Faulted {
         let Ok(text) = str::from_utf8(line) else {
             return Ok(Some(LineFault::Unread(SketchFault::BadLine)));
         };
@@ -132,11 +127,7 @@ impl Sketch {
     }
 
     /// Reads the next line, without its end. After a fault the sketch may have some of the line.
-    ///
-    /// # Errors
-    ///
-    /// A request for memory was refused.
-    pub fn line(&mut self, alloc: Global, line: &[u8]) -> Result<Option<LineFault>, AllocError> {
+    pub fn line(&mut self, alloc: Global, line: &[u8]) -> Faulted {
         if is_skipped(line) {
             return Ok(self.comment(line));
         }
@@ -154,10 +145,6 @@ pub(crate) fn put_unread(errors: &mut Text, alloc: Global, name: &str, error: &E
     put_text(errors, name, &unread(alloc, error), PLAIN);
     Status::Failed
 }
-
-const AT_LINE: &str = "{name}:{line}: {fault}\n";
-
-const AT_WORD: &str = "locktrace: '{name}': {fault}\n";
 
 // The column at which a line stops being one of a sketch, and what could be there.
 fn wrong_in_line(line: &[u8]) -> Option<(usize, Due)> {
@@ -183,26 +170,25 @@ fn put_fault(text: &mut Text, alloc: Global, line: &[u8], fault: LineFault)
     text.put("\n");
 }
 
-// Writes a fault after the place that it is at.
-fn put_front<'a>(text: &mut Text, name: &'a Text, number: u64, fault: &'a str)
+// Writes a fault after the place that it is at: the line of this number in an input, or if the
+// number is 0 this word of the command.
+fn put_at(text: &mut Text, place: (&str, u64), fault: LineFault)
     ensures { Grows text.old text.new }
 {
-    let places = [
-        ("name", Value::Part(name)),
-        ("line", Value::Number(number)),
-        ("fault", Value::Text(fault)),
-    ];
-    text.fill(if number > 0 { AT_LINE } else { AT_WORD }, &places);
+    let said = InlineText::<128>::of(fault);
+    if place.1 > 0 {
+        return put_line(text, place, PLAIN, BARE, Value::Text(said.as_str()));
+    }
+    text.put("locktrace: '");
+    text.put_escaped(place.0, "");
+    text.fill("': {fault}\n", &[("fault", Value::Text(said.as_str()))]);
 }
 
-// Writes what is wrong with the line of this number in an input, or if the number is 0 with this
-// word of the command.
+// Writes what is wrong with a line at such a place.
 fn put_named(text: &mut Text, alloc: Global, place: (&str, u64), line: &[u8], fault: LineFault)
     ensures { Grows text.old text.new }
 {
-    let mut name = Text::new(alloc);
-    name.put_escaped(place.0, "");
-    put_front(text, &name, place.1, InlineText::<128>::of(fault).as_str());
+    put_at(text, place, fault);
     put_fault(text, alloc, line, fault);
 }
 
@@ -210,24 +196,23 @@ fn put_named(text: &mut Text, alloc: Global, place: (&str, u64), line: &[u8], fa
 pub(crate) type Taken = Result<(Sketch, Shape), Status>;
 
 // A sketch that was read to its end.
-fn whole(sketch: Sketch, alloc: Global, place: (&str, u64), errors: &mut Text) -> Taken {
+fn whole(sketch: Sketch, place: (&str, u64), said: &mut Outputs) -> Taken {
     let fault = match sketch.header {
         Some(_) if sketch.way.is_open() => LineFault::Endless,
         Some(header) => return Ok((sketch, header)),
         None => LineFault::Unread(SketchFault::Header(TextFault::NoHeader)),
     };
-    put_named(errors, alloc, place, b"".as_slice(), fault);
+    put_named(&mut said.errors, said.alloc, place, b"".as_slice(), fault);
     Err(Status::Faulty)
 }
 
 // Reads the sketch in an input of this name.
 fn read_input<R: Read + Drop>(
-    alloc: Global,
     input: R,
     name: &str,
-    errors: &mut Text,
+    said: &mut Outputs,
 ) -> Result<Taken, AllocError> {
-    let mut sketch = Sketch::new(alloc);
+    let (alloc, errors, mut sketch) = (said.alloc, &mut said.errors, Sketch::new(said.alloc));
     let (number, ended) = take_lines(alloc, input, |number, line| -> Result<_, AllocError> {
         let Some(fault) = sketch.line(alloc, line.bytes())? else {
             return Ok(None);
@@ -236,45 +221,45 @@ fn read_input<R: Read + Drop>(
         Ok(Some(Status::Faulty))
     })?;
     Ok(match ended {
-        Ok(None) => whole(sketch, alloc, (name, number), errors),
+        Ok(None) => whole(sketch, (name, number), said),
         Ok(Some(status)) => Err(status),
-        Err(error) => Err(put_unread(errors, alloc, name, &error)),
+        Err(error) => Err(put_unread(&mut said.errors, alloc, name, &error)),
     })
 }
 
-/// Reads the sketch whose lines are words of a command.
-pub(crate) fn read_words(
-    alloc: Global,
-    words: &[String],
-    errors: &mut Text,
-) -> Result<Taken, AllocError> {
-    let (mut sketch, mut last) = (Sketch::new(alloc), "");
+// Reads the sketch whose lines are words of a command.
+fn read_words(words: &[String], said: &mut Outputs) -> Result<Taken, AllocError> {
+    let (alloc, mut sketch, mut last) = (said.alloc, Sketch::new(said.alloc), "");
     for word in words {
         last = word.as_str();
         if let Some(fault) = sketch.line(alloc, word.as_bytes())? {
-            put_named(errors, alloc, (word.as_str(), 0), word.as_bytes(), fault);
+            put_named(&mut said.errors, alloc, (last, 0), word.as_bytes(), fault);
             return Ok(Err(Status::Misused));
         }
     }
-    Ok(whole(sketch, alloc, (last, 0), errors).map_err(|_| Status::Misused))
+    Ok(whole(sketch, (last, 0), said).map_err(|_| Status::Misused))
 }
 
-/// Reads a sketch. What is wrong with it is written to `errors`.
-///
-/// # Errors
-///
-/// A request for memory was refused.
+/// The lock of a header that is the word of a command. `Misused` is the answer if it is none, and
+/// what is wrong is said.
+pub fn lock_named(
+    words: &[String],
+    said: &mut Outputs,
+) -> Result<Result<Shape, Status>, AllocError> {
+    Ok(read_words(words, said)?.map(|(_, header)| header))
+}
+
+/// Reads a sketch, and says what is wrong with it.
 pub(crate) fn read_sketch<R: Runtime>(
     rt: &R,
-    alloc: Global,
     place: &Place,
-    errors: &mut Text,
+    said: &mut Outputs,
 ) -> Result<Taken, AllocError> {
     match place {
-        Place::Words(words) => read_words(alloc, words.as_slice(), errors),
+        Place::Words(words) => read_words(words.as_slice(), said),
         Place::File(name) => match open(rt, name.as_str()) {
-            Ok(input) => read_input(alloc, input, name, errors),
-            Err(error) => Ok(Err(put_unread(errors, alloc, name, &error))),
+            Ok(input) => read_input(input, name, said),
+            Err(error) => Ok(Err(put_unread(&mut said.errors, said.alloc, name, &error))),
         },
     }
 }

@@ -30,11 +30,6 @@ input_followed remaining input (Ok report) is =
     λ read. (input, ending_is (remaining input) report is read)
 input_followed remaining input (Err e) is = tt
 
--- of one that could not be opened
-pub none_followed : {I : Type 0} (remaining : I → Option (List ℕ)) (report : Report)
-    → report.ending ≡ Unread → EndsInput remaining report.ending
-none_followed remaining report is = λ read. absurd (read is)
-
 -- the next of several, and those after it
 pub next_of : {X : Type 0} (P : X → Type 0) (old new : List X) (r : Option X)
     → old ≡ option_to_list r ++ new → All P old → IfSome r P × All P new

@@ -175,12 +175,6 @@ range_rest xs i j n =
 pub range_empty : (xs : List ℕ) (i j : ℕ) → j ≤ i → slice_range xs i j ≡ []
 range_empty xs i j none = ap (λ n. take n (drop i xs)) {y = 0} (omega arith)
 
--- nothing is left
-pub at_end : (known : Option (List ℕ)) (ahead : List ℕ) → ahead ≡ [] → IsAtEnd known
-    → IsAtEnd (prepend_known ahead known)
-at_end None ahead none end = tt
-at_end (Some xs) ahead none end = ap (λ l. l ++ xs) none ∙ end
-
 -- nothing was read ahead
 pub keeps_new : (known : Option (List ℕ)) → Keeps known (prepend_known [] known)
 keeps_new None = tt

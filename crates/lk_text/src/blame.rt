@@ -6,7 +6,7 @@
 ghost use Rattle.std.specs.Prelude.{◌<◌, length};
 
 use crate::course::{Course, Fate, Step};
-use crate::phrases::{Lock, put_line};
+use crate::phrases::{Lock, called, put_line};
 use crate::report::Notes;
 use crate::{Text, Value};
 use lk_catalogue::{Awaited, polled_for};
@@ -25,19 +25,16 @@ fn next_word(lock: &Lock, thread: u8) -> Option<(WordName, usize)> {
     Some((name_at(lock.kind(), place)?, place))
 }
 
-// The name of a word as a text, or nothing.
-fn word_text(word: Option<WordName>) -> InlineText<40> {
-    word.map_or(InlineText::new(), |word| InlineText::of(word))
+// The name of a word, or nothing.
+fn word_value<'a>(word: Option<WordName>) -> Value<'a> {
+    Value::Short(word.map_or(InlineText::new(), |word| InlineText::of(word)))
 }
 
-// The wait of a thread, as a text.
-fn due_text(awaited: Option<Awaited>) -> InlineText<40> {
+// The wait of a thread.
+fn due_value<'a>(awaited: Awaited) -> Value<'a> {
     match awaited {
-        Some(Awaited::Ticket(due) | Awaited::Value(due) | Awaited::Other(due)) => {
-            InlineText::of(due)
-        }
-        Some(Awaited::Section(due)) => InlineText::of(due),
-        None => InlineText::new(),
+        Awaited::Ticket(due) | Awaited::Value(due) | Awaited::Other(due) => Value::Number(due),
+        Awaited::Section(due) => Value::Short(InlineText::of(due)),
     }
 }
 
@@ -79,26 +76,21 @@ fn poll_sentence(is_on_word: bool, awaited: Option<Awaited>) -> &'static str {
 // Says what the last poll of a thread found, and what it polls for.
 fn put_poll(notes: &mut Notes, lock: &Lock, step: Step, did: &str) {
     let awaited = polled_for(lock.kind(), step.made.from);
-    let found = step.made.effect.map_or(0, |effect| effect.found);
-    let word = step
-        .made
-        .effect
-        .and_then(|effect| name_at(lock.kind(), effect.word));
+    let effect = step.made.effect;
+    let word = effect.and_then(|effect| name_at(lock.kind(), effect.word));
     let places = [
-        (
-            "who",
-            Value::Numbered("thread", u64::from(step.line.thread)),
-        ),
+        ("who", called(step.line.thread, &[])),
         ("did", Value::Text(did)),
+        ("step", Value::Text(move_text(step.line.action))),
+        ("word", word_value(word)),
         (
-            "step",
-            Value::Short(InlineText::of(move_text(step.line.action))),
+            "found",
+            Value::Number(effect.map_or(0, |effect| effect.found)),
         ),
-        ("word", Value::Short(word_text(word))),
-        ("found", Value::Number(found)),
-        ("due", Value::Short(due_text(awaited))),
+        ("due", awaited.map_or(Value::Text(""), |due| due_value(due))),
     ];
-    notes.say(step.number, poll_sentence(word.is_some(), awaited), &places);
+    let sentence = poll_sentence(word.is_some(), awaited);
+    notes.say_in("", step.number, sentence, &places);
 }
 
 const LAST_WRITE: &str = "{word} was last written here: {who}'s {step} left {left}";
@@ -108,22 +100,15 @@ fn put_write(notes: &mut Notes, lock: &Lock, course: &Course, thread: u8) {
     let Some((word, place)) = next_word(lock, thread) else {
         return;
     };
-    let Some((step, left)) = course.written(place) else {
-        return;
-    };
-    let places = [
-        ("word", Value::Short(word_text(Some(word)))),
-        (
-            "who",
-            Value::Numbered("thread", u64::from(step.line.thread)),
-        ),
-        (
-            "step",
-            Value::Short(InlineText::of(move_text(step.line.action))),
-        ),
-        ("left", Value::Number(left)),
-    ];
-    notes.say(step.number, LAST_WRITE, &places);
+    if let Some((step, left)) = course.written(place) {
+        let places = [
+            ("word", word_value(Some(word))),
+            ("who", called(step.line.thread, &[])),
+            ("step", Value::Text(move_text(step.line.action))),
+            ("left", Value::Number(left)),
+        ];
+        notes.say_in("", step.number, LAST_WRITE, &places);
+    }
 }
 
 // Says which moves a thread made last.
@@ -139,34 +124,23 @@ fn put_steps(notes: &mut Notes, course: &Course, thread: u8) {
     }
 }
 
-// Says after which poll a refused move came, if the thread should have done otherwise.
-fn put_poll_before(
-    notes: &mut Notes,
-    lock: &Lock,
-    course: &Course,
-    line: TraceLine,
-    refusal: Refusal,
-) {
-    let Some(step) = course.steps(line.thread)[0] else {
-        return;
-    };
-    if let Some(did) = did_after(step.made.outcome, line.action, refusal) {
-        put_poll(notes, lock, step, did);
-    }
-}
-
-/// Says what helps to see why the move in this line is refused.
+/// Says what helps to see why the move in this line is refused: of one that comes after a poll also
+/// what that found, if the thread should have done otherwise.
 pub fn put_blame(
     notes: &mut Notes,
     lock: &Lock,
     course: &Course,
     line: TraceLine,
-    difference: Difference,
+    why: Difference,
 ) {
     put_steps(notes, course, line.thread);
-    match difference {
-        Difference::Refused(refusal) => put_poll_before(notes, lock, course, line, refusal),
-        Difference::FoundOther { .. } | Difference::WroteOther { .. } => {
+    match (why, course.steps(line.thread)[0]) {
+        (Difference::Refused(refusal), Some(step)) => {
+            if let Some(did) = did_after(step.made.outcome, line.action, refusal) {
+                put_poll(notes, lock, step, did);
+            }
+        }
+        (Difference::FoundOther { .. } | Difference::WroteOther { .. }, _) => {
             put_write(notes, lock, course, line.thread);
         }
         _ => {}
@@ -186,21 +160,22 @@ pub fn may_go_on(lock: &Lock, thread: u8) -> bool {
 }
 
 // The wait of a thread that hangs, as a sentence.
-fn wait_sentence(awaited: Option<Awaited>) -> &'static str {
+fn wait_sentence(awaited: Awaited) -> &'static str {
     match awaited {
-        Some(Awaited::Ticket(_)) => {
+        Awaited::Ticket(_) => {
             "{who} waits from here on for {word} to be {due}, its ticket; {word} is {value}{missed}"
         }
-        Some(Awaited::Value(_)) => {
+        Awaited::Value(_) => {
             "{who} waits from here on for {word} to be {due}; {word} is {value}{missed}"
         }
-        Some(Awaited::Other(_)) => {
+        Awaited::Other(_) => {
             "{who} waits from here on for {word} to be other than {due}; {word} is {value}{missed}"
         }
-        Some(Awaited::Section(_)) => "{who} waits from here on for {due}; {words}{missed}",
-        None => "{who} waits from here on for nothing{missed}",
+        Awaited::Section(_) => "{who} waits from here on for {due}; {words}{missed}",
     }
 }
+
+const MISSED: &str = ", so it did not look again";
 
 // Writes each word of a lock with its value.
 fn put_words(text: &mut Text, lock: &Lock) {
@@ -216,38 +191,25 @@ fn put_words(text: &mut Text, lock: &Lock) {
     }
 }
 
-// The value of the word at a place.
-fn value_at(lock: &Lock, place: usize) -> u64 {
-    let words = lock.machine().words().as_slice();
-    words.get(place).copied().unwrap_or(0)
-}
-
 // Says what a thread waits for, and since which line of its file.
 fn put_wait(notes: &mut Notes, lock: &Lock, thread: u8, file: &str, since: u64)
     requires { thread < length lock.now.state.phases }
 {
-    let awaited = polled_for(lock.kind(), lock.machine().phase(thread));
-    let polled = next_word(lock, thread);
+    let Some(awaited) = polled_for(lock.kind(), lock.machine().phase(thread)) else {
+        return;
+    };
+    let (word, place) = next_word(lock, thread).unzip();
+    let value = place.and_then(|place| lock.machine().words().as_slice().get(place));
     let mut words = notes.text();
-    if let Some(Awaited::Section(_)) = awaited {
+    if let Awaited::Section(_) = awaited {
         put_words(&mut words, lock);
     }
-    let missed = if may_go_on(lock, thread) {
-        ", so it did not look again"
-    } else {
-        ""
-    };
+    let missed = if may_go_on(lock, thread) { MISSED } else { "" };
     let places = [
         ("who", Value::Numbered("thread", u64::from(thread))),
-        (
-            "word",
-            Value::Short(word_text(polled.map(|(word, _)| word))),
-        ),
-        ("due", Value::Short(due_text(awaited))),
-        (
-            "value",
-            Value::Number(polled.map_or(0, |(_, place)| value_at(lock, place))),
-        ),
+        ("word", word_value(word)),
+        ("due", due_value(awaited)),
+        ("value", Value::Number(value.copied().unwrap_or(0))),
         ("words", Value::Part(&words)),
         ("missed", Value::Short(InlineText::of(missed))),
     ];
@@ -263,8 +225,8 @@ fn put_end(notes: &mut Notes, lock: &Lock, course: &Course, thread: u8, file: &s
     };
     if lock.machine().next_step(thread).is_some() {
         let mut said = notes.text();
-        let who = Value::Numbered("thread", u64::from(thread));
-        said.fill("{who} has ended inside a call, after '", &[("who", who)]);
+        let places = [("who", called(thread, &[]))];
+        said.fill("{who} has ended inside a call, after '", &places);
         put_line(&mut said, &step.line);
         said.put("'");
         notes.put_in(file, step.number, said);

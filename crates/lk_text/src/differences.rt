@@ -38,11 +38,8 @@ fn refusal_sentence(refusal: Refusal) -> &'static str {
 fn sentence_of(difference: Difference) -> &'static str {
     match difference {
         Difference::Refused(refusal) => refusal_sentence(refusal),
-        Difference::OtherWord { word: Some(_), .. } => {
+        Difference::OtherWord { .. } => {
             "{who}'s {step} is on {found}; the published algorithm's is on {expected}"
-        }
-        Difference::OtherWord { word: None, .. } => {
-            "{who}'s {step} is on {found}; the published algorithm's is on no single word"
         }
         Difference::FoundOther { .. } => {
             "{who}'s {step} found {found} in {word}; the published algorithm has {expected}"
@@ -167,14 +164,13 @@ pub fn put_refused(
     ensures { Grows text.old text.new }
 {
     let details = parts_of(line, difference);
-    let word = details.word.map(|word| Datum::Word(word));
     let places = [
         ("who", called(line.thread, names)),
         ("thread", Value::Number(u64::from(line.thread))),
-        ("step", Value::Short(InlineText::of(move_text(line.action)))),
-        ("lock", Value::Short(InlineText::of(lock_text(lock.kind())))),
-        ("code", Value::Short(InlineText::of(difference.name()))),
-        ("word", Value::Short(shown(word))),
+        ("step", Value::Text(move_text(line.action))),
+        ("lock", Value::Text(lock_text(lock.kind()))),
+        ("code", Value::Text(difference.name())),
+        ("word", Value::Short(shown(details.word_found()))),
         ("expected", Value::Short(shown(details.expected))),
         ("found", Value::Short(shown(details.found))),
         ("last", Value::Number(last_count(difference))),

@@ -38,10 +38,6 @@ pub(crate) fn put_escaped(text: &mut String, said: &str, marked: &str) -> Result
 }
 
 /// Text of an input or of a command line as it is shown.
-///
-/// # Errors
-///
-/// A request for memory was refused.
 pub fn escaped(alloc: Global, said: &str) -> Result<String, AllocError> {
     let mut text = String::new(alloc);
     put_escaped(&mut text, said, "")?;

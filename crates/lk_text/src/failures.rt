@@ -14,29 +14,35 @@ pub enum Failure {
     /// Standard output failed.
     #[error("cannot write: {0}")]
     Output(#[from] io::Error),
-    /// A file that no earlier run wrote is in the place of one to be written: what to say of it.
-    #[error("{0}")]
-    InPlace(String),
-    /// A file cannot be read or written: what to say of it.
+    /// A file cannot be read or written, or has its place taken: what to say of it.
     #[error("{0}")]
     File(String),
     #[error("out of memory")]
     Memory(#[from(alloc)] AllocError),
 }
 
-// Says that this cannot be done with the file of this path.
-fn of_path(alloc: Global, deed: &str, path: &str, error: &io::Error) -> Result<String, AllocError> {
-    let path = escaped(alloc, path)?;
-    format!(in alloc; "cannot {deed} {path}: {error}")
-}
-
 impl Failure {
-    /// What cannot be done with the file of this path: to read or to write it.
-    pub fn of_file(alloc: Global, deed: &str, path: &str, error: &io::Error) -> Failure {
-        match of_path(alloc, deed, path, error) {
-            Ok(text) => Failure::File(text),
-            Err(error) => Failure::Memory(error),
+    /// The value of what was done with the file of this path, or that it cannot be done: to read or
+    /// to write it.
+    pub fn unless<T>(
+        alloc: Global,
+        deed: &str,
+        path: &str,
+        done: io::Result<T>,
+    ) -> Result<T, Failure> {
+        match done {
+            Ok(value) => Ok(value),
+            Err(error) => {
+                let path = escaped(alloc, path)?;
+                Err(Failure::File(format!(in alloc; "cannot {deed} {path}: {error}")?))
+            }
         }
+    }
+
+    /// Says that a file is in the place of one that an earlier run of this command would have left.
+    pub fn in_place<T>(alloc: Global, path: &str, command: &str) -> Result<T, Failure> {
+        let path = escaped(alloc, path)?;
+        Err(Failure::File(format!(in alloc; "{path} is not of an earlier {command}")?))
     }
 
     /// The status of the program.

@@ -13,7 +13,7 @@ ghost use Rattle.lk_text.specs.invariants.{Follows};
 use crate::blame::{HANGS, put_blame, put_waits};
 use crate::course::Course;
 use crate::differences::{details_of, put_refused};
-use crate::helps::{help_for, help_for_text};
+use crate::helps::{BEGIN, help_for};
 use crate::phrases::put_standing;
 use crate::report::{Code, Details, Ending, Notes, Report};
 use crate::{Line, Lines, Summary, Text, open, put_wrong, wrong_in_header};
@@ -62,7 +62,7 @@ impl Report {
         self.message.put("refused: ");
         put_refused(&mut self.message, lock, names, line, difference);
         put_blame(&mut self.notes, lock, course, line, difference);
-        self.help.put(help_for(lock, line, difference));
+        self.help.put(help_for(checker, line, difference));
         put_standing(&mut self.standing, lock);
     }
 
@@ -77,13 +77,16 @@ impl Report {
         put_standing(&mut self.standing, lock);
     }
 
-    // Says why the text is no trace.
+    // Says why the text is no trace. What could be in the place of a line that cannot be read is
+    // said in a note.
     fn fault(&mut self, fault: TextFault)
         ensures { SameVerdict self.old self.new }
     {
         self.details = Details::new(Code::Faulty(fault));
         self.message.put(InlineText::<64>::of(fault).as_str());
-        self.help.put(help_for_text(fault));
+        if fault == TextFault::NoHeader {
+            self.help.put(BEGIN);
+        }
     }
 
     // Names the words that could be where a line cannot be read.

@@ -1,9 +1,12 @@
-//! Reports in three forms: lines as compilers write them, TAP, and JSON.
+//! Reports in three forms: lines as compilers write them, JSON, and TAP 13, which Debian's `prove`
+//! reads: a point for each input, and comments.
 
-ghost use Rattle.lk_text.specs.Texts.{Grows};
+ghost use Rattle.std.specs.Prelude.{◌∷◌, [], codes, decimal};
+ghost use Rattle.lk_text.specs.Filled.{sentence_with};
+ghost use Rattle.lk_text.specs.Texts.{Adds, Grows};
 
 use crate::report::{Datum, Details, Ending, Notes, Report};
-use crate::{Text, Value, json, put_point};
+use crate::{Text, Value, json};
 
 /// The form of reports.
 #[derive(Clone, Copy)]
@@ -59,14 +62,8 @@ pub fn put_line(text: &mut Text, place: (&str, u64), colors: Colors, form: &str,
 pub fn put_notes(text: &mut Text, name: &str, notes: &Notes, colors: Colors, form: &str) {
     for note in notes.as_slice() {
         let own = note.file.as_str();
-        let file = if own.is_empty() { name } else { own };
-        put_line(
-            text,
-            (file, note.line),
-            colors,
-            form,
-            Value::Part(&note.text),
-        );
+        let place = (if own.is_empty() { name } else { own }, note.line);
+        put_line(text, place, colors, form, Value::Part(&note.text));
     }
     lose_with(text, notes);
 }
@@ -78,78 +75,123 @@ pub fn lose_with(text: &mut Text, notes: &Notes) {
     }
 }
 
+// Writes a line of a report, unless there is nothing to say.
+fn put_part(text: &mut Text, place: (&str, u64), colors: Colors, form: &str, said: &Text) {
+    if !said.is_empty() {
+        put_line(text, place, colors, form, Value::Part(said));
+    }
+}
+
 /// Writes what is said of an input of this name, in these colors.
 pub fn put_text(text: &mut Text, name: &str, report: &Report, colors: Colors) {
     let place = (name, report.line);
-    if report.ending != Ending::Accepted {
-        put_line(text, place, colors, MESSAGE, Value::Part(&report.message));
-    }
+    put_part(text, place, colors, MESSAGE, &report.message);
     put_notes(text, name, &report.notes, colors, NOTE);
-    if !report.standing.is_empty() {
-        put_line(text, place, colors, NOTE, Value::Part(&report.standing));
-    }
-    if !report.help.is_empty() {
-        put_line(text, place, colors, HELP, Value::Part(&report.help));
-    }
+    put_part(text, place, colors, NOTE, &report.standing);
+    put_part(text, place, colors, HELP, &report.help);
+}
+
+// The counts of an input, as a sentence.
+fn counts_of(report: &Report) -> Text {
+    let mut counts = report.notes.text();
+    report.summary.put(&mut counts);
+    counts
 }
 
 /// Writes the counts of an input of this name, and a warning if no thread waited.
 pub fn put_counts(text: &mut Text, name: &str, report: &Report, colors: Colors) {
-    let mut counts = report.notes.text();
-    report.summary.put(&mut counts);
-    put_line(text, (name, 0), PLAIN, BARE, Value::Part(&counts));
+    put_part(text, (name, 0), PLAIN, BARE, &counts_of(report));
     if !report.summary.is_contended() {
         put_line(text, (name, 0), colors, WARNING, Value::Text(UNCONTENDED));
     }
 }
 
-// Writes a comment of TAP.
-fn put_comment(text: &mut Text, line: u64, said: Value<'_>)
+/// Writes a text about a line in this form, unless there is nothing to say.
+pub fn put_said(text: &mut Text, form: &str, line: u64, said: &Text)
     ensures { Grows text.old text.new }
 {
-    let form = if line > 0 {
-        "# line {line}: {text}\n"
-    } else {
-        "# {text}\n"
-    };
-    text.fill(form, &[("line", Value::Number(line)), ("text", said)]);
+    if !said.is_empty() {
+        let places = [("line", Value::Number(line)), ("text", Value::Part(said))];
+        text.fill(form, &places);
+    }
+}
+
+// Comments of TAP: one, and one about a line.
+const COMMENT: &str = "# {text}\n";
+
+const COMMENT_ON: &str = "# line {line}: {text}\n";
+
+// Writes a comment of TAP.
+fn put_comment(text: &mut Text, line: u64, said: &Text)
+    ensures { Grows text.old text.new }
+{
+    put_said(
+        text,
+        if line > 0 { COMMENT_ON } else { COMMENT },
+        line,
+        said,
+    );
 }
 
 /// Writes notes as comments of TAP.
 pub fn put_comments(text: &mut Text, notes: &Notes) {
     for note in notes.as_slice() {
-        let said = Value::Part(&note.text);
         if note.file.is_empty() {
-            put_comment(text, note.line, said);
+            put_comment(text, note.line, &note.text);
         } else {
             text.put("# ");
-            put_line(text, (note.file.as_str(), note.line), PLAIN, BARE, said);
+            put_part(
+                text,
+                (note.file.as_str(), note.line),
+                PLAIN,
+                BARE,
+                &note.text,
+            );
         }
     }
     lose_with(text, notes);
 }
 
+const PLAN: &str = "TAP version 13\n1..{count}\n";
+
+const POINT: &str = "{sign} {number} - ";
+
+// In a name these begin a directive and an escape.
+const MARKED: &str = "#\\";
+
+/// Writes the version, and how many points there will be.
+pub fn put_plan(text: &mut Text, count: usize)
+    ensures { Adds (sentence_with ((codes "count", decimal count) ∷ []) PLAN.now)
+        text.old text.new }
+{
+    text.fill(PLAN, &[("count", Value::Number(count as u64))]);
+}
+
+/// Writes the point of this number, from 1, and this name.
+pub fn put_point(text: &mut Text, number: usize, is_ok: bool, name: &str)
+    ensures { Grows text.old text.new }
+{
+    let sign = if is_ok { "ok" } else { "not ok" };
+    let places = [
+        ("sign", Value::Text(sign)),
+        ("number", Value::Number(number as u64)),
+    ];
+    text.fill(POINT, &places);
+    text.put_escaped(name, MARKED);
+    text.put("\n");
+}
+
 /// Writes the point of an input, with what is said of it and, if they are asked for, its counts.
 pub fn put_tap(text: &mut Text, number: usize, name: &str, report: &Report, counted: bool) {
-    let is_ok = report.ending == Ending::Accepted;
-    put_point(text, number, is_ok, name);
-    if !is_ok {
-        put_comment(text, report.line, Value::Part(&report.message));
-    }
+    put_point(text, number, report.ending == Ending::Accepted, name);
+    put_comment(text, report.line, &report.message);
     put_comments(text, &report.notes);
-    if !report.standing.is_empty() {
-        put_comment(text, 0, Value::Part(&report.standing));
-    }
-    if !report.help.is_empty() {
-        let help = Value::Part(&report.help);
-        text.fill("# help: {help}\n", &[("help", help)]);
-    }
+    put_comment(text, 0, &report.standing);
+    put_said(text, "# help: {text}\n", 0, &report.help);
     if counted {
-        let mut counts = report.notes.text();
-        report.summary.put(&mut counts);
-        put_comment(text, 0, Value::Part(&counts));
+        put_comment(text, 0, &counts_of(report));
         if !report.summary.is_contended() {
-            put_comment(text, 0, Value::Text(UNCONTENDED));
+            text.fill(COMMENT, &[("text", Value::Text(UNCONTENDED))]);
         }
     }
 }
@@ -165,26 +207,18 @@ fn put_datum(text: &mut Text, name: &str, datum: Option<Datum>)
     }
 }
 
-// Writes the word that a step was on, what was expected, and what was found.
-fn put_found(text: &mut Text, details: &Details)
-    ensures { Grows text.old text.new }
-{
-    put_datum(text, "word", details.word.map(|word| Datum::Word(word)));
-    put_datum(text, "expected", details.expected);
-    put_datum(text, "found", details.found);
-}
-
 /// Writes what ended an input as fields of a JSON object.
 pub fn put_details(text: &mut Text, details: &Details)
     ensures { Grows text.old text.new }
 {
-    let thread = details
-        .thread
-        .map(|thread| Datum::Number(u64::from(thread)));
     json::string(text, "code", details.code.text());
-    put_datum(text, "thread", thread);
+    if let Some(thread) = details.thread {
+        json::number(text, "thread", u64::from(thread));
+    }
     put_datum(text, "step", details.step.map(|step| Datum::Move(step)));
-    put_found(text, details);
+    put_datum(text, "word", details.word_found());
+    put_datum(text, "expected", details.expected);
+    put_datum(text, "found", details.found);
 }
 
 /// Writes notes as a field of a JSON object, unless there is none.
@@ -229,12 +263,8 @@ pub fn put_json(text: &mut Text, name: &str, report: &Report, counted: bool) {
         put_details(text, &report.details);
     }
     put_note_fields(text, "notes", &report.notes);
-    if !report.standing.is_empty() {
-        json::text(text, "standing", &report.standing);
-    }
-    if !report.help.is_empty() {
-        json::text(text, "help", &report.help);
-    }
+    json::text(text, "standing", &report.standing);
+    json::text(text, "help", &report.help);
     if counted {
         put_count_fields(text, report);
     }

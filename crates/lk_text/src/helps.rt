@@ -1,23 +1,17 @@
 //! Advice after the line that ends a trace: what a lock has to do there, and what recorders forget.
 
-use crate::phrases::Lock;
 use lk_catalogue::{Wrong, help_for_refusal, help_for_step_with};
 use lk_locks::Phase;
-use lk_trace::{Difference, TextFault, TraceLine};
+use lk_trace::{Checker, Difference, TraceLine};
 
-// The phase of the thread of a line. One that the lock does not have is in no call.
-fn phase_of(lock: &Lock, thread: u8) -> Phase {
-    let machine = lock.machine();
-    if thread < machine.threads() {
-        machine.phase(thread)
-    } else {
-        Phase::Idle
-    }
-}
+/// The advice for a text that is no trace, since it has no header.
+pub const BEGIN: &str = "begin with a header, as in: lock mcs threads 2";
 
-/// The advice for a line that differs from its lock.
-pub fn help_for(lock: &Lock, line: TraceLine, difference: Difference) -> &'static str {
-    let (kind, phase) = (lock.kind(), phase_of(lock, line.thread));
+/// The advice for a line that differs from its lock. A thread that the lock does not have is in no
+/// call.
+pub fn help_for(checker: &Checker, line: TraceLine, difference: Difference) -> &'static str {
+    let kind = checker.lock().kind();
+    let phase = checker.phase(line.thread).unwrap_or(Phase::Idle);
     let wrong = match difference {
         Difference::Refused(refusal) => return help_for_refusal(kind, phase, refusal),
         Difference::OtherWord { .. } => Wrong::Word,
@@ -28,13 +22,4 @@ pub fn help_for(lock: &Lock, line: TraceLine, difference: Difference) -> &'stati
         Difference::OtherOutcome { .. } => Wrong::Outcome,
     };
     help_for_step_with(kind, phase, wrong)
-}
-
-/// The advice for a text that is no trace. What could be in the place of a line that cannot be read
-/// is said in a note, so there is none.
-pub fn help_for_text(fault: TextFault) -> &'static str {
-    match fault {
-        TextFault::NoHeader => "begin with a header, as in: lock mcs threads 2",
-        _ => "",
-    }
 }

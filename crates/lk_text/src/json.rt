@@ -51,11 +51,12 @@ pub fn string(text: &mut Text, field: &str, said: &str)
     text.put_quoted(said);
 }
 
-/// Writes a field with a text.
+/// Writes a field with a text, unless it is empty.
 pub fn text(text: &mut Text, field: &str, said: &Text)
     ensures { Grows text.old text.new }
 {
     match said.as_str() {
+        Ok("") => {}
         Ok(said) => string(text, field, said),
         Err(AllocError) => text.lose(),
     }

@@ -3,9 +3,9 @@
 //!
 //! `open` opens a file or standard input, and `take_lines` gives each line of an input to a
 //! function. A `Text` takes sentences and text of an input, which `escaped` gives as it is shown,
-//! `json` objects of JSON, and `put_plan` and `put_point` reports in the form of TAP. `put_wrong`
-//! names the words that could be where a line cannot be read, and `Failure` says why a job was not
-//! done.
+//! and `json` objects of JSON. `put_wrong` names the words that could be where a line cannot be
+//! read. `Outputs` has what a job writes, and `Failure` says why one was not done. A call gives an
+//! `AllocError` only if a request for memory was refused.
 //!
 //! `follow` follows the trace in an input to its end, or up to the first line that is wrong, and
 //! makes its `report`: the verdict, the counts of a `Summary`, in what the line differs
@@ -29,7 +29,6 @@ pub mod phrases;
 pub mod progress;
 pub mod report;
 mod summary;
-mod tap;
 mod texts;
 mod wrong;
 
@@ -39,6 +38,5 @@ pub use fills::{Place, Value};
 pub use inputs::{STANDARD, Source, open};
 pub use lines::{Line, Lines, take_lines};
 pub use summary::{Summary, has_counter};
-pub use tap::{put_plan, put_point};
-pub use texts::Text;
+pub use texts::{Outputs, Text};
 pub use wrong::{put_wrong, wrong_in_header};

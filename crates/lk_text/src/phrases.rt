@@ -89,8 +89,8 @@ pub fn put_line(text: &mut Text, line: &TraceLine) {
     put_seen(text, line.thread, line.seen);
 }
 
-// Writes a list of threads after these words, or `nobody`.
-fn put_threads(text: &mut Text, front: &str, threads: &[u8]) {
+/// Writes a list of threads after these words, or `nobody`.
+pub fn put_threads(text: &mut Text, front: &str, threads: &[u8]) {
     text.put(front);
     if threads.is_empty() {
         text.put("nobody");

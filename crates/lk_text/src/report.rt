@@ -140,6 +140,11 @@ impl Details {
             found: None,
         }
     }
+
+    /// The word, as a value.
+    pub(crate) fn word_found(&self) -> Option<Datum> {
+        Some(Datum::Word(self.word?))
+    }
 }
 
 /// A text about a line, from 1; 0 if it is about no line of its own.
@@ -185,7 +190,8 @@ impl Notes {
         Text::new(self.alloc)
     }
 
-    /// Says this text of a line of another file.
+    /// Says this text of a line: of the file of this name, or if that is empty of the one that the
+    /// message is about.
     pub fn put_in(&mut self, file: &str, line: u64, text: Text)
         ensures { self.new.is_whole ≡ true → Says self.old.notes.items self.new.notes.items
             file.now line (λ said. said ≡ text) }
@@ -206,7 +212,7 @@ impl Notes {
         }
     }
 
-    /// Says this sentence of a line of another file.
+    /// Says this sentence of such a line.
     pub fn say_in(&mut self, file: &str, line: u64, sentence: &str, places: &[Place<'_>])
         ensures { self.new.is_whole ≡ true → Says self.old.notes.items self.new.notes.items
             file.now line (IsSaid (sentence_with (texts_of places.now) sentence.now)) }
@@ -214,14 +220,6 @@ impl Notes {
         let mut text = self.text();
         text.fill(sentence, places);
         self.put_in(file, line, text);
-    }
-
-    /// Says this sentence of a line.
-    pub fn say(&mut self, line: u64, sentence: &str, places: &[Place<'_>])
-        ensures { self.new.is_whole ≡ true → Says self.old.notes.items self.new.notes.items
-            [] line (IsSaid (sentence_with (texts_of places.now) sentence.now)) }
-    {
-        self.say_in("", line, sentence, places);
     }
 
     /// Whether memory was refused for none of them.

@@ -4,10 +4,9 @@
 ghost use Rattle.std.specs.Prelude.{◌≡◌, ◌∷◌, [], codes, decimal, map};
 ghost use Rattle.lk_text.specs.Filled.{sentence_with};
 ghost use Rattle.lk_text.specs.Texts.{Adds};
-ghost use Rattle.lk_text.specs.Summaries.{counts_of, has_counter, moved_in, new_summary};
-ghost use Rattle.lk_text.specs.Summaries.{summary_with};
-ghost use Rattle.lk_text.specs.Summaries.{numbers_of};
-ghost use Rattle.lk_text.specs.Summaries.{after_lock, after_step, after_wait, is_contended};
+ghost use Rattle.lk_text.specs.Summaries.{after_lock, after_step, after_wait, counts_of};
+ghost use Rattle.lk_text.specs.Summaries.{has_counter, is_contended, moved_in, new_summary};
+ghost use Rattle.lk_text.specs.Summaries.{numbers_of, summary_with};
 
 use crate::fills::Value;
 use crate::texts::Text;
@@ -157,29 +156,18 @@ impl Summary {
     pub fn put(&self, text: &mut Text)
         ensures { Adds (sentence_with (counts_of self.now) COUNTS.now) text.old text.new }
     {
-        let cas = "failed compare-and-swap";
-        let late = "poll of a late link";
-        let wrap = "wrap of the counter";
+        let threads = self.threads() as u64;
+        let (cas, several) = ("failed compare-and-swap", "failed compare-and-swaps");
+        let (late, polls) = ("poll of a late link", "polls of a late link");
+        let (wrap, wraps) = ("wrap of the counter", "wraps of the counter");
         let places = [
-            (
-                "threads",
-                Value::Count(self.threads() as u64, "thread", "threads"),
-            ),
+            ("threads", Value::Count(threads, "thread", "threads")),
             ("moves", Value::Count(self.moves, "move", "moves")),
             ("waits", Value::Count(self.waits, "wait", "waits")),
-            (
-                "failed",
-                Value::Count(self.failed, cas, "failed compare-and-swaps"),
-            ),
-            (
-                "late",
-                Value::Count(self.late, late, "polls of a late link"),
-            ),
+            ("failed", Value::Count(self.failed, cas, several)),
+            ("late", Value::Count(self.late, late, polls)),
             ("longest", Value::Number(self.longest as u64)),
-            (
-                "wraps",
-                Value::Count(self.wraps, wrap, "wraps of the counter"),
-            ),
+            ("wraps", Value::Count(self.wraps, wrap, wraps)),
         ];
         text.fill(COUNTS, &places);
     }

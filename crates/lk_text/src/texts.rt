@@ -55,11 +55,7 @@ impl Text {
         self.is_whole && self.text.is_empty()
     }
 
-    /// The whole text.
-    ///
-    /// # Errors
-    ///
-    /// A request for memory was refused.
+    /// The whole text, unless memory was refused for a part.
     pub fn as_str(&self) -> Result<&str, AllocError>
         ensures { IfOk result (λ text. self.now ≡ Some text.now) }
     {
@@ -130,10 +126,6 @@ impl Text {
     }
 
     /// Writes the text, and empties it.
-    ///
-    /// # Errors
-    ///
-    /// The output failed, or a request for memory was refused.
     pub fn write_to<O: Write>(&mut self, output: &mut O) -> Result<(), Failure> {
         output.write_all(self.as_str()?.as_bytes())?;
         self.text.clear();
@@ -142,14 +134,29 @@ impl Text {
 
     /// Writes the text and empties it, if it is long: so a text that is written piece by piece
     /// takes memory that does not grow with it.
-    ///
-    /// # Errors
-    ///
-    /// The output failed, or a request for memory was refused.
     pub fn write_waiting<O: Write>(&mut self, output: &mut O) -> Result<(), Failure> {
         if self.text.len() > MOST_WAITING {
             return self.write_to(output);
         }
         Ok(())
+    }
+}
+
+/// What a job writes to standard output, and to standard error.
+#[derive(Drop)]
+pub struct Outputs {
+    pub alloc: Global,
+    pub text: Text,
+    pub errors: Text,
+}
+
+impl Outputs {
+    /// Nothing is written.
+    pub fn new(alloc: Global) -> Outputs {
+        Outputs {
+            alloc,
+            text: Text::new(alloc),
+            errors: Text::new(alloc),
+        }
     }
 }

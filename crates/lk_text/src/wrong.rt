@@ -57,20 +57,8 @@ pub fn wrong_in_header(line: &[u8]) -> Option<(usize, Due)>
     Some((column, Due::OfSchedule(expected)))
 }
 
-// Writes a sentence about this column.
-fn put_at(text: &mut Text, sentence: &str, column: usize, due: Due)
-    ensures { Grows text.old text.new }
-{
-    let due = InlineText::<160>::of(due);
-    let places = [
-        ("column", Value::Number(column as u64)),
-        ("due", Value::Text(due.as_str())),
-    ];
-    text.fill(sentence, &places);
-}
-
-// Writes the word that was found at this column, and what could be there.
-fn put_found<'a>(text: &mut Text, column: usize, word: &'a Text, due: &'a str)
+// Writes a sentence about this column: the word there, and what could be there.
+fn put_at<'a>(text: &mut Text, sentence: &str, column: usize, word: &'a Text, due: &'a str)
     ensures { Grows text.old text.new }
 {
     let places = [
@@ -78,7 +66,7 @@ fn put_found<'a>(text: &mut Text, column: usize, word: &'a Text, due: &'a str)
         ("word", Value::Part(word)),
         ("due", Value::Text(due)),
     ];
-    text.fill(AT_WORD, &places);
+    text.fill(sentence, &places);
 }
 
 // Writes what is said of the word at this column, and the nearest that could be there.
@@ -87,7 +75,13 @@ fn put_word(text: &mut Text, alloc: Global, column: usize, word: &str, due: Due)
 {
     let mut shown = Text::new(alloc);
     shown.put_escaped(word, "");
-    put_found(text, column, &shown, InlineText::<160>::of(due).as_str());
+    put_at(
+        text,
+        AT_WORD,
+        column,
+        &shown,
+        InlineText::<160>::of(due).as_str(),
+    );
     match nearest(alloc, word, due.words()) {
         Ok(Some(near)) => text.fill(NEAREST, &[("near", Value::Text(near))]),
         Ok(None) => {}
@@ -109,13 +103,14 @@ pub fn put_wrong(text: &mut Text, alloc: Global, line: &[u8], wrong: Option<(usi
     let Some((column, due)) = wrong else {
         return text.put(NARROW);
     };
+    let (none, shown) = (Text::new(alloc), InlineText::<160>::of(due));
     let Some(rest) = line.get(column.saturating_sub(1)..) else {
-        return put_at(text, AT_END, column, due);
+        return put_at(text, AT_END, column, &none, shown.as_str());
     };
     let word = cut_token(rest).map_or(rest, |(word, _)| word);
     match str::from_utf8(word) {
-        Ok("") => put_at(text, AT_BLANK, column, due),
+        Ok("") => put_at(text, AT_BLANK, column, &none, shown.as_str()),
         Ok(word) => put_word(text, alloc, column, word, due),
-        Err(_) => put_at(text, FOREIGN, column, due),
+        Err(_) => put_at(text, FOREIGN, column, &none, shown.as_str()),
     }
 }

@@ -9,22 +9,18 @@ use lk_checks::check::CheckJob;
 use lk_checks::explain::ExplainJob;
 use lk_jobs::order::OrderJob;
 use lk_text::formats::Format;
-use lk_text::{STANDARD, Text, Value};
+use lk_text::{STANDARD, escaped};
 use std::alloc::{AllocError, Global};
 use thiserror::Error;
 
 /// A job of the program. A file `-` is standard input.
 #[derive(Drop)]
 pub enum Job {
-    Check {
-        job: CheckJob,
-        /// Whether the text has colors. If nothing is said of it, a terminal's has.
-        colored: Option<bool>,
-        page: Option<PageJob>,
-    },
-    Schedule {
-        file: String,
-    },
+    /// A check, whether its text has colors, and the page that is to be written. If nothing is said
+    /// of colors, a terminal's text has some.
+    Check(CheckJob, Option<bool>, Option<PageJob>),
+    /// The schedule of the trace in this file.
+    Schedule(String),
     Explain(ExplainJob),
     Order(OrderJob),
     Search(SearchJob),
@@ -36,58 +32,37 @@ pub enum ParseFault {
     /// Help or the version was asked for. This is the text.
     #[error("{0}")]
     Told(String),
-    /// The words ask for nothing that the program does.
+    /// The words ask for nothing that the program does. This is the whole text about it.
     #[error("{0}")]
     Usage(String),
+    /// The same, of which this is what is wrong.
+    #[error("error: {0}\n")]
+    Misused(&'static str),
     #[error("out of memory")]
     Memory(#[from(alloc)] AllocError),
 }
 
 /// Copies of texts.
 pub fn copied(alloc: Global, texts: &[&str]) -> Result<Vec<String>, AllocError> {
-    let mut copies = Vec::new(alloc);
-    for text in texts {
-        copies.push(String::from_str(alloc, *text)?)?;
-    }
-    Ok(copies)
+    let copies = texts.iter().map(|text| String::from_str(alloc, *text));
+    copies.try_collect(alloc)
 }
 
 /// The names in a text, with commas between them.
 pub fn names_in(alloc: Global, text: &str) -> Result<Vec<String>, AllocError> {
-    let mut names = Vec::new(alloc);
-    for name in text.split(',') {
-        names.push(String::from_str(alloc, name)?)?;
-    }
-    Ok(names)
+    let names = text.split(',').map(|name| String::from_str(alloc, name));
+    names.try_collect(alloc)
 }
 
-/// Says what is wrong with the words.
-pub fn usage<T>(alloc: Global, text: &str) -> Result<T, ParseFault> {
-    Err(ParseFault::Usage(String::from_str(alloc, text)?))
+/// Says what is wrong with this word.
+pub fn said_of<T>(alloc: Global, front: &str, word: &str, end: &str) -> Result<T, ParseFault> {
+    let word = escaped(alloc, word)?;
+    Err(ParseFault::Usage(format!(in alloc; "{front}{word}{end}")?))
 }
 
 // The file that was named, or else standard input.
 fn file_given(alloc: Global, matches: &ArgMatches<'_>) -> Result<String, AllocError> {
     String::from_str(alloc, matches.get_str("file").unwrap_or(STANDARD))
-}
-
-// Says that the word of an option is none of its choices.
-fn no_choice<T>(
-    alloc: Global,
-    option: &str,
-    word: &str,
-    choices: &[(&'static str, T)],
-) -> Result<ParseFault, AllocError> {
-    let mut text = Text::new(alloc);
-    text.fill("error: --{option} '", &[("option", Value::Text(option))]);
-    text.put_escaped(word, "");
-    text.put("' is none of ");
-    for (place, (name, _)) in choices.iter().enumerate() {
-        text.put(if place > 0 { ", " } else { "" });
-        text.put(name);
-    }
-    text.put("\n");
-    Ok(ParseFault::Usage(String::from_str(alloc, text.as_str()?)?))
 }
 
 /// Which of these an option asks for, by its name, if it is given.
@@ -101,12 +76,17 @@ pub fn choice<T: Copy>(
     let Some(word) = matches.get_str(option) else {
         return Ok(default);
     };
-    for (name, value) in choices {
-        if *name == word {
-            return Ok(*value);
-        }
+    if let Some((_, value)) = choices.iter().find(|(name, _)| *name == word) {
+        return Ok(*value);
     }
-    Err(no_choice(alloc, option, word, choices)?)
+    let mut names = String::new(alloc);
+    for (place, (name, _)) in choices.iter().enumerate() {
+        names.push_str(if place > 0 { ", " } else { "" })?;
+        names.push_str(*name)?;
+    }
+    let front = format!(in alloc; "error: --{option} '")?;
+    let end = format!(in alloc; "' is none of {names}\n")?;
+    said_of(alloc, front.as_str(), word, end.as_str())
 }
 
 // The form of reports that was asked for.
@@ -124,15 +104,12 @@ fn page_given(alloc: Global, matches: &ArgMatches<'_>) -> Result<Option<PageJob>
     let from = matches.get_str("from");
     let Some(file) = matches.get_str("page") else {
         if from.is_some() {
-            return usage(alloc, "error: --from goes with --page\n");
+            return Err(ParseFault::Misused("--from goes with --page"));
         }
         return Ok(None);
     };
     if file.is_empty() {
-        return usage(
-            alloc,
-            "error: --page takes the name of a file, and the name is empty\n",
-        );
+        return Err(ParseFault::Misused("--page takes the name of a file, and the name is empty"));
     }
     let from = match from {
         Some(from) => Some(String::from_str(alloc, from)?),
@@ -158,7 +135,7 @@ fn check_given(alloc: Global, matches: &ArgMatches<'_>) -> Result<Job, ParseFaul
         files: copied(alloc, matches.get_strs("files").unwrap_or(&[STANDARD]))?,
     };
     let page = page_given(alloc, matches)?;
-    Ok(Job::Check { job, colored, page })
+    Ok(Job::Check(job, colored, page))
 }
 
 /// The folder that is written to. With an empty name, as of a variable that is not set, that would
@@ -166,10 +143,7 @@ fn check_given(alloc: Global, matches: &ArgMatches<'_>) -> Result<Job, ParseFaul
 pub fn folder_given(alloc: Global, matches: &ArgMatches<'_>) -> Result<String, ParseFault> {
     let folder = matches.get_str("folder").unwrap_or("");
     if folder.is_empty() {
-        return usage(
-            alloc,
-            "error: -o takes the name of a folder, and the name is empty\n",
-        );
+        return Err(ParseFault::Misused("-o takes the name of a folder, and the name is empty"));
     }
     Ok(String::from_str(alloc, folder)?)
 }
@@ -197,10 +171,7 @@ fn lines_of(text: &str) -> Option<(u64, u64)> {
 
 fn explain_given(alloc: Global, matches: &ArgMatches<'_>) -> Result<Job, ParseFault> {
     let Some(lines) = lines_of(matches.get_str("moves").unwrap_or("1..")) else {
-        return usage(
-            alloc,
-            "error: --moves takes lines from 1 on, as 5..10, 5.. or 5\n",
-        );
+        return Err(ParseFault::Misused("--moves takes lines from 1 on, as 5..10, 5.. or 5"));
     };
     let names = match matches.get_str("names") {
         Some(names) => names_in(alloc, names)?,
@@ -234,9 +205,7 @@ pub fn parse_words(alloc: Global, words: &[String]) -> Result<Job, ParseFault> {
 
 // The job of the command among the words. There is one, since the parser asks for it.
 fn job_of(alloc: Global, matches: &ArgMatches<'_>) -> Result<Job, ParseFault> {
-    let Some((name, given)) = matches.subcommand() else {
-        return usage(alloc, "error: a command is missing\n");
-    };
+    let (name, given) = matches.subcommand().unwrap_or(("", matches));
     match name.as_bytes() {
         b"check" => check_given(alloc, given),
         b"explain" => explain_given(alloc, given),
@@ -246,8 +215,6 @@ fn job_of(alloc: Global, matches: &ArgMatches<'_>) -> Result<Job, ParseFault> {
         b"space" => Ok(Job::Search(searches::space_given(alloc, given)?)),
         b"why" => Ok(Job::Search(searches::why_given(alloc, given)?)),
         b"cover" => Ok(Job::Search(searches::cover_given(alloc, given)?)),
-        _ => Ok(Job::Schedule {
-            file: file_given(alloc, given)?,
-        }),
+        _ => Ok(Job::Schedule(file_given(alloc, given)?)),
     }
 }

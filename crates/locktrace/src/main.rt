@@ -18,16 +18,17 @@ use lk_checks::cover::cover_traces;
 use lk_checks::explain::explain_trace;
 use lk_checks::schedule::write_schedule;
 use lk_jobs::find::find_run;
-use lk_jobs::order::order_logs;
+use lk_jobs::order::{ending_of, order_logs};
+use lk_jobs::sketch::lock_named;
 use lk_jobs::space::count_space;
 use lk_jobs::tour::write_tour;
 use lk_jobs::why::explain_changes;
 use lk_lines::Status;
 use lk_text::report::worst;
-use lk_text::{Failure, Text};
-use page::{Page, PageJob};
+use lk_text::{Failure, Outputs, Text};
+use page::Page;
 use patient::Patient;
-use searches::SearchJob;
+use searches::{Aim, SearchJob};
 use std::alloc::{AllocError, Global};
 use std::env;
 use std::io::{ErrorKind, IsTerminal, Write};
@@ -53,44 +54,22 @@ fn job_given(rt: &HostRuntime) -> Result<Job, ParseFault> {
 }
 
 // Searches a lock's space, and gives the status that the program ends with.
-fn found_in<R: Runtime>(
-    rt: &R,
-    alloc: Global,
-    job: &SearchJob,
-    text: &mut Text,
-    errors: &mut Text,
-) -> Result<u8, Failure> {
-    let status = match job {
-        SearchJob::Find { place, asked } => find_run(rt, alloc, place, *asked, text, errors),
-        SearchJob::Space {
-            header,
-            asked,
-            format,
-        } => count_space(alloc, header, *asked, *format, text, errors),
-        SearchJob::Why { header, asked } => explain_changes(alloc, header, *asked, text, errors),
-        SearchJob::Cover(job) => return Ok(cover_traces(rt, alloc, job, text, errors)?),
-        SearchJob::Tour {
-            header,
-            asked,
-            folder,
-        } => return Ok(write_tour(rt, alloc, header, *asked, folder, text, errors)? as u8),
+fn found_in<R: Runtime>(rt: &R, job: &SearchJob, said: &mut Outputs) -> Result<u8, Failure> {
+    let (header, asked, aim) = match job {
+        SearchJob::Find { place, asked } => return Ok(find_run(rt, place, *asked, said)? as u8),
+        SearchJob::Cover(job) => return Ok(cover_traces(rt, job, said)?),
+        SearchJob::Lock { header, asked, aim } => (header, *asked, aim),
     };
-    Ok(status? as u8)
-}
-
-// Writes what a search found.
-fn search<R: Runtime, O: Write>(
-    rt: &R,
-    alloc: Global,
-    job: &SearchJob,
-    output: &mut O,
-    errors: &mut Text,
-) -> Result<u8, Failure> {
-    let mut text = Text::new(alloc);
-    let status = found_in(rt, alloc, job, &mut text, errors)?;
-    text.write_to(output)?;
-    output.flush()?;
-    Ok(status)
+    let header = match lock_named(header, said)? {
+        Ok(header) => header,
+        Err(status) => return Ok(status as u8),
+    };
+    let status = match aim {
+        Aim::Space(format) => count_space(header, asked, *format, said)?,
+        Aim::Why(runs) => explain_changes(header, asked, *runs, said)?,
+        Aim::Tour(folder) => write_tour(rt, header, asked, folder, said)?,
+    };
+    Ok(status as u8)
 }
 
 // Checks traces, with colors if the job asks for them or is on a terminal.
@@ -117,55 +96,40 @@ where
     Ok(worst(&check_files(rt, alloc, &job, told, output)?))
 }
 
-// Checks a trace, and writes the page with it unless it cannot be read.
-fn check_for_page<R: Runtime + Threads + Sync + Clone + Drop, O: Write + IsTerminal>(
-    rt: &R,
-    alloc: Global,
-    (job, colored): (&CheckJob, Option<bool>),
-    asked: &PageJob,
-    told: bool,
-    output: &mut O,
-    errors: &mut Text,
-) -> Result<u8, Failure>
-where
-    R::File: Send,
-{
-    let Some(page) = Page::new(rt, alloc, asked, &job.files, errors)? else {
-        return Ok(Status::Misused as u8);
-    };
-    let status = check(rt, alloc, job, colored, told, output)?;
-    if status <= Status::Refused as u8 {
-        page.write(rt, alloc)?;
-    }
-    Ok(status)
-}
-
 // Does a job, and gives the status that the program ends with. `told` if standard error is a
-// terminal.
+// terminal. A page is written with its trace, unless that cannot be read.
 fn perform<R: Runtime + Threads + Sync + Clone + Drop, O: Write + IsTerminal>(
     rt: &R,
-    alloc: Global,
     job: &Job,
     told: bool,
     output: &mut O,
-    errors: &mut Text,
+    said: &mut Outputs,
 ) -> Result<u8, Failure>
 where
     R::File: Send,
 {
+    let (alloc, errors) = (said.alloc, &mut said.errors);
     let ending = match job {
-        Job::Check { job, colored, page } => {
-            return match page {
-                None => check(rt, alloc, job, *colored, told, output),
-                Some(page) => {
-                    check_for_page(rt, alloc, (job, *colored), page, told, output, errors)
-                }
+        Job::Check(job, colored, None) => return check(rt, alloc, job, *colored, told, output),
+        Job::Check(job, colored, Some(asked)) => {
+            let Some(page) = Page::new(rt, alloc, asked, &job.files, errors)? else {
+                return Ok(Status::Misused as u8);
             };
+            let status = check(rt, alloc, job, *colored, told, output)?;
+            if status <= Status::Refused as u8 {
+                page.write(rt, alloc)?;
+            }
+            return Ok(status);
         }
-        Job::Search(job) => return search(rt, alloc, job, output, errors),
-        Job::Schedule { file } => write_schedule(rt, alloc, file, output, errors)?,
+        Job::Search(job) => {
+            let status = found_in(rt, job, said)?;
+            said.text.write_to(output)?;
+            output.flush()?;
+            return Ok(status);
+        }
+        Job::Schedule(file) => write_schedule(rt, alloc, file, output, errors)?,
         Job::Explain(job) => explain_trace(rt, alloc, job, output, errors)?,
-        Job::Order(job) => order_logs(rt, alloc, job, told, output, errors)?.ending(),
+        Job::Order(job) => ending_of(&order_logs(rt, alloc, job, told, output, errors)?),
     };
     Ok(ending.status())
 }
@@ -177,24 +141,23 @@ fn tell(rt: &HostRuntime, errors: &Text) -> Result<(), Failure> {
 }
 
 fn main(rt: HostRuntime) -> ExitCode {
-    let mut errors = Text::new(rt.alloc());
+    let mut said = Outputs::new(rt.alloc());
     let ended = match job_given(&rt) {
         Ok(job) => {
             let told = rt.stderr().is_terminal();
-            let mut output = Patient::new(rt.stdout());
-            perform(&rt, rt.alloc(), &job, told, &mut output, &mut errors)
+            perform(&rt, &job, told, &mut Patient::new(rt.stdout()), &mut said)
         }
         Err(ParseFault::Told(text)) => match Patient::new(rt.stdout()).write_all(text.as_bytes()) {
             Ok(()) => Ok(Status::Accepted as u8),
             Err(error) => Err(Failure::Output(error)),
         },
-        Err(ParseFault::Usage(text)) => {
-            let _ = rt.stderr().write_all(text.as_bytes());
+        Err(ParseFault::Memory(error)) => Err(Failure::Memory(error)),
+        Err(fault) => {
+            let _ = eprint!(rt; "{fault}");
             Ok(Status::Misused as u8)
         }
-        Err(ParseFault::Memory(error)) => Err(Failure::Memory(error)),
     };
-    let status = match tell(&rt, &errors).and(ended) {
+    let status = match tell(&rt, &said.errors).and(ended) {
         Ok(status) => status,
         Err(failure) => {
             let _ = eprintln!(rt; "locktrace: {failure}");

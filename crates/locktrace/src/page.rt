@@ -114,16 +114,13 @@ fn has_trace<R: Files>(rt: &R, alloc: Global, file: &str) -> Result<bool, AllocE
 // Fails if something is in the place of a page, but for a page of an earlier check.
 fn leave_other<R: Files>(rt: &R, alloc: Global, file: &str) -> Result<(), Failure> {
     let found = match fs::symlink_metadata(rt, file) {
-        Ok(found) => found,
         Err(error) if error.kind() == ErrorKind::NotFound => return Ok(()),
-        Err(error) => return Err(Failure::of_file(alloc, "read", file, &error)),
+        found => Failure::unless(alloc, "read", file, found)?,
     };
     if found.is_file() && has_trace(rt, alloc, file)? {
         return Ok(());
     }
-    let file = escaped(alloc, file)?;
-    let text = format!(in alloc; "{file} is not of an earlier check")?;
-    Err(Failure::InPlace(text))
+    Failure::in_place(alloc, file, "check")
 }
 
 /// A page, and the trace that it takes.
@@ -171,10 +168,7 @@ impl<'a> Page<'a> {
 
     // The page with the bytes of its trace.
     fn filled<R: Files>(&self, rt: &R, alloc: Global) -> Result<String, Failure> {
-        let bytes = match self.bytes(rt, alloc) {
-            Ok(bytes) => bytes,
-            Err(error) => return Err(Failure::of_file(alloc, "read", self.trace, &error)),
-        };
+        let bytes = Failure::unless(alloc, "read", self.trace, self.bytes(rt, alloc))?;
         let coded = BASE64.encode(alloc, &bytes)?;
         let (before, after) = self
             .text
@@ -199,10 +193,7 @@ impl<'a> Page<'a> {
                 Err(error)
             }
         };
-        match written {
-            Ok(()) => Ok(()),
-            Err(error) => Err(Failure::of_file(alloc, "write", file, &error)),
-        }
+        Failure::unless(alloc, "write", file, written)
     }
 }
 

@@ -1,12 +1,11 @@
 //! The words of the commands that search a lock's space, and the jobs that they ask for.
 
-use crate::command_line::{ParseFault, choice, copied, folder_given, names_in, usage};
+use crate::command_line::{ParseFault, choice, copied, folder_given, names_in, said_of};
 use clap::ArgMatches;
 use lk_checks::cover::{CoverFormat, CoverJob, is_kind};
 use lk_jobs::sketch::{Place, rounds_of};
 use lk_jobs::space::{Asked, Rounds, SpaceFormat};
-use lk_jobs::why::WhyAsked;
-use lk_text::{STANDARD, escaped};
+use lk_text::STANDARD;
 use std::alloc::{AllocError, Global};
 
 /// How many states are searched if nothing else is asked for.
@@ -19,21 +18,23 @@ pub enum SearchJob {
         place: Place,
         asked: Asked,
     },
-    Space {
-        header: Vec<String>,
-        asked: Asked,
-        format: SpaceFormat,
-    },
-    Tour {
-        header: Vec<String>,
-        asked: Asked,
-        folder: String,
-    },
     Cover(CoverJob),
-    Why {
+    /// A search of all runs of the lock that a header names.
+    Lock {
         header: Vec<String>,
-        asked: WhyAsked,
+        asked: Asked,
+        aim: Aim,
     },
+}
+
+/// What a lock is searched for.
+#[derive(Drop)]
+pub enum Aim {
+    Space(SpaceFormat),
+    /// Schedules, in this folder.
+    Tour(String),
+    /// What each step is for; whether each run is written too.
+    Why(bool),
 }
 
 // The rounds that are named, if there are such.
@@ -41,16 +42,16 @@ fn rounds_given(alloc: Global, matches: &ArgMatches<'_>) -> Result<Option<Rounds
     let Some(text) = matches.get_str("rounds") else {
         return Ok(None);
     };
-    match rounds_of(text.as_bytes()) {
-        Some(rounds) => Ok(Some(rounds)),
-        None => {
-            let text = escaped(alloc, text)?;
-            let fault = format!(in alloc;
-                "error: --rounds '{text}' is no number from 1 to 255, and not any\n"
-            )?;
-            Err(ParseFault::Usage(fault))
-        }
+    let rounds = rounds_of(text.as_bytes());
+    if rounds.is_none() {
+        return said_of(
+            alloc,
+            "error: --rounds '",
+            text,
+            "' is no number from 1 to 255, and not any\n",
+        );
     }
+    Ok(rounds)
 }
 
 fn asked_of(alloc: Global, matches: &ArgMatches<'_>) -> Result<Asked, ParseFault> {
@@ -74,38 +75,36 @@ fn header_of(
     }
 }
 
+const BITS: &str = "--bits goes with a lock and its threads; a file has its own";
+
+const SKETCH: &str = "give a lock, its threads and the lines of a sketch, or the file of one";
+
 /// The job of the command `find`.
 pub fn find_given(alloc: Global, matches: &ArgMatches<'_>) -> Result<SearchJob, ParseFault> {
     let words = matches.get_strs("words").unwrap_or(&[]);
     let place = match words {
-        [_] if matches.get_str("bits").is_some() => {
-            return usage(
-                alloc,
-                "error: --bits goes with a lock and its threads; a file has its own\n",
-            );
-        }
+        [_] if matches.get_str("bits").is_some() => return Err(ParseFault::Misused(BITS)),
         [file] => Place::File(String::from_str(alloc, *file)?),
         [lock, threads, parts @ ..] if !parts.is_empty() => {
             let mut lines = vec![in alloc; header_of(alloc, matches, *lock, *threads)?]?;
             lines.extend(copied(alloc, parts)?)?;
             Place::Words(lines)
         }
-        _ => {
-            return usage(
-                alloc,
-                "error: give a lock, its threads and the lines of a sketch, or the file of one\n",
-            );
-        }
+        _ => return Err(ParseFault::Misused(SKETCH)),
     };
     let asked = asked_of(alloc, matches)?;
     Ok(SearchJob::Find { place, asked })
 }
 
-// A sketch of no lines, of the lock that is named.
-fn lock_given(alloc: Global, matches: &ArgMatches<'_>) -> Result<Vec<String>, AllocError> {
+// The search of the lock that is named; with two threads, if nothing is said of them.
+fn of_lock(alloc: Global, matches: &ArgMatches<'_>, aim: Aim) -> Result<SearchJob, ParseFault> {
     let lock = matches.get_str("lock").unwrap_or("");
-    let threads = matches.get_str("threads").unwrap_or("");
-    Ok(vec![in alloc; header_of(alloc, matches, lock, threads)?]?)
+    let threads = matches.get_str("threads").unwrap_or("2");
+    Ok(SearchJob::Lock {
+        header: vec![in alloc; header_of(alloc, matches, lock, threads)?]?,
+        asked: asked_of(alloc, matches)?,
+        aim,
+    })
 }
 
 /// The job of the command `space`.
@@ -116,49 +115,33 @@ pub fn space_given(alloc: Global, matches: &ArgMatches<'_>) -> Result<SearchJob,
         ("dot", SpaceFormat::Dot),
     ];
     let format = choice(alloc, matches, "format", &forms, SpaceFormat::Text)?;
-    Ok(SearchJob::Space {
-        header: lock_given(alloc, matches)?,
-        asked: asked_of(alloc, matches)?,
-        format,
-    })
+    of_lock(alloc, matches, Aim::Space(format))
 }
 
 /// The job of the command `tour`.
 pub fn tour_given(alloc: Global, matches: &ArgMatches<'_>) -> Result<SearchJob, ParseFault> {
     let folder = folder_given(alloc, matches)?;
-    if folder.as_str() == "-" {
-        return usage(
-            alloc,
-            "error: a tour is several files, so -o takes a folder\n",
-        );
+    if folder.as_str() == STANDARD {
+        return Err(ParseFault::Misused("a tour is several files, so -o takes a folder"));
     }
-    Ok(SearchJob::Tour {
-        header: lock_given(alloc, matches)?,
-        asked: asked_of(alloc, matches)?,
-        folder,
-    })
+    of_lock(alloc, matches, Aim::Tour(folder))
 }
 
 /// The job of the command `why`.
 pub fn why_given(alloc: Global, matches: &ArgMatches<'_>) -> Result<SearchJob, ParseFault> {
-    let lock = matches.get_str("lock").unwrap_or("");
-    let threads = matches.get_str("threads").unwrap_or("2");
-    Ok(SearchJob::Why {
-        header: vec![in alloc; header_of(alloc, matches, lock, threads)?]?,
-        asked: WhyAsked {
-            bounds: asked_of(alloc, matches)?,
-            runs: matches.get_flag("runs"),
-        },
-    })
+    of_lock(alloc, matches, Aim::Why(matches.get_flag("runs")))
 }
 
 // The kinds of transition that are required, by their names.
 fn kinds_given(alloc: Global, names: &str) -> Result<Vec<String>, ParseFault> {
     for name in names.split(',') {
         if !is_kind(name) {
-            let name = escaped(alloc, name)?;
-            let text = format!(in alloc; "error: --require '{name}' is no kind of transition\n")?;
-            return Err(ParseFault::Usage(text));
+            return said_of(
+                alloc,
+                "error: --require '",
+                name,
+                "' is no kind of transition\n",
+            );
         }
     }
     Ok(names_in(alloc, names)?)

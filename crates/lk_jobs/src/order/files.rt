@@ -5,7 +5,7 @@ use crate::folder::{ENDING, Folder, RUN, TRACE};
 use crate::run::put_header;
 use lk_order::{Order, Piece, Pieces};
 use lk_text::course::{Course, Fate};
-use lk_text::phrases::{put_line, put_move};
+use lk_text::phrases::{called, put_line, put_move};
 use lk_text::{Failure, Text, Value};
 use std::alloc::{AllocError, Global};
 use std::io::Write;
@@ -16,11 +16,8 @@ fn put_ends(text: &mut Text, threads: u8, course: &Course) {
     for thread in 0..threads {
         let is_over = course.fate(thread) == Fate::Ended;
         let end = if is_over { "ended" } else { "not ended" };
-        let places = [
-            ("thread", Value::Number(u64::from(thread))),
-            ("end", Value::Text(end)),
-        ];
-        text.fill("# thread {thread} has {end}\n", &places);
+        let places = [("who", called(thread, &[])), ("end", Value::Text(end))];
+        text.fill("# {who} has {end}\n", &places);
     }
 }
 
@@ -76,10 +73,8 @@ fn names_of(alloc: Global, order: &Order) -> Result<(Vec<String>, usize), AllocE
 
 // Writes the schedules of an order under these names.
 fn write_schedules<R: Files>(
-    rt: &R,
-    alloc: Global,
     order: &Order,
-    folder: Folder<'_>,
+    folder: &Folder<'_, R>,
     names: &[String],
 ) -> Result<(), Failure> {
     let mut pieces = Pieces::new(order);
@@ -87,8 +82,8 @@ fn write_schedules<R: Files>(
         let Some(piece) = pieces.next_piece() else {
             break;
         };
-        let text = schedule_of(alloc, order, piece);
-        folder.write(rt, alloc, name, text.as_str()?)?;
+        let text = schedule_of(folder.alloc, order, piece);
+        folder.write(name, text.as_str()?)?;
     }
     Ok(())
 }
@@ -96,22 +91,16 @@ fn write_schedules<R: Files>(
 /// Writes the trace and the schedules of an order into a folder, in place of an earlier order, and
 /// gives how many moves are in no schedule.
 pub fn write_files<R: Files>(
-    rt: &R,
-    alloc: Global,
     order: &Order,
     hung: Option<&Course>,
-    path: &str,
+    folder: &Folder<'_, R>,
 ) -> Result<usize, Failure> {
-    let folder = Folder {
-        path,
-        command: "order",
-    };
-    let (names, left_out) = names_of(alloc, order)?;
-    folder.clear(rt, alloc, &names)?;
-    let mut file = folder.create(rt, alloc, TRACE)?;
-    let written = write_trace(alloc, order, hung, &mut file);
-    folder.finish(rt, alloc, TRACE, written)?;
-    write_schedules(rt, alloc, order, folder, names.get(1..).unwrap_or(&[]))?;
-    folder.write_list(rt, alloc, &names)?;
+    let (names, left_out) = names_of(folder.alloc, order)?;
+    folder.clear(&names)?;
+    let mut file = folder.create(TRACE)?;
+    let written = write_trace(folder.alloc, order, hung, &mut file);
+    folder.finish(TRACE, written)?;
+    write_schedules(order, folder, names.get(1..).unwrap_or(&[]))?;
+    folder.write_list(&names)?;
     Ok(left_out)
 }

@@ -78,13 +78,32 @@ fn read_input<I: Read + Drop>(
     Ok((u64::MAX, Err(Error::from(ErrorKind::FileTooLarge))))
 }
 
-const SECOND: &str = "a second log of thread {thread}, beside {other}";
-
 // Says this text of a line.
 fn put_shown(messages: &mut Notes, name: &str, number: u64, said: InlineText<256>) {
     let mut text = messages.text();
     text.put(said.as_str());
     messages.put_in(name, number, text);
+}
+
+const SECOND: &str = "a second log of thread {thread}, beside {other}";
+
+// Says why a log is none of the run, or that one is missing. The thread's first log is the other.
+fn put_bad(messages: &mut Notes, name: &str, bad: BadLog, other: &str) {
+    let (sentence, thread) = match bad {
+        BadLog::OtherRun(thread) => ("of another run than the first log's", thread),
+        BadLog::SecondLog(thread) => (SECOND, thread),
+        BadLog::Missing(thread) => ("no log of thread {thread}", thread),
+        BadLog::OtherLock | BadLog::Unread | BadLog::Fault(_) => {
+            return put_shown(messages, name, 0, InlineText::of(Unfit::OtherLock));
+        }
+    };
+    let mut shown = messages.text();
+    shown.put_escaped(other, "");
+    let places = [
+        ("thread", Value::Number(u64::from(thread))),
+        ("other", Value::Part(&shown)),
+    ];
+    messages.say_in(name, 0, sentence, &places);
 }
 
 // Reads the log in the file of this name. What is wrong with it is said, and is the answer.
@@ -157,20 +176,12 @@ impl<'a> Taken<'a> {
             Ok(read) => read,
             Err(bad) => return Ok(Some(bad)),
         };
+        let thread = read.0.thread();
         let Err(bad) = self.put(read, name) else {
             return Ok(None);
         };
-        if let BadLog::SecondLog(thread) = bad {
-            let mut other = messages.text();
-            other.put_escaped(self.names.get(thread as usize).copied().unwrap_or(""), "");
-            let places = [
-                ("thread", Value::Number(u64::from(thread))),
-                ("other", Value::Part(&other)),
-            ];
-            messages.say_in(name, 0, SECOND, &places);
-        } else {
-            put_shown(messages, name, 0, InlineText::of(bad));
-        }
+        let other = self.names.get(thread as usize).copied();
+        put_bad(messages, name, bad, other.unwrap_or(""));
         Ok(Some(bad))
     }
 }
@@ -208,7 +219,7 @@ pub fn take_logs<'a, R: Files>(
     }
     if let Some(thread) = taken.shelf.missing() {
         let bad = BadLog::Missing(thread);
-        put_shown(messages, "", 0, InlineText::of(bad));
+        put_bad(messages, "", bad, "");
         return Ok(Err(bad));
     }
     Ok(Ok(taken))

@@ -8,10 +8,11 @@ use lk_text::course::Course;
 use lk_text::differences::{details_of, put_refused};
 use lk_text::formats::{
     BARE, Format, NOTE, PLAIN, WARNING, put_comments, put_details, put_note_fields, put_notes,
+    put_plan, put_point,
 };
-use lk_text::phrases::{called, put_line, put_standing};
+use lk_text::phrases::{put_line, put_standing};
 use lk_text::report::{Code, Details, Ending, Notes};
-use lk_text::{Text, Value, json, put_plan, put_point};
+use lk_text::{Text, Value, json};
 use lk_trace::{Difference, Seen, TraceLine};
 use std::alloc::Global;
 
@@ -146,8 +147,8 @@ fn put_missing(report: &mut OrderReport, log: &Log, name: &str) {
 // The line of its file in which a thread's next step is.
 fn next_number(order: &Order, thread: u8) -> u64 {
     let log = order.logs().get(thread as usize);
-    log.and_then(|log| log.line_of(order.placed(thread)))
-        .map_or(0, |number| u64::from(number))
+    let number = log.and_then(|log| log.line_of(order.placed(thread)));
+    u64::from(number.unwrap_or(0))
 }
 
 // Says which step cannot be placed, and why, in the line of this number of a file.
@@ -175,10 +176,9 @@ fn put_step(
 // Says what a thread would do next, and why that is not placed.
 fn put_next(notes: &mut Notes, order: &Order, file: &str, line: TraceLine) {
     let mut said = notes.text();
-    said.fill(
-        "{who}'s next step is '",
-        &[("who", called(line.thread, &[]))],
-    );
+    said.put("thread ");
+    said.put_number(u64::from(line.thread));
+    said.put("'s next step is '");
     put_line(&mut said, &line);
     said.put("': ");
     put_why(&mut said, order, line);
@@ -196,9 +196,7 @@ pub fn put_stuck(report: &mut OrderReport, order: &Order, names: &[&str], stuck:
     for thread in 0..order.header().threads() {
         let file = names.get(thread as usize).copied().unwrap_or("");
         match order.next(thread) {
-            Some(line) if thread != stuck.thread => {
-                put_next(&mut report.notes, order, file, line);
-            }
+            Some(line) if thread != stuck.thread => put_next(&mut report.notes, order, file, line),
             _ => {}
         }
         if let Some(log) = order.logs().get(thread as usize) {
@@ -228,13 +226,13 @@ pub fn put_cut(report: &mut OrderReport, order: &Order, names: &[&str], open: &[
         }
     }
     let placed = Value::Number(order.len() as u64);
-    report.notes.say(0, CUT_TO, &[("placed", placed)]);
+    report.notes.say_in("", 0, CUT_TO, &[("placed", placed)]);
 }
 
 /// Says that a run hangs, who waits for what, and who holds.
 pub fn put_hang(report: &mut OrderReport, order: &Order, names: &[&str], course: &Course) {
     report.details = Some(Details::new(Code::Hangs));
-    report.messages.say(0, HANGS, &[]);
+    report.messages.say_in("", 0, HANGS, &[]);
     put_waits(&mut report.notes, order.checker().lock(), course, names);
     put_placed(&mut report.notes, "", 0, order);
 }

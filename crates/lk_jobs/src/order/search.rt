@@ -10,32 +10,27 @@ ghost use Rattle.lk_order.specs.Runs.{IsOneRun};
 ghost use Rattle.lk_jobs.specs.Orders.{IsHung, IsSearch, ending_of_bad, ending_of_search};
 ghost use Rattle.lk_jobs.specs.Orders.{ending_of_sought};
 
-use lk_order::{Found, Log, LogFault, Order, Unfit, find_order};
+use lk_order::{Found, Log, LogFault, Order, find_order};
 use lk_text::blame::may_go_on as thread_may_go_on;
 use lk_text::course::{Course, Fate};
 use lk_text::report::{Code, Details, Ending};
 use lk_trace::{Checker, Event};
 use std::alloc::{AllocError, Global};
 use std::fmt::InlineText;
-use thiserror::Error;
 
 /// A fault of a log, or of the logs together.
-#[derive(Clone, Copy, PartialEq, Eq, Debug, Error)]
+#[derive(Clone, Copy, PartialEq, Eq, Debug)]
 pub enum BadLog {
-    /// It could not be opened or read. The input's own error is what is said of it.
-    #[error("it cannot be read")]
+    /// It could not be opened or read.
     Unread,
-    #[error("{0}")]
     Fault(LogFault),
     /// It is of another lock than the first one.
-    #[error("{}", Unfit::OtherLock)]
     OtherLock,
     /// This thread's log is of another run than the first one.
-    #[error("of another run than the first log's")]
     OtherRun(u8),
-    #[error("a second log of thread {0}")]
+    /// It is a second log of this thread.
     SecondLog(u8),
-    #[error("no log of thread {0}")]
+    /// There is no log of this thread.
     Missing(u8),
 }
 
@@ -50,15 +45,15 @@ impl BadLog {
         }
     }
 
-    /// Its name for programs: of a fault the one that its sentence has in brackets.
+    /// Its name for programs: of a fault the one that its sentence has in brackets. Memory that was
+    /// refused is no fault of a log.
     pub fn code(self) -> &'static str {
         match self {
             BadLog::Unread => "Unread",
             BadLog::Fault(LogFault::NoHeader) => "NoHeader",
             BadLog::Fault(LogFault::BadHeader) => "BadHeader",
             BadLog::Fault(LogFault::BadMove | LogFault::AfterTheEnd) => "BadLine",
-            BadLog::Fault(LogFault::TooLong) => "TooLong",
-            BadLog::Fault(LogFault::OutOfMemory) => "OutOfMemory",
+            BadLog::Fault(LogFault::TooLong | LogFault::OutOfMemory) => "TooLong",
             BadLog::OtherLock => "OtherLock",
             BadLog::OtherRun(_) => "OtherRun",
             BadLog::SecondLog(_) => "SecondLog",
@@ -100,24 +95,16 @@ impl Search {
     }
 }
 
-/// The answer about the logs of a run.
-#[derive(Drop)]
-pub enum Sought {
-    /// No order was looked for.
-    Bad(BadLog),
-    /// An order was looked for.
-    Order(Search),
-}
+/// The answer about the logs of a run: an order was looked for, or something is wrong with them.
+pub type Sought = Result<Search, BadLog>;
 
-impl Sought {
-    /// The end of the job.
-    pub fn ending(&self) -> Ending
-        ensures { result ≡ ending_of_sought self.now }
-    {
-        match self {
-            Sought::Bad(bad) => bad.ending(),
-            Sought::Order(search) => search.ending(),
-        }
+/// The end of a job with this answer.
+pub fn ending_of(sought: &Sought) -> Ending
+    ensures { result ≡ ending_of_sought sought.now }
+{
+    match sought {
+        Ok(search) => search.ending(),
+        Err(bad) => bad.ending(),
     }
 }
 
@@ -177,10 +164,6 @@ fn may_go_on(order: &Order, course: &Course) -> bool {
 
 /// Looks for the order of a run's logs. `unended` has the threads whose logs say that they have not
 /// ended. None is answered if the logs are not those of one run.
-///
-/// # Errors
-///
-/// A request for memory was refused.
 pub fn search_logs(
     alloc: Global,
     logs: Vec<Log>,

@@ -2,4 +2,4 @@
 use Rattle.lk_text.proofs.summary.Summary.put.Goals as goal
 
 pub returns : goal.returns
-returns c = rw (← c.threads.ensures) c.fill.ensures
+returns c = rw (← c.threads-threads.ensures) c.fill.ensures
