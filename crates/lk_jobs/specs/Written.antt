@@ -5,7 +5,7 @@ use Rattle.std.specs.List.{flat_map}
 use Rattle.lk_locks.specs.declared.kinds.LockKind.{LockKind}
 use Rattle.lk_lines.specs.Vocabulary.{lock_name, move_name}
 use Rattle.lk_search.specs.Runs.{is_look}
-use Rattle.lk_search.specs.declared.taken.Taken.{Taken}
+use Rattle.lk_search.specs.declared.moves.RunMove.{RunMove}
 
 -- words of 64 bits are not mentioned
 abbrev pub bits_part : ℕ → List ℕ
@@ -17,12 +17,12 @@ header_line kind threads bits =
     ++ codes "\n"
 
 -- a look is no move of a schedule
-abbrev pub move_line : Taken → List ℕ
+abbrev pub move_line : RunMove → List ℕ
 move_line m =
     if is_look m then [] else decimal m.thread ++ codes " " ++ move_name m.action ++ codes "\n"
 
 -- a header, and a line for each move
-abbrev pub schedule_of : LockKind → ℕ → ℕ → List Taken → List ℕ
+abbrev pub schedule_of : LockKind → ℕ → ℕ → List RunMove → List ℕ
 schedule_of kind threads bits ms = header_line kind threads bits ++ flat_map move_line ms
 
 -- the beginning of a schedule of a tour

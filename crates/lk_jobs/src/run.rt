@@ -6,7 +6,7 @@ ghost use Rattle.lk_jobs.specs.Written.{header_line, move_line, schedule_of};
 
 use lk_lines::lock_text;
 use lk_locks::Shape;
-use lk_search::{LOOKER, Taken};
+use lk_search::{LOOKER, RunMove};
 use lk_text::Text;
 use lk_text::phrases::put_move;
 
@@ -26,7 +26,7 @@ pub fn put_header(text: &mut Text, header: Shape)
 }
 
 // Writes the line of a move, and nothing for a look at the position.
-fn put_taken(text: &mut Text, taken: Taken)
+fn put_taken(text: &mut Text, taken: RunMove)
     ensures { Adds (move_line taken) text.old text.new }
 {
     if taken.thread == LOOKER {
@@ -38,7 +38,7 @@ fn put_taken(text: &mut Text, taken: Taken)
 
 /// Writes the lines of a run's moves.
 #[tactic(auto, using(crate::proofs::Listed::one_line_more))]
-pub fn put_moves(text: &mut Text, run: &[Taken])
+pub fn put_moves(text: &mut Text, run: &[RunMove])
     ensures { Adds (flat_map move_line run.now) text.old text.new }
 {
     for taken in run {
@@ -47,7 +47,7 @@ pub fn put_moves(text: &mut Text, run: &[Taken])
 }
 
 /// Writes the header of a run's lock, and a line for each move.
-pub fn put_run(text: &mut Text, header: Shape, run: &[Taken])
+pub fn put_run(text: &mut Text, header: Shape, run: &[RunMove])
     ensures { Adds (schedule_of header.kind header.threads header.bits run.now)
         text.old text.new }
 {
