@@ -209,7 +209,7 @@ conform: $(LIBRARY) $(TRACER) test-needs
 ## mutants [CRATE=NAME [MISTAKE=NAME]] | mutants are refused, their right twins proved
 mutants: needs-rt $(if $(CRATE),,$(PROVED))
 	$(if $(CRATE),cd crates/$(CRATE) && rt check)
-	tests/prover/mutants.py $(CRATE)$(addprefix /,$(MISTAKE))
+	tests/prover/try_mutants.py $(CRATE)$(addprefix /,$(MISTAKE))
 
 ## programs | builds lockreplay and locktrace
 programs: $(PROGRAM) $(TRACER)

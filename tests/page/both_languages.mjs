@@ -1,7 +1,7 @@
 // Tests in Node the texts of the page in both languages: for one and for several, with the same
 // values and signs, and each text of a lesson.
 //
-//     node tests/page/texts.mjs MODULE.wasm
+//     node tests/page/both_languages.mjs MODULE.wasm
 
 import assert from 'node:assert/strict';
 import { readFileSync } from 'node:fs';

@@ -1,4 +1,4 @@
-"""Runs the page's module in Node, without the page. The head of each script says what it tests."""
+"""Tests in Node, without a browser. The head of each script says what it tests."""
 import json
 
 import pytest
@@ -7,8 +7,9 @@ from locks import LOCKS
 from tree import TESTS, output, ran
 
 
-@pytest.mark.parametrize("script", ["module", "bytes", "moments", "known", "lib", "model",
-                                    "session", "texts", "pictures", "kept", "answers"])
+@pytest.mark.parametrize("script", [
+    "module", "bytes", "moments", "records_beside_replays", "modules_without_locks",
+    "facts_of_locks", "session", "both_languages", "pictures", "stored_in_browser", "quiz_rules"])
 def test_in_node(module, script):
     done = ran("node", TESTS / "page" / f"{script}.mjs", module)
     assert done.returncode == 0, done.stderr

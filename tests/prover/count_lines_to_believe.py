@@ -1,7 +1,7 @@
 #!/usr/bin/env python3
 """Counts the lines of the definitions that a reader of the main theorem must believe.
 
-    tests/prover/statement.py [NAME]
+    tests/prover/count_lines_to_believe.py [NAME]
 
 It starts at `MainTheorem.EveryRunIsAsPromised`, or at another definition given as FILE.NAME, and
 follows each name to its definition in the specs of lk_locks or lk_words, or to the enum or struct

@@ -1,7 +1,7 @@
 // Tests the page's modules that know no lock, in Node. Each value was made by hand, from the
 // description at the head of the module.
 //
-//     node tests/page/lib.mjs
+//     node tests/page/modules_without_locks.mjs
 
 import assert from 'node:assert/strict';
 import { mkdtempSync, rmSync, writeFileSync } from 'node:fs';

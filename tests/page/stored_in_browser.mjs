@@ -1,7 +1,7 @@
 // Tests in Node what the page stores in the browser: schedules of the reader's own, and which
 // lessons are done. A size is that of the base64, which has four letters for three bytes.
 //
-//     node tests/page/kept.mjs MODULE.wasm
+//     node tests/page/stored_in_browser.mjs MODULE.wasm
 
 import assert from 'node:assert/strict';
 import { doneLessons, noteDone } from '../../page/src/model/done_lessons.js';

@@ -4,7 +4,7 @@
 // refused moves and of signs that cannot be seen. The values were made by hand, from docs/LOCKS.md
 // and reports.
 //
-//     node tests/page/model.mjs MODULE.wasm
+//     node tests/page/facts_of_locks.mjs MODULE.wasm
 
 import assert from 'node:assert/strict';
 import { LOCK_NAMES } from '../../page/src/machine/codes.js';

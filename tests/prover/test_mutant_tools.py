@@ -1,4 +1,4 @@
-"""What mutants.py makes of a file of mutants, and of what a check prints.
+"""What try_mutants.py makes of a file of mutants, and of what a check prints.
 
 The output of checks is that of `rt check`, shortened. No crate is checked. Each mutant and twin of
 the crates has to change the text as it is now.
@@ -12,7 +12,7 @@ import pytest
 
 from mutant_checks import Lab, unproved_below, verdict_on
 from mutant_edits import BadEdit, edits_in
-from mutants import TRIES, edits_of, group_of, verdict
+from try_mutants import TRIES, edits_of, group_of, verdict
 from mutants_kept import PARTS, SCRIPTS, Kept
 from rattle_functions import functions_of
 from rattle_words import TOP

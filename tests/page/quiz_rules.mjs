@@ -2,7 +2,7 @@
 // back. The questions are those of moves 4 and 10, who holds then: both readers, and later the
 // three that stay.
 //
-//     node tests/page/answers.mjs MODULE.wasm
+//     node tests/page/quiz_rules.mjs MODULE.wasm
 
 import assert from 'node:assert/strict';
 import { learnWords } from '../../page/src/machine/word_names.js';

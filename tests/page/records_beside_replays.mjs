@@ -1,6 +1,6 @@
 // Compares runs that the page reads off records with replays by the page's module:
 //
-//     node tests/page/known.mjs MODULE.wasm
+//     node tests/page/records_beside_replays.mjs MODULE.wasm
 //
 // For each example: the runs of its first lines, and of the text without comments. For the examples
 // of read-write locks and for random schedules: the same turns on the other lock, as the page finds

@@ -1,7 +1,7 @@
 #!/usr/bin/env python3
 """Tries mutants, which have to be refused, and their right twins, which have to be proved.
 
-    mutants.py [--lanes N] [--anew] [CRATE | CRATE/MISTAKE]...
+    try_mutants.py [--lanes N] [--anew] [CRATE | CRATE/MISTAKE]...
 
 All crates are tried if none is named.
 
