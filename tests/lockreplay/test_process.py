@@ -97,27 +97,35 @@ WRITES = {
 }
 
 
-@cases("words, text, report", WRITES)
-class TestOutput:
-    def test_closed(self, program, words, text, report):
-        assert program.run(*words, stdin=text, preexec_fn=closing(1)) == (b"", OUTPUT, 3)
-        assert program.run(*words, stdin=text, preexec_fn=closing(1, 2)) == (b"", b"", 3)
+of_each_write = cases("words, text, report", WRITES)
 
-    @cases("path, mode", {"full": ("/dev/full", "wb"), "for reading": ("/dev/null", "rb")})
-    def test_device(self, program, words, text, report, path, mode):
-        with open(path, mode) as device:
-            assert program.run(*words, stdin=text, stdout=device) == (b"", OUTPUT, 3)
 
-    @pytest.mark.parametrize("handling", [signal.SIG_DFL, signal.SIG_IGN])
-    def test_reader_that_left(self, program, words, text, report, handling):
-        """The program reports the failed write. SIGPIPE would by default end it without a word."""
-        with left_pipe() as pipe:
-            assert program.run(*words, stdin=text, stdout=pipe, preexec_fn=lambda: signal.signal(
-                signal.SIGPIPE, handling)) == (b"", OUTPUT, 3)
+@of_each_write
+def test_closed_output(program, words, text, report):
+    assert program.run(*words, stdin=text, preexec_fn=closing(1)) == (b"", OUTPUT, 3)
+    assert program.run(*words, stdin=text, preexec_fn=closing(1, 2)) == (b"", b"", 3)
 
-    def test_output_and_error_that_nobody_reads(self, program, words, text, report):
-        with left_pipe() as pipe:
-            assert program.run(*words, stdin=text, stdout=pipe, stderr=pipe)[2] == 3
+
+@of_each_write
+@cases("path, mode", {"full": ("/dev/full", "wb"), "for reading": ("/dev/null", "rb")})
+def test_output_to_a_device(program, words, text, report, path, mode):
+    with open(path, mode) as device:
+        assert program.run(*words, stdin=text, stdout=device) == (b"", OUTPUT, 3)
+
+
+@of_each_write
+@pytest.mark.parametrize("handling", [signal.SIG_DFL, signal.SIG_IGN])
+def test_output_whose_reader_left(program, words, text, report, handling):
+    """The program reports the failed write. SIGPIPE would by default end it without a word."""
+    with left_pipe() as pipe:
+        assert program.run(*words, stdin=text, stdout=pipe, preexec_fn=lambda: signal.signal(
+            signal.SIGPIPE, handling)) == (b"", OUTPUT, 3)
+
+
+@of_each_write
+def test_output_and_error_that_nobody_reads(program, words, text, report):
+    with left_pipe() as pipe:
+        assert program.run(*words, stdin=text, stdout=pipe, stderr=pipe)[2] == 3
 
 
 REPORTS = {**WRITES, "14 MB": (["replay"], CROWD.text, CROWD.report)}

@@ -29,7 +29,7 @@ TICKET_DRAWN = r"""digraph "ticket, 1 thread with 1 round" {
 
 
 @pytest.mark.parametrize("row, counts, _", list(search_rows.spaces()), ids=str)
-def test_counts(tracer, row, counts, _):
+def test_counts_of_the_program(tracer, row, counts, _):
     found = json.loads(tracer.output("space", row.lock, row.threads, "--rounds", row.rounds,
                                      "--bits", row.bits, "--format", "json"))
     assert tuple(found[name] for name in counts._fields) == counts

@@ -13,7 +13,7 @@ from spaces import Space, ending, measured, searched
 
 
 @pytest.mark.parametrize("row, counts, kinds", list(search_rows.spaces()), ids=str)
-def test_counts(row, counts, kinds):
+def test_counts_of_the_oracle(row, counts, kinds):
     space = searched(row)
     assert (len(space), sum(map(len, space.transitions)), max(space.lengths)) == counts
     assert len(space.kinds()) == kinds

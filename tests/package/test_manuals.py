@@ -33,7 +33,7 @@ def test_manual_page(installed, tmp_path, page):
                   "check explain order schedule find tour space why cover help version format "
                   "color summary quiet jobs page from moves names rounds bits limit runs require"),
 })
-def test_words(installed, name, commands, due):
+def test_each_command_and_option(installed, name, commands, due):
     """A program's help has exactly the expected words, and its manual page has each of them."""
     page = (installed / f"share/man/man1/{name}.1").read_text()
     helps = "".join(output(installed / "bin" / name, *command, "--help")

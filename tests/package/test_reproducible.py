@@ -41,7 +41,7 @@ def run():
 
 
 @pytest.mark.parametrize("tree", TREES)
-def test_artifacts(debian, run, made, tree):
+def test_package_on_two_debians(debian, run, made, tree):
     if "shallow" in tree:
         assert output("git", "clone", "--quiet", "--depth=1", f"file://{TOP}", debian / tree) == ""
     copy_files(debian / tree, PACKAGED)
@@ -53,7 +53,7 @@ def test_artifacts(debian, run, made, tree):
 
 
 @pytest.mark.parametrize("debian", ["bookworm"], indirect=True)
-def test_build(debian, run):
+def test_programs_built_anew(debian, run):
     """Debian builds deleted files again from the proofs that were kept."""
     tree, built = debian / "srv" / "built", [*PACKAGED, BUILT["module"][0]]
     copy_files(tree, ())

@@ -117,13 +117,13 @@ def dark(page, path):
     return shares
 
 
-def test_it_is_printed_on_white(page, tmp_path):
+def test_a_sheet_is_printed_on_white(page, tmp_path):
     page.before("keepSheet").open("#lesson=mcs-late-link&move=0").call("asExercise")
     shares = dark(page, tmp_path / "sheet.pdf")
     assert shares and all(share < 0.1 for share in shares), shares
 
 
-def test_a_black_screen_is_printed_on_white(page, tmp_path):
+def test_a_black_hall_is_printed_on_white(page, tmp_path):
     """In hall mode a full stop makes the screen black, but not what is printed."""
     page.open("#lesson=mcs-late-link&move=9&hall").press(".")
     shares = dark(page, tmp_path / "black.pdf")

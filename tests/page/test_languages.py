@@ -24,7 +24,7 @@ def test_reports_are_the_same(page):
     assert page.open(GERMAN).js("reports", list(SCHEDULES.values())) == list(LESSONS.values())
 
 
-def test_no_holes(page):
+def test_each_place_is_filled_in(page):
     page.open(GERMAN)
     for name, report in LESSONS.items():
         if MOVES[name] or report.startswith("refused"):

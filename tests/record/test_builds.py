@@ -36,7 +36,7 @@ def test_build(built, compiler, example, mode):
 @pytest.mark.parametrize("compiler, example, standard", [
     (*build, standard) for build in BUILDS
     for standard in (STANDARDS if "++" in build[0] else ["11"])])
-def test_compiles(compiler, example, standard, mode):
+def test_compiles_without_a_warning(compiler, example, standard, mode):
     assert compile_c(compiler, SOURCES / f"{example}.c", "/dev/null", "-c",
                      f"-DLR_MODE={mode}", *OPTIONS[mode], standard=standard) == ""
 
@@ -153,7 +153,7 @@ def test_note_is_short(tmp_path, compiler, note):
 
 
 @pytest.mark.parametrize("compiler", COMPILERS)
-def test_header(tmp_path, compiler):
+def test_messages_of_the_header(tmp_path, compiler):
     """The checks of header.c pass, and the header prints these messages, in its order."""
     # Each Debian has the libraries of clang's sanitizers in a package of another name.
     sanitizers = [] if compiler.startswith("clang") else ["-fsanitize=address,undefined"]
