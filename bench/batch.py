@@ -10,7 +10,8 @@ and as two processes of 12 with 1 worker each: what the machine can give, for it
 other work and its memory is one.
 
 Small files: 2,000 schedules of ten moves with 1 worker, beside bench/readall.c, which opens and
-reads the same files and does nothing with them.
+reads the same files and does nothing with them. Their row has the time of the program, that of
+readall, and the ratio.
 
 Figures are medians over the rounds, in which all that is compared takes turns. With --check it ends
 with 1 if on the schedules of all kinds 2 workers take more than 0.62 of 1 worker's time, or 1
@@ -23,114 +24,76 @@ import pathlib
 import re
 import subprocess
 import sys
-import tempfile
 import time
 
 import generate
-from measuring import TOLERANCE, Measure, Run, arguments, build, by_hand, median_elapsed
+import measuring
+from measuring import TOLERANCE, Run, arguments, build, by_hand, median_elapsed
 
-MOST_OF_ONE_WORKER, MOST_TO_HAND, MOST_TO_READING = 0.62, 1.1, 2.0
 ATTEMPTS = 3
 LESSON = pathlib.Path(__file__).parent.parent / "examples" / "ticket-hand-over.schedule"
 SMALL = re.sub(rb"^(#.*)?\n", b"", LESSON.read_bytes(), flags=re.MULTILINE)
 KINDS = [kind for kind in generate.KINDS if kind != "none"]
 BATCHES = {
     "short lines": [kind for kind in KINDS if "spinning" in kind or "alone" in kind],
-    "all kinds": KINDS[:12],
     "14 MB each": ["contention", "mcs-contention"],
+    "all kinds": KINDS[:12],
+    "small files": None,
 }
+LIMITS = {"all kinds": {"2 to 1": 0.62 * TOLERANCE, "to hand": 1.1 * TOLERANCE},
+          "small files": {"to reading": 2.0 * TOLERANCE}}
+COLUMNS = ["1 worker", "2 workers", "2 to 1", "by hand", "to hand", "two process", "peak MB"]
 
 
-class Bench:
-    def __init__(self, program, rounds, folder):
-        self.program, self.rounds = program, rounds
-        self.folder = pathlib.Path(folder)
-        self.measure = Measure(folder)
-        self.readall = build("readall", folder)
-        self.by_hand = by_hand(folder)
+class Bench(measuring.Bench):
+    def files(self, texts):
+        """The paths of files with these texts."""
+        paths = [self.folder / f"{number}.schedule" for number in range(len(texts))]
+        for path, text in zip(paths, texts):
+            path.write_bytes(text)
+        return paths
 
     def batch(self, workers, files):
-        return [self.program, "batch", "--workers", str(workers), *files]
+        return self.program, "batch", "--workers", str(workers), *files
 
     def two_processes(self, files):
         """The files as two halves, each a process with one worker, at the same time."""
-        halves = [self.batch(1, files[0::2]), self.batch(1, files[1::2])]
         began = time.perf_counter()
         running = []
-        for number, half in enumerate(halves):
+        for number in range(2):
             with open(f"{self.measure.output}{number}", "wb") as output:
-                running.append(subprocess.Popen(half, stdout=output))
+                running.append(subprocess.Popen(self.batch(1, files[number::2]), stdout=output))
         if any([process.wait() for process in running]):
             raise SystemExit("two processes: a batch failed")
         return Run(time.perf_counter() - began, 0, 0)
 
     def second_worker(self, kinds):
-        """Medians of 1 worker, 2 workers, by hand, two processes; and the peak with 2 workers."""
-        files = []
-        for number in range(24):
-            file = self.folder / f"{number}.schedule"
-            file.write_bytes(self.schedule(kinds[number % len(kinds)]))
-            files.append(str(file))
-        ones, twos, hands, halves = [], [], [], []
-        for _ in range(self.rounds):
-            ones.append(self.measure.run(self.batch(1, files)))
-            twos.append(self.measure.run(self.batch(2, files)))
-            hands.append(self.measure.run([self.by_hand, "batch", *files]))
-            halves.append(self.two_processes(files))
-        medians = map(median_elapsed, (ones, twos, hands, halves))
-        return *medians, max(run.peak for run in twos)
-
-    def schedule(self, kind, made={}):
-        if kind not in made:
-            made[kind] = generate.schedule_of(kind)
-        return made[kind]
+        """The figures of 1 worker, 2 workers, by hand, and two processes."""
+        schedules = {kind: generate.schedule_of(kind) for kind in kinds}
+        files = self.files([schedules[kinds[number % len(kinds)]] for number in range(24)])
+        runs = list(self.in_turns(
+            self.command(*self.batch(1, files)), self.command(*self.batch(2, files)),
+            self.command(by_hand(self.folder), "batch", *files),
+            lambda: self.two_processes(files)))
+        one, two, hand, halves = map(median_elapsed, runs)
+        return dict(zip(COLUMNS, [one * 1e3, two * 1e3, two / one, hand * 1e3, one / hand,
+                                  halves / one, max(run.peak for run in runs[1]) / 1e6]))
 
     def small_files(self):
-        """Medians of the program and of readall on 2,000 small files."""
-        files = []
-        for number in range(2000):
-            file = self.folder / f"small-{number}"
-            file.write_bytes(SMALL)
-            files.append(str(file))
-        runs, reads = [], []
-        for _ in range(self.rounds):
-            runs.append(self.measure.run(self.batch(1, files)))
-            reads.append(self.measure.run([self.readall, *files]))
-        return median_elapsed(runs), median_elapsed(reads)
+        """The figures of 2,000 small files, beside opening and reading them."""
+        files = self.files([SMALL] * 2000)
+        took, reading = map(median_elapsed, self.in_turns(
+            self.command(*self.batch(1, files)),
+            self.command(build("readall", self.folder), *files)))
+        return {"1 worker": took * 1e3, "reading": reading * 1e3, "to reading": took / reading}
 
-
-def worker_line(bench, name):
-    """Prints a line of the first table; answers whether its two limits are kept."""
-    one, two, hand, halves, peak = bench.second_worker(BATCHES[name])
-    print(f"{name:12} {one * 1e3:9.1f} {two * 1e3:10.1f} {two / one:6.2f} {hand * 1e3:8.1f} "
-          f"{one / hand:8.2f} {halves / one:14.2f} {peak / 1e6:8.1f}", flush=True)
-    return (two / one <= MOST_OF_ONE_WORKER * TOLERANCE
-            and one / hand <= MOST_TO_HAND * TOLERANCE)
-
-
-def small_line(bench):
-    took, reading = bench.small_files()
-    print(f"2,000 small files: {took * 1e3:.1f} ms, opening and reading them "
-          f"{reading * 1e3:.1f} ms, ratio {took / reading:.2f}", flush=True)
-    return took / reading <= MOST_TO_READING * TOLERANCE
-
-
-def within(line, attempts):
-    return any(line() for _ in range(attempts))
-
-
-def main():
-    asked = arguments(rounds=11).parse_args()
-    attempts = ATTEMPTS if asked.check else 1
-    with tempfile.TemporaryDirectory() as folder:
-        bench = Bench(asked.program, asked.rounds, folder)
-        print("24 schedules  1 worker  2 workers  ratio  by hand  to hand  two processes  peak MB")
-        worker_line(bench, "short lines")
-        worker_line(bench, "14 MB each")
-        fits = within(lambda: worker_line(bench, "all kinds"), attempts)
-        fits = within(lambda: small_line(bench), attempts) and fits
-    return 1 if asked.check and not fits else 0
+    def fits(self, name, attempts):
+        kinds, limits = BATCHES[name], LIMITS.get(name, {})
+        return measuring.fits(
+            f"{name:12}", lambda: self.second_worker(kinds) if kinds else self.small_files(),
+            lambda _: limits, attempts)
 
 
 if __name__ == "__main__":
-    sys.exit(main())
+    sys.exit(measuring.run(Bench, arguments(rounds=11).parse_args(), BATCHES, 12 * " "
+                           + "".join(f"{name:>12}" for name in COLUMNS), ATTEMPTS))

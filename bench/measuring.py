@@ -1,9 +1,11 @@
 """Shared by the benchmarks: arguments, C helpers built where they are needed, measured commands."""
 import argparse
 import collections
+import functools
 import pathlib
 import statistics
 import subprocess
+import tempfile
 
 HERE = pathlib.Path(__file__).parent
 TOLERANCE = 1.1  # of limits of time
@@ -21,17 +23,44 @@ def arguments(rounds):
     return words
 
 
-def fits(title, measured, passed_limits, attempts):
-    """Prints a line of figures; again, while a limit is passed and attempts are left."""
+def fits(title, measured, limits, attempts):
+    """Prints a line of figures; again, while a limit is passed and attempts are left. `limits` has
+    the most of each figure that has a limit, by all the figures."""
     for _ in range(attempts):
         figures = measured()
-        beyond = list(passed_limits(figures))
+        beyond = [name for name, most in limits(figures).items() if figures[name] > most]
         cells = "".join(f"{it:12}" if isinstance(it, int) else f"{it:12.2f}"
                         for it in figures.values())
         print(f"{title}{cells}", *(f"past the limit: {name}" for name in beyond), flush=True)
         if not beyond:
             return True
     return False
+
+
+def run(bench, asked, rows, columns, attempts):
+    """Prints a table of the rows, each of which `bench` measures in a folder of its own: the status
+    of the script. `columns` is the line above the rows."""
+    with tempfile.TemporaryDirectory() as folder:
+        bench = bench(asked.program, asked.rounds, pathlib.Path(folder))
+        print(columns)
+        all_fit = [bench.fits(row, attempts if asked.check else 1) for row in rows]
+    return 1 if asked.check and not all(all_fit) else 0
+
+
+class Bench:
+    """A program that is measured in rounds."""
+
+    def __init__(self, program, rounds, folder):
+        self.program, self.rounds, self.folder = program, rounds, folder
+        self.measure = Measure(folder)
+
+    def command(self, *words, source="/dev/null"):
+        """What runs a command once, with a file as its standard input."""
+        return functools.partial(self.measure.run, words, source)
+
+    def in_turns(self, *works):
+        """Does all of this in each round: for each of them its runs."""
+        return zip(*[[work() for work in works] for _ in range(self.rounds)])
 
 
 def build(name, folder, *flags):

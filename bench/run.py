@@ -29,29 +29,26 @@ never measured quietly and within its limits fails.
 """
 import pathlib
 import sys
-import tempfile
 
 import generate
-from measuring import (TOLERANCE, Measure, arguments, by_hand, fits, median_elapsed,
-                       median_processor, median_ratio, ratio_spread)
+import measuring
+from measuring import TOLERANCE, arguments, by_hand, median_elapsed, median_processor
 
 sys.path.append(str(pathlib.Path(__file__).resolve().parents[1] / "tests" / "oracle"))
 import oracle
 
 LONG_LINES = {"contention", "mcs-contention"}
-MOST_TO_HAND, MOST_TO_CAT, MOST_EXTRA = 1.2, 1.6, 6.0
-MOST_SPREAD = 10.0
+MOST = {"to hand": 1.2 * TOLERANCE, "extra MB": 6.0, "spread": 10.0}
+MOST_OF_LONG_LINES = {**MOST, "to cat": 1.6 * TOLERANCE}
 ATTEMPTS = 5
+COLUMNS = ["elapsed", "processor", "spread %", "to cat", "to hand", "ns a move", "by hand",
+           "extra MB"]
 
 
-class Bench:
-    def __init__(self, program, rounds, folder):
-        self.program = program
-        self.by_hand = by_hand(folder)
-        self.rounds = rounds
-        self.measure = Measure(folder)
-        self.folder = pathlib.Path(folder)
-        self.start = self.schedule("none")
+class Bench(measuring.Bench):
+    def __init__(self, *parts):
+        super().__init__(*parts)
+        self.by_hand, self.start = by_hand(self.folder), self.schedule("none")
 
     def schedule(self, kind):
         path = self.folder / f"{kind}.schedule"
@@ -70,58 +67,37 @@ class Bench:
 
     def figures(self, schedule, report):
         """Runs all rounds and answers the figures of one line of the table."""
-        runs, hands, copies, starts = [], [], [], []
-        for _ in range(self.rounds):
-            runs.append(self.measure.run([self.program, "replay"], schedule))
-            hands.append(self.measure.run([self.by_hand, "replay"], schedule))
-            copies.append(self.measure.run(["cat"], report))
-            starts.append(self.measure.run([self.program, "replay"], self.start))
+        runs, hands, copies, starts = self.in_turns(
+            self.command(self.program, "replay", source=schedule),
+            self.command(self.by_hand, "replay", source=schedule),
+            self.command("cat", source=report),
+            self.command(self.program, "replay", source=self.start))
         moves = schedule.read_bytes().count(b"\n") - 1
         took, hand, start = map(median_processor, (runs, hands, starts))
         least = min(run.peak for run in starts)
         return {
             "elapsed": median_elapsed(runs) * 1e3,
             "processor": took * 1e3,
-            "spread": ratio_spread(runs, copies) * 100,
-            "to cat": median_ratio(runs, copies),
-            "to hand": median_ratio(runs, hands),
+            "spread": measuring.ratio_spread(runs, copies) * 100,
+            "to cat": measuring.median_ratio(runs, copies),
+            "to hand": measuring.median_ratio(runs, hands),
             "ns a move": (took - start) / moves * 1e9,
             "by hand": (hand - start) / moves * 1e9,
             "extra MB": (max(run.peak for run in runs) - least) / 1e6,
         }
 
-    def passed_limits(self, kind, figures):
-        """The names of the figures that are past their limit."""
-        if kind in LONG_LINES and figures["to cat"] > MOST_TO_CAT * TOLERANCE:
-            yield "to cat"
-        if figures["to hand"] > MOST_TO_HAND * TOLERANCE:
-            yield "to hand"
-        if figures["extra MB"] > MOST_EXTRA:
-            yield "extra MB"
-        if figures["spread"] > MOST_SPREAD:
-            yield "spread"
-
     def fits(self, kind, attempts):
         """Prints the kind's line, and tells whether its limits are kept."""
         files = self.replayed(kind)
-        return fits(f"{kind:15}", lambda: self.figures(*files),
-                    lambda figures: self.passed_limits(kind, figures), attempts)
-
-
-def main():
-    kinds = [kind for kind in generate.KINDS if kind != "none"]
-    words = arguments(rounds=30)
-    words.add_argument("kinds", nargs="*", metavar="KIND", choices=[[], *kinds])
-    asked = words.parse_intermixed_args()
-    with tempfile.TemporaryDirectory() as folder:
-        bench = Bench(asked.program, asked.rounds, folder)
-        names = ["elapsed", "processor", "spread %", "to cat", "to hand", "ns a move", "by hand",
-                 "extra MB"]
-        print(f"{'kind':15}" + "".join(f"{name:>12}" for name in names))
-        all_fit = [bench.fits(kind, ATTEMPTS if asked.check else 1)
-                   for kind in asked.kinds or kinds]
-    return 1 if asked.check and not all(all_fit) else 0
+        limits = MOST_OF_LONG_LINES if kind in LONG_LINES else MOST
+        return measuring.fits(f"{kind:15}", lambda: self.figures(*files), lambda _: limits,
+                              attempts)
 
 
 if __name__ == "__main__":
-    sys.exit(main())
+    KINDS = [kind for kind in generate.KINDS if kind != "none"]
+    words = arguments(rounds=30)
+    words.add_argument("kinds", nargs="*", metavar="KIND", choices=[[], *KINDS])
+    asked = words.parse_intermixed_args()
+    sys.exit(measuring.run(Bench, asked, asked.kinds or KINDS, f"{'kind':15}"
+                           + "".join(f"{name:>12}" for name in COLUMNS), ATTEMPTS))

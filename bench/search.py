@@ -26,10 +26,10 @@ import json
 import pathlib
 import statistics
 import sys
-import tempfile
 
+import measuring
 import pan
-from measuring import TOLERANCE, Measure, arguments, fits, median_processor
+from measuring import TOLERANCE, arguments, median_processor
 
 TOP = pathlib.Path(__file__).resolve().parent.parent
 sys.path.append(str(TOP / "tests" / "oracle"))
@@ -53,12 +53,7 @@ def state_bytes(space):
     return len(LOCKS[space.lock].all_words(space.threads)) + 2 * space.threads
 
 
-class Bench:
-    def __init__(self, program, rounds, folder):
-        self.program, self.rounds = program, rounds
-        self.folder = pathlib.Path(folder)
-        self.measure = Measure(folder)
-
+class Bench(measuring.Bench):
     def own(self, space):
         """The command by which the program searches a space."""
         return [self.program, "space", space.lock, str(space.threads), "--format", "json",
@@ -69,11 +64,6 @@ class Bench:
         folder = self.folder / str(space).replace(" ", "-")
         folder.mkdir(exist_ok=True)
         return pan.command(pan.build(space, folder))
-
-    def runs(self, commands):
-        """Runs the commands in turns; for each of them its runs."""
-        return zip(*[[self.measure.run(command) for command in commands]
-                     for _ in range(self.rounds)])
 
     def output(self, command):
         self.measure.run(command)
@@ -92,7 +82,8 @@ class Bench:
         least = space._replace(threads=1, rounds=1)
         commands = [self.own(space), self.spin(space), self.own(least), self.spin(least)]
         states, _ = self.counts(*commands[:2])
-        owns, spins, starts, spin_starts = self.runs(commands)
+        owns, spins, starts, spin_starts = self.in_turns(
+            *(self.command(*words) for words in commands))
         start, spin_start = median_processor(starts), median_processor(spin_starts)
         took, spin_took = median_processor(owns) - start, median_processor(spins) - spin_start
         ratio = statistics.median((own.processor - start) / (spin.processor - spin_start)
@@ -102,27 +93,16 @@ class Bench:
             states, took * 1e3, spin_took * 1e3, ratio, states / took / 1e3,
             states / spin_took / 1e3, peak / states - state_bytes(space)]))
 
+    def fits(self, space, attempts):
+        return measuring.fits(f"{str(space):38}", lambda: self.figures(space), limits, attempts)
 
-def passed_limits(figures):
-    """The names of the figures that are past their limit."""
+
+def limits(figures):
     most_seconds = max(LEAST_SECONDS, figures["states"] * SECONDS_A_STATE)
-    if figures["ms"] > most_seconds * 1e3 * TOLERANCE:
-        yield "ms"
-    if figures["to SPIN"] > MOST_TO_SPIN * TOLERANCE:
-        yield "to SPIN"
-    if figures["bytes"] > MOST_BYTES:
-        yield "bytes"
-
-
-def main():
-    asked = arguments(rounds=7).parse_args()
-    with tempfile.TemporaryDirectory() as folder:
-        bench = Bench(asked.program, asked.rounds, folder)
-        print(f"{'space':38}" + "".join(f"{name:>12}" for name in COLUMNS))
-        all_fit = [fits(f"{str(space):38}", lambda: bench.figures(space), passed_limits,
-                        ATTEMPTS if asked.check else 1) for space in SPACES]
-    return 1 if asked.check and not all(all_fit) else 0
+    return {"ms": most_seconds * 1e3 * TOLERANCE, "to SPIN": MOST_TO_SPIN * TOLERANCE,
+            "bytes": MOST_BYTES}
 
 
 if __name__ == "__main__":
-    sys.exit(main())
+    sys.exit(measuring.run(Bench, arguments(rounds=7).parse_args(), SPACES, f"{'space':38}"
+                           + "".join(f"{name:>12}" for name in COLUMNS), ATTEMPTS))

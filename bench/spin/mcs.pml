@@ -1,19 +1,9 @@
 /* The MCS lock of Mellor-Crummey and Scott 1991, section 2.4, as a model for SPIN.
  *
- *     spin -a -o3 -DTHREADS=3 -DROUNDS=1 mcs.pml
- *
- * Each statement, and each `d_step`, is one transition, as a move of a schedule is. A label is the
- * phase of a thread whose next step is the one below it; docs/LOCKS.md has the same names. A local
- * variable is 0 again as soon as it is not needed, so that two states are one if only it differs.
- *
  * Different from the source: each thread has one record, which it uses again. NIL is 0, and RECORD
  * is one more than the number of the thread.
  */
-#ifdef ROUNDS
-#define BEGIN begun < ROUNDS -> begun++
-#else                   /* any number of rounds, of which none is counted */
-#define BEGIN true
-#endif
+#include "rounds.pml"
 #define NIL 0
 #define RECORD (_pid + 1)
 #define OWNER(record) (record - 1)
@@ -27,7 +17,7 @@ active [THREADS] proctype thread()
     byte begun;            /* how often this thread has called acquire */
     byte pred, succ;
 
-end_Idle:               /* `end`: a thread may stay here for ever */
+end_Idle:
     do
     :: d_step { BEGIN };                           /* the call: acquire */
 ClearNext:

@@ -1,24 +1,10 @@
 /* The FifoReadWriteLock of Herlihy and Shavit, chapter 8, as a model for SPIN.
  *
- *     spin -a -o3 -DTHREADS=3 -DROUNDS=1 rw_fifo.pml
- *
- * Each statement, and each `d_step`, is one transition, as a move of a schedule is. All that a
- * thread does from getting the monitor to leaving it, or to waiting in it, is one of them. A label
- * is the phase of a thread whose next step is the one below it; docs/LOCKS.md has the same names.
- *
  * Different from the source: a reader and a writer wait while the flag is set before they count
  * themselves or set it; a waiting thread may look again at any time, as after a spurious wake; the
  * counts have BITS bits; a writer may downgrade.
  */
-#ifdef ROUNDS
-#define BEGIN begun < ROUNDS -> begun++
-#else                   /* any number of rounds, of which none is counted */
-#define BEGIN true
-#endif
-#ifndef BITS
-#define BITS 8
-#endif
-#define WRAP(value) ((value) & ((1 << BITS) - 1))
+#include "rounds.pml"
 
 byte readAcquires, readReleases;
 bool flag;
@@ -27,7 +13,7 @@ active [THREADS] proctype thread()
 {
     byte begun;            /* how often this thread has called rlock or wlock */
 
-end_Idle:               /* `end`: a thread may stay here for ever */
+end_Idle:
     do
     :: d_step { BEGIN };                           /* the call: rlock */
 TryRead:

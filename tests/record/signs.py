@@ -4,6 +4,7 @@ Each function takes the moves of a trace, as pairs (line number, words), and ret
 the first line in which the mistake shows, or None if it does not show in the run. Each function
 knows only the sign of one mistake; nothing here replays a lock.
 """
+from collections import defaultdict
 
 
 def moves_of(text):
@@ -13,53 +14,49 @@ def moves_of(text):
     return lines[1:]
 
 
-def enters_at_another_ticket(moves):
-    """A thread calls `release` though the last poll did not find its ticket."""
-    ticket, served = {}, {}
-    for number, (thread, *move) in moves:
-        if move[0] == "add":
-            ticket[thread] = move[3]
-        elif move[0] == "read":
-            served[thread] = move[3]
-        elif move == ["release"] and served[thread] != ticket[thread]:
-            return number
-    return None
+def first(is_wrong):
+    """The first move that is wrong after those of its thread since `acquire`: `last` has the last
+    one of each kind, and the last of all as `move`."""
+    def find(moves):
+        last = defaultdict(dict)
+        for number, (thread, *move) in moves:
+            if is_wrong(move, last[thread]):
+                return number
+            kept = {} if move == ["acquire"] else last[thread]
+            last[thread] = {**kept, move[0]: move, "move": move}
+        return None
+    return find
+
+
+# A thread calls `release` though its last poll did not find its ticket.
+enters_at_another_ticket = first(
+    lambda move, last: move == ["release"] and last["read"][3] != last["add"][3])
+
+# A thread polls once more after a poll that found its ticket.
+polls_again = first(lambda move, last: move[0] == "read" and "release" not in last and (
+    last["move"][0] == "read" and last["read"][3] == last["add"][3]))
+
+# A thread swaps right after `acquire`, without the write that clears its `next`.
+clears_nothing = first(lambda move, last: move[0] == "swap" and last["move"] == ["acquire"])
+
+# A thread links itself though its last move did not set its `locked`.
+links_unlocked = first(lambda move, last: move[:3] == ["write", "next", "of"] and (
+    last["move"] != ["write", "locked", "left", "1"]))
+
+# A grant goes to a record other than the one that the release read.
+grants_to_another = first(lambda move, last: move[:3] == ["write", "locked", "of"] and (
+    int(move[3]) + 1 != int(last["read"][3])))
 
 
 def serves_another_ticket(bits):
     """A release writes a value that is not one more than it read, in words of `bits` bits."""
-    def first(moves):
-        served = {}
-        for number, (thread, *move) in moves:
-            if move[:2] == ["read", "now_serving"]:
-                served[thread] = int(move[3])
-            elif move[0] == "write" and int(move[3]) != (served[thread] + 1) % (1 << bits):
-                return number
-        return None
-    return first
-
-
-def polls_again(moves):
-    """A thread polls once more after a poll that found its ticket."""
-    ticket, entered = {}, {}
-    for number, (thread, *move) in moves:
-        if move[0] == "add":
-            ticket[thread], entered[thread] = move[3], False
-        elif move[0] == "release":
-            ticket[thread] = None
-        elif move[0] == "read" and ticket.get(thread) is not None:
-            if entered[thread]:
-                return number
-            entered[thread] = move[3] == ticket[thread]
-    return None
+    return first(lambda move, last: move[0] == "write" and (
+        int(move[3]) != (int(last["read"][3]) + 1) % (1 << bits)))
 
 
 def makes(*words):
     """The first move that begins with these words, which the right lock never makes."""
-    def first(moves):
-        return next((number for number, (_, *move) in moves if move[:len(words)] == list(words)),
-                    None)
-    return first
+    return first(lambda move, _: move[:len(words)] == list(words))
 
 
 def loses_a_write(word):
@@ -74,37 +71,6 @@ def loses_a_write(word):
             left = move[move.index("left") + 1]
         return None
     return first
-
-
-def clears_nothing(moves):
-    """A thread swaps right after `acquire`, without the write that clears its `next`."""
-    last = {}
-    for number, (thread, *move) in moves:
-        if move[0] == "swap" and last[thread] == "acquire":
-            return number
-        last[thread] = move[0]
-    return None
-
-
-def links_unlocked(moves):
-    """A thread links itself though its last move did not set its `locked`."""
-    last = {}
-    for number, (thread, *move) in moves:
-        if move[:3] == ["write", "next", "of"] and last[thread] != ["write", "locked", "left", "1"]:
-            return number
-        last[thread] = move
-    return None
-
-
-def grants_to_another(moves):
-    """A grant goes to a record other than the one that the release read."""
-    successor = {}
-    for number, (thread, *move) in moves:
-        if move[:2] == ["read", "next"]:
-            successor[thread] = int(move[3])
-        elif move[:3] == ["write", "locked", "of"] and int(move[3]) + 1 != successor[thread]:
-            return number
-    return None
 
 
 def enters(is_wrong):
