@@ -10,6 +10,7 @@ They are in three kinds of files:
 examples/limits.sh prints the two texts that are too large to lie in examples/. Functions make the
 rows that are in no file: `mcs_queue_of_64`, `most_moves`, and the many of `short_rows`.
 """
+import itertools
 import pathlib
 import re
 import subprocess
@@ -69,14 +70,22 @@ def pieces_of(written):
             in re.findall(r"\(([^()]+)\)\*(\d+)|([^()]+)", written)]
 
 
+def alternatives(written):
+    """The texts for which one with `{A, B}` stands."""
+    parts = [part.split(", ") if at % 2 else [part]
+             for at, part in enumerate(re.split(r"\{(.*?)\}", written))]
+    return map("".join, itertools.product(*parts))
+
+
 def lines_of(path):
-    """The place of each line of a table, and the parts around ` => `. `//` begins a comment."""
+    """The place of each row of a table, and the parts around ` => `. `//` begins a comment."""
     for number, line in enumerate(path.read_text().splitlines(), 1):
         if line and not line.startswith("//"):
             first, arrow, second = line.partition(" => ")
             if not arrow:
                 raise ValueError(f"{path.name}:{number}: no ` => `")
-            yield f"{path.name}:{number}: {line[:80]}", first, second
+            for text in alternatives(first):
+                yield f"{path.name}:{number}: {text[:80]}", text, second
 
 
 def table(name):
