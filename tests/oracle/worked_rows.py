@@ -70,11 +70,15 @@ def pieces_of(written):
             in re.findall(r"\(([^()]+)\)\*(\d+)|([^()]+)", written)]
 
 
-def alternatives(written):
-    """The texts for which one with `{A, B}` stands."""
-    parts = [part.split(", ") if at % 2 else [part]
-             for at, part in enumerate(re.split(r"\{(.*?)\}", written))]
-    return map("".join, itertools.product(*parts))
+def alternatives(*written):
+    """The texts for which some with `{A, B}` stand. Braces at the same place of several go together:
+    each has its first, or each its second."""
+    parts = [[part.split(", ") if at % 2 else [part] for at, part in
+              enumerate(re.split(r"\{(.*?)\}", text))] for text in written]
+    if any(list(map(len, text)) not in ([1], list(map(len, parts[0]))) for text in parts):
+        raise ValueError(f"other braces: {written}")
+    for chosen in itertools.product(*(range(len(part)) for part in parts[0])):
+        yield ["".join(part[at] for part, at in zip(text, chosen)) for text in parts]
 
 
 def lines_of(path):
@@ -84,8 +88,8 @@ def lines_of(path):
             first, arrow, second = line.partition(" => ")
             if not arrow:
                 raise ValueError(f"{path.name}:{number}: no ` => `")
-            for text in alternatives(first):
-                yield f"{path.name}:{number}: {text[:80]}", text, second
+            for name, text in alternatives(first, second):
+                yield f"{path.name}:{number}: {name[:80]}", name, text
 
 
 def table(name):
