@@ -1,5 +1,6 @@
 # Completion of locktrace's command line for fish.
 
+set -l complete complete -c locktrace
 set -l commands check explain order schedule find tour space why cover help
 set -l none "not __fish_seen_subcommand_from $commands"
 set -l help '__fish_seen_subcommand_from help'
@@ -34,52 +35,44 @@ function __locktrace
     __fish_seen_subcommand_from $argv; and not __fish_seen_subcommand_from help
 end
 
-complete -c locktrace -f
-complete -c locktrace -n $none -a check -d 'Check each move and each value of traces'
-complete -c locktrace -n $none -a explain -d 'Tell of each move what it found and left'
-complete -c locktrace -n $none -a order -d "Put the logs of a run's threads into one order"
-complete -c locktrace -n $none -a schedule -d 'Write a trace without its values'
-complete -c locktrace -n $none -a find -d 'Find a shortest run that has these lines'
-complete -c locktrace -n $none -a tour -d 'Write schedules that take every transition of a lock'
-complete -c locktrace -n $none -a space -d 'Count the states of all runs of a lock'
-complete -c locktrace -n $none -a why -d 'Find what each step of a lock is for'
-complete -c locktrace -n $none -a cover -d 'Count which kinds of transition traces took'
-complete -c locktrace -n $none -a help -d 'Print help'
-complete -c locktrace -n $none -s V -l version -d 'Print the version'
-complete -c locktrace -n "not $help" -s h -l help -d 'Print help'
-complete -c locktrace -n '__locktrace check' -l format -x -a 'text tap json' \
-    -d 'The form of the reports'
-complete -c locktrace -n '__locktrace check' -l color -x -a 'auto always never' \
-    -d 'When the text has colors'
-complete -c locktrace -n '__locktrace check order' -s q -l quiet -d 'Write no report'
-complete -c locktrace -n '__locktrace check' -l summary -d 'Count moves, waits and more'
-complete -c locktrace -n '__locktrace check' -s j -l jobs -x -a '(seq 64)' \
-    -d 'How many threads share the files'
-complete -c locktrace -n '__locktrace check' -l page -r -F -d 'Write the page with the trace in it'
-complete -c locktrace -n '__locktrace check' -l from -r -F -d 'The page that takes the trace'
-complete -c locktrace -n '__locktrace explain' -l moves -x \
-    -d 'Only the moves in these lines, as 5..10'
-complete -c locktrace -n '__locktrace explain' -l names -x -d 'What the threads are called'
-complete -c locktrace -n '__locktrace order' -s o -x -a '(__fish_complete_directories)' \
+$complete -f
+$complete -n $none -a check -d 'Check each move and each value of traces'
+$complete -n $none -a explain -d 'Tell of each move what it found and left'
+$complete -n $none -a order -d "Put the logs of a run's threads into one order"
+$complete -n $none -a schedule -d 'Write a trace without its values'
+$complete -n $none -a find -d 'Find a shortest run that has these lines'
+$complete -n $none -a tour -d 'Write schedules that take every transition of a lock'
+$complete -n $none -a space -d 'Count the states of all runs of a lock'
+$complete -n $none -a why -d 'Find what each step of a lock is for'
+$complete -n $none -a cover -d 'Count which kinds of transition traces took'
+$complete -n $none -a help -d 'Print help'
+$complete -n $none -s V -l version -d 'Print the version'
+$complete -n "not $help" -s h -l help -d 'Print help'
+$complete -n '__locktrace check' -l format -x -a 'text tap json' -d 'The form of the reports'
+$complete -n '__locktrace check' -l color -x -a 'auto always never' -d 'When the text has colors'
+$complete -n '__locktrace check order' -s q -l quiet -d 'Write no report'
+$complete -n '__locktrace check' -l summary -d 'Count moves, waits and more'
+$complete -n '__locktrace check' -s j -l jobs -x -a '(seq 64)' -d 'How many threads share the files'
+$complete -n '__locktrace check' -l page -r -F -d 'Write the page with the trace in it'
+$complete -n '__locktrace check' -l from -r -F -d 'The page that takes the trace'
+$complete -n '__locktrace explain' -l moves -x -d 'Only the moves in these lines, as 5..10'
+$complete -n '__locktrace explain' -l names -x -d 'What the threads are called'
+$complete -n '__locktrace order' -s o -x -a '(__fish_complete_directories)' \
     -d 'Where the trace and the schedules are written'
-complete -c locktrace -n '__locktrace order' -l format -x -a 'text tap json' \
-    -d 'The form of the report'
-complete -c locktrace -n '__locktrace tour why' -l rounds -x \
+$complete -n '__locktrace order' -l format -x -a 'text tap json' -d 'The form of the report'
+$complete -n '__locktrace tour why' -l rounds -x -d 'How many times each thread takes the lock'
+$complete -n '__locktrace find space' -l rounds -x -a any \
     -d 'How many times each thread takes the lock'
-complete -c locktrace -n '__locktrace find space' -l rounds -x -a any \
-    -d 'How many times each thread takes the lock'
-complete -c locktrace -n '__locktrace find tour space why' -l bits -x -d 'How many bits a word has'
-complete -c locktrace -n '__locktrace find tour space why' -l limit -x \
-    -d 'How many states are searched at most'
-complete -c locktrace -a "$locks" \
+$complete -n '__locktrace find tour space why' -l bits -x -d 'How many bits a word has'
+$complete -n '__locktrace find tour space why' -l limit -x -d 'How many states are searched at most'
+$complete -a "$locks" \
     -n "__locktrace find tour space why; and not __fish_seen_subcommand_from $locks"
-complete -c locktrace -n '__locktrace tour' -s o -x -a '(__fish_complete_directories)' \
+$complete -n '__locktrace tour' -s o -x -a '(__fish_complete_directories)' \
     -d 'Where the schedules are written'
-complete -c locktrace -n '__locktrace space' -l format -x -a 'text json dot' \
-    -d 'The form of the counts'
-complete -c locktrace -n '__locktrace why' -l runs -d 'Write the moves of each run'
-complete -c locktrace -n '__locktrace cover' -l format -x -a 'text json' -d 'The form of the counts'
-complete -c locktrace -n '__locktrace cover' -l require -x -a '(__locktrace_kinds)' \
+$complete -n '__locktrace space' -l format -x -a 'text json dot' -d 'The form of the counts'
+$complete -n '__locktrace why' -l runs -d 'Write the moves of each run'
+$complete -n '__locktrace cover' -l format -x -a 'text json' -d 'The form of the counts'
+$complete -n '__locktrace cover' -l require -x -a '(__locktrace_kinds)' \
     -d 'Kinds that may not be missing, or all'
-complete -c locktrace -n '__locktrace check explain order schedule find cover' -F
-complete -c locktrace -n $help -a "$commands"
+$complete -n '__locktrace check explain order schedule find cover' -F
+$complete -n $help -a "$commands"
