@@ -24,37 +24,18 @@ static int is_granted(size_t size)
     return block != NULL;
 }
 
+/* Makes requests of these sizes in turn: `1` in `due` is one that is granted, and `0` is none. */
+#define REQUESTS(due, ...)                                                                         \
+    do {                                                                                           \
+        const size_t sizes[] = {__VA_ARGS__};                                                      \
+        for (int k = 0; due[k]; k++) EXPECT(is_granted(sizes[k]) == (due[k] == '1'));              \
+    } while (0)
+
 static void *ten_requests(void *count)
 {
     for (int k = 0; k < 10; k++)
         if (!is_granted(8)) __atomic_add_fetch((int *)count, 1, __ATOMIC_SEQ_CST);
     return NULL;
-}
-
-static void without_library(void)
-{
-    EXPECT(is_granted(HERE));
-    EXPECT(is_granted(ARM + 1));
-    EXPECT(is_granted(8));
-    EXPECT(is_granted(ASK));
-}
-
-static void second_of_three(void)
-{
-    EXPECT(is_granted(ARM + 2));
-    EXPECT(is_granted(8));
-    EXPECT(!is_granted(8));
-    EXPECT(is_granted(8));
-    EXPECT(!is_granted(ASK));
-    EXPECT(is_granted(8));
-}
-
-static void not_reached(void)
-{
-    EXPECT(is_granted(ARM + 2));
-    EXPECT(is_granted(8));
-    EXPECT(is_granted(ASK));
-    EXPECT(is_granted(8));
 }
 
 static void grown_and_aligned(void)
@@ -92,12 +73,12 @@ static void one_of_two_threads(void)
 int main(int words, char **word)
 {
     if (words > 1 && !strcmp(word[1], "plain")) {
-        without_library();
+        REQUESTS("1111", HERE, ARM + 1, 8, ASK);
         return failed;
     }
-    EXPECT(!is_granted(HERE));
-    second_of_three();
-    not_reached();
+    REQUESTS("0", HERE);
+    REQUESTS("110101", ARM + 2, 8, 8, 8, ASK, 8); /* the second of three is refused */
+    REQUESTS("1111", ARM + 2, 8, ASK, 8);         /* no second one comes */
     grown_and_aligned();
     one_of_two_threads();
     return failed;
