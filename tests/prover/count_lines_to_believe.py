@@ -16,88 +16,60 @@ from pathlib import Path
 CRATES = Path(__file__).resolve().parents[2] / "crates"
 THEOREM = "MainTheorem.EveryRunIsAsPromised"
 
-IMPORT = re.compile(r"use Rattle\.(?:lk_locks|lk_words)\.specs\.([\w.]+?)(?:\.\{(.*)\})?$")
-# An import of a type of the code, of its variants, or of what the prover knows about it.
-DECLARED = re.compile(r"use Rattle\.\w+\.specs\.(?:declared|contracts)\.([\w.]+)\."
+# An import of a file of definitions or of names in it; of a type of the code, of its variants, or of
+# what the prover knows about it.
+IMPORT = re.compile(r"(?:pub )?use Rattle\.(?:lk_locks|lk_words)\.specs\.([\w.]+?)(?:\.\{(.*)\})?$")
+DECLARED = re.compile(r"(?:pub )?use Rattle\.\w+\.specs\.(?:declared|contracts)\.([\w.]+)\."
                       r"(?!TheVariants)(\w+)(?:\.TheVariants)?(?:\.\{(.*)\}| as (\w+))$")
-TYPE = re.compile(r"pub (?:enum|struct) (\w+)")
-DEFINITION = re.compile(r"(?:abbrev pub|pub record|pub data)\s+(\S+)")
+OPENS = re.compile(r"(?:abbrev pub|pub (?:record|data|enum|struct))\s+([\w'-]+)")
+NO_DEFINITION = re.compile(r"\s*(?:--|//|#\[|$)|(?:pub )?(?:use|mod) ")
 NAME = re.compile(r"(?<![\w.])([A-Za-z_]\w*)(?:\.([A-Za-z_]\w*))?")
 
 
 class Definitions:
-    """The definitions of one file: their lines, and the meaning of each imported name."""
+    """The definitions of one file: their lines, and what each imported name means: a name in a
+    file, or a file. A file of the code has enums and structs, which may contain one another."""
 
-    def __init__(self, module, lines):
-        self.module, self.lines = module, {}
-        self.names, self.modules, self.types = {}, {}, {}
-        self.read(lines)
-
-    def read(self, lines):
+    def __init__(self, file, lines):
+        self.file, self.lines, self.means = file, {}, {}
         name = None
         for line in lines:
-            if line.startswith(("use ", "pub use ")):
-                self.add_import(line.removeprefix("pub "))
-            elif line.strip() and not line.lstrip().startswith("--") and not (
-                    line.startswith("pub mod")):
-                opens = DEFINITION.match(line)
-                name = opens.group(1) if opens else name
+            self.add_import(line)
+            opens = OPENS.match(line)
+            name = opens[1] if opens else name
+            if name and not NO_DEFINITION.match(line):
                 self.lines.setdefault(name, []).append(line)
+            if line == "}" and file.endswith(".rt"):
+                name = None
 
     def add_import(self, line):
         if declared := DECLARED.match(line):
-            module, kind, names, alias = declared.groups()
-            self.types.update((name.strip(), (f"{module}.rt", kind))
+            file, kind, names, alias = declared.groups()
+            self.means.update((name.strip(), (f"{file}.rt", kind))
                               for name in (names or alias).split(","))
-            return
-        found = IMPORT.match(line)
-        if not found:
-            return
-        module, names = found.groups()
-        if names is None:
-            self.modules[module.split(".")[-1]] = module
-        else:
-            self.names.update((name.strip(), module) for name in names.split(","))
-
-    def passed_on(self, name):
-        """The type of the code that a name stands for, if this file imports it."""
-        return [self.types[name]] if name in self.types else []
+        elif found := IMPORT.match(line):
+            file, names = found.groups()
+            self.means.update({name.strip(): (file, name.strip()) for name in names.split(",")}
+                              if names else {file.split(".")[-1]: (file, None)})
 
     def named_in(self, definition):
         """Each (file, name) to which the text of a definition may refer."""
         for first, second in NAME.findall("\n".join(self.lines[definition])):
-            if second and first in self.modules:
-                yield self.modules[first], second
-            elif first in self.types:
-                yield self.types[first]
-            elif first in self.lines:
-                yield self.module, first
-            elif first in self.names:
-                yield self.names[first], first
-
-
-class Types(Definitions):
-    """The enums and structs of one file of code, which may contain one another."""
-
-    def read(self, lines):
-        name = None
-        for line in lines:
-            if opens := TYPE.match(line):
-                name = opens.group(1)
-            if name and line.strip() and not re.match(r"\s*(//|#\[)", line):
-                self.lines.setdefault(name, []).append(line)
-            if line == "}":
-                name = None
+            file, name = self.means.get(first, (None, None))
+            if first in self.lines:
+                yield self.file, first
+            elif file and (name or second):
+                yield file, name or second
 
 
 def read_all():
     files = {}
     for crate in (CRATES / "lk_words", CRATES / "lk_locks"):
-        for kind, folder, ending in ((Definitions, "specs", ".antt"), (Types, "src", ".rt")):
+        for folder, ending in (("specs", ".antt"), ("src", ".rt")):
             for path in (crate / folder).rglob(f"*{ending}"):
-                module = ".".join(path.relative_to(crate / folder).with_suffix("").parts)
-                module += ending if kind is Types else ""
-                files[module] = kind(module, path.read_text().splitlines())
+                file = ".".join(path.relative_to(crate / folder).with_suffix("").parts)
+                file += ending if ending == ".rt" else ""
+                files[file] = Definitions(file, path.read_text().splitlines())
     return files
 
 
@@ -105,31 +77,29 @@ def reached(files, root):
     """The definitions that `root` reaches, itself included."""
     seen, waiting = set(), [root]
     while waiting:
-        module, name = waiting.pop()
-        if name not in files[module].lines:
+        file, name = waiting.pop()
+        if name not in files[file].lines:
             # `Types` passes on the types of the code
-            waiting.extend(files[module].passed_on(name))
-            continue
-        if (module, name) in seen:
-            continue
-        seen.add((module, name))
-        waiting.extend(files[module].named_in(name))
+            waiting += [files[file].means[name]] if name in files[file].means else []
+        elif (file, name) not in seen:
+            seen.add((file, name))
+            waiting += files[file].named_in(name)
     return seen
 
 
 def main():
-    module, _, name = (sys.argv[1] if len(sys.argv) > 1 else THEOREM).rpartition(".")
+    file, _, name = (sys.argv[1] if len(sys.argv) > 1 else THEOREM).rpartition(".")
     files = read_all()
-    if module not in files or name not in files[module].lines:
-        sys.exit(f"no definition {module}.{name}")
-    found = reached(files, (module, name))
+    if file not in files or name not in files[file].lines:
+        sys.exit(f"no definition {file}.{name}")
+    found = reached(files, (file, name))
     total = 0
-    for module in sorted({module for module, _ in found}):
-        counts = {name: len(lines) for name, lines in files[module].lines.items()
-                  if (module, name) in found}
+    for file in sorted({file for file, _ in found}):
+        counts = {name: len(lines) for name, lines in files[file].lines.items()
+                  if (file, name) in found}
         total += sum(counts.values())
         listed = ", ".join(f"{name} {count}" for name, count in counts.items())
-        print(f"{module:12} {sum(counts.values()):4}  {listed}")
+        print(f"{file:12} {sum(counts.values()):4}  {listed}")
     print(f"{total} lines in {len(found)} definitions")
 
 
