@@ -71,8 +71,8 @@ def pieces_of(written):
 
 
 def alternatives(*written):
-    """The texts for which some with `{A, B}` stand. Braces at the same place of several go together:
-    each has its first, or each its second."""
+    """The texts for which some with `{A, B}` stand. Braces at the same place of several texts go
+    together: each has its first, or each its second."""
     parts = [[part.split(", ") if at % 2 else [part] for at, part in
               enumerate(re.split(r"\{(.*?)\}", text))] for text in written]
     if any(list(map(len, text)) not in ([1], list(map(len, parts[0]))) for text in parts):

@@ -16,8 +16,8 @@ from pathlib import Path
 CRATES = Path(__file__).resolve().parents[2] / "crates"
 THEOREM = "MainTheorem.EveryRunIsAsPromised"
 
-# An import of a file of definitions or of names in it; of a type of the code, of its variants, or of
-# what the prover knows about it.
+# An import of a file of definitions, or of names in it; and one of a type of the code, of its
+# variants, or of what the prover knows about it.
 IMPORT = re.compile(r"(?:pub )?use Rattle\.(?:lk_locks|lk_words)\.specs\.([\w.]+?)(?:\.\{(.*)\})?$")
 DECLARED = re.compile(r"(?:pub )?use Rattle\.\w+\.specs\.(?:declared|contracts)\.([\w.]+)\."
                       r"(?!TheVariants)(\w+)(?:\.TheVariants)?(?:\.\{(.*)\}| as (\w+))$")
