@@ -4,41 +4,36 @@ in which each thread moves that is in a call or holds the lock.
 A cycle stays within a strongly connected component of the positions (Tarjan, SIAM J. Comput. 1(2),
 1972). A component has a cycle that has all that is asked if its transitions and positions have it.
 """
+import sys
 from collections import deque
 
 from spaces import AGAIN, IS, NOT, Wanted, agrees, parsed
 
+sys.setrecursionlimit(100_000)  # above the states of any space here
+DONE = float("inf")  # of a component that was found
+
 
 def components(follow, start):
-    """The strongly connected components of a graph, without recursion."""
-    number, low, stack, on, work = {}, {}, [], set(), []
+    """The strongly connected components of a graph."""
+    number, low, stack, found = {}, {}, [], []
 
-    def enter(place):
+    def visit(place):
         number[place] = low[place] = len(number)
         stack.append(place)
-        on.add(place)
-        work.append((place, iter(follow(place))))
+        for to in follow(place):
+            if to not in number:
+                visit(to)
+            low[place] = min(low[place], low[to])
+        if low[place] == number[place]:
+            at = stack.index(place)
+            found.append(set(stack[at:]))
+            low.update(dict.fromkeys(stack[at:], DONE))
+            del stack[at:]
 
     for root in start:
         if root not in number:
-            enter(root)
-        while work:
-            place, ways = work[-1]
-            for to in ways:
-                if to not in number:
-                    enter(to)
-                    break
-                if to in on:
-                    low[place] = min(low[place], number[to])
-            else:
-                work.pop()
-                if work:
-                    low[work[-1][0]] = min(low[work[-1][0]], low[place])
-                if low[place] == number[place]:
-                    at = stack.index(place)
-                    yield set(stack[at:])
-                    on -= set(stack[at:])
-                    del stack[at:]
+            visit(root)
+    return found
 
 
 class Endless:
