@@ -1,4 +1,4 @@
-"""What a user can do on a minimal Debian 12 or 13 with a C compiler: at first with two files of this
+"""What a user can do on a minimal Debian 12 or 13 with a C compiler: first with two files of this
 repository, then with the package.
 
 By two commands the user explores the guide's lock with the first mistake that the guide plants.
