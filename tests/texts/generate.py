@@ -9,12 +9,12 @@ it by hand. places.py and modules.py fill places without such comments, and by_h
 words that people write in several places.
 """
 import re
+import subprocess
 import sys
 from textwrap import fill, indent
 
 import by_hand
 import modules
-import page_why
 import places
 import plans
 from catalogue import (BITS, CALLS, DAY, DIFFERS, EXPECTED, FAULTS, LIMITS, LOCK_CODES, LOCKS,
@@ -22,10 +22,9 @@ from catalogue import (BITS, CALLS, DAY, DIFFERS, EXPECTED, FAULTS, LIMITS, LOCK
                        RESULTS, STEPS, TOP, TRANSITIONS, VERSION, calls_of, found, is_monitor,
                        read, title_of, words_of)
 from dispatches import DISPATCHES
-from lists import LISTS_OF_LOCKS
+from lists import LISTS_OF_LOCKS, SENTENCES
 from orders import ORDERS
 from phases import PHASE_TABLES
-from sentences import SENTENCES
 from steps import STEP_TABLES
 from tables import TABLES
 
@@ -218,9 +217,23 @@ def faults(is_check):
             *by_hand.faults()]
 
 
+def write_why(lock):
+    """Writes what `locktrace why LOCK --runs` says of a lock into page/why, if the program is built
+    and knows the lock. tests/locktrace/test_why.py compares the two."""
+    program = TOP / "crates" / "locktrace" / "out" / "locktrace"
+    done = subprocess.run([program, "why", lock, "--runs"], capture_output=True,
+                          check=False) if program.exists() else None
+    if done is None or done.returncode:
+        said = done.stderr.decode().strip() if done else "locktrace is not built"
+        print(f"page/why/{lock}.txt stays as it is: {said}")
+        return
+    (TOP / "page" / "why" / f"{lock}.txt").write_bytes(done.stdout)
+
+
 if __name__ == "__main__":
     if sys.argv[1:] not in ([], ["--check"]):
         sys.exit(__doc__)
     if not sys.argv[1:]:
-        page_why.write()
+        for each in LOCKS.values():
+            write_why(each)
     sys.exit("\n".join(faults(bool(sys.argv[1:]))) or 0)

@@ -1,10 +1,10 @@
 """The places that list the locks: in `lk_locks` and `lk_lines` the types by name, the proofs that
 differ only by the module of a lock, and the names in definitions; the files of the oracle and of
-the page.
+the page. And the sentences that list words, where nothing marks them.
 """
 import re
 
-from catalogue import CARRIED, LOCKS, code_of, found
+from catalogue import CALLS, CARRIED, LOCKS, OUTCOMES, PLACES, STEPS, code_of, found
 from dispatches import MODULE_LIST, MONITORS, QUEUES
 from places import Place
 from steps import VARIABLE
@@ -55,4 +55,22 @@ LISTS_OF_LOCKS = (
     Place(PAGE, "gives its sentences.\n\n", "\n/**", "".join(
         f"import {{ {re.sub('_(.)', lambda it: it[1].upper(), module)} }} from './{module}.js';\n"
         for module in sorted(MODULES.values()))),
+)
+
+
+def either(words):
+    *others, last = words.values()
+    return f"{', '.join(others)} or {last}"
+
+
+HEADER, DUE = "record/src/lockreplay_record.h", "crates/lk_trace/src/due.rt"
+UNREADABLE = "crates/lk_lines/src/unreadable.rt"
+SENTENCES = (
+    Place(HEADER, "The lock is ", ".\n", either(LOCKS)),
+    Place(HEADER, "LR_CALL(call)              ", "\n", either(CALLS)),
+    Place("crates/locktrace/src/commands.rt", '"LOCK" Needed, "', '");', either(LOCKS)),
+    Place(UNREADABLE, 'Lock,\n    #[error("', '")]', either(LOCKS)),
+    Place(UNREADABLE, "or a step (", ')")]', ", ".join(STEPS.values())),
+    Place(DUE, 'OUTCOME: &str = "', '";', either(OUTCOMES)),
+    Place(DUE, "a word (", ")", either(PLACES)),
 )
