@@ -370,12 +370,3 @@ def test_file_that_cannot_be_removed(built, tmp_path, mode, name):
     (tmp_path / "logs" / name / "inner").mkdir(parents=True)
     assert answer(built(SOURCES / "ticket.c", mode), 2, 1, 1, "logs", cwd=tmp_path) == refusal(
         f"logs/{name}: Directory not empty")
-
-
-@pytest.mark.parametrize("refused", ["calloc(count, size)", "realloc(old, size)"])
-def test_no_memory_for_the_check(built, refusing, tmp_path, refused):
-    """A run that could not be checked is not accepted."""
-    program = built(SOURCES / "ticket.c", "SEED", "-DLR_CHECK", "-Wno-unused",
-                    *refusing(f"{refused} NULL"))
-    assert answer(program, 2, 3, 1, tmp_path / "logs")[1:] == refusal(
-        "no memory for the check")[1:]

@@ -7,7 +7,7 @@ import signal
 
 import pytest
 
-from recorders import KEPT, SOURCES, refusal
+from recorders import HERE, KEPT, SOURCES, refusal
 from tree import answer, ran
 
 pytestmark = pytest.mark.slow
@@ -201,14 +201,42 @@ def test_no_thread(built, refusing, tmp_path, mode, words):
     assert "way: " not in done.stderr and done.returncode == 3
 
 
-def test_no_memory_for_a_saved_run(built, refusing, tmp_path):
-    """A saved run whose choices cannot be kept is not made again."""
-    refuses = refusing("realloc(old, size) _Generic(old, struct lr_way *: NULL, "
-                       "default: realloc(old, size))", "struct lr_way;")
+def only(kind):
+    """A request for more room, which is refused for values of this type."""
+    return f"realloc(old, size) _Generic(old, {kind} *: NULL, default: realloc(old, size))"
+
+
+NOTHING = "0 schedules of 0 moves, 0 not followed\n"
+# The source, its mode, the request that is refused, the words, and what is said on both outputs.
+WITHOUT_MEMORY = [
+    *(("ticket", "SEED -DLR_CHECK -Wno-unused", f"{call} NULL", "2 3 1 logs", "",
+       "no memory for the check") for call in ("calloc(count, size)", "realloc(old, size)")),
+    # The names of a folder's schedules have no room, or the lines of one: none is followed.
+    ("ticket", "FOLLOW", "malloc(size) ((void)(size), NULL)", "tour logs", NOTHING,
+     "tour: Cannot allocate memory"),
+    ("ticket", "FOLLOW", only("lr_line"), "tour logs", NOTHING,
+     "tour/0.schedule: Cannot allocate memory\nlockreplay_record: tour: Invalid argument"),
+    # A way, a trail, and clocks.
+    *(("unnoted", "EXPLORE -DSET(n)=(void)n", request, "2 1 1 logs",
+       "1 run with up to 0 preemptions, all of them accepted, and there are more\n",
+       "no memory for the other runs") for request in (
+           "malloc(size) (NULL)", "calloc(count, size) ((count) == 1 ? NULL : calloc(count, size))",
+           only("unsigned"))),
+    ("mcs", "EXPLORE", only("struct lr_way"), "2 1 again way", "", "way: Cannot allocate memory"),
+]
+
+
+@pytest.mark.parametrize("source, mode, refused, words, output, said", WITHOUT_MEMORY)
+def test_no_memory(built, refusing, tmp_path, source, mode, refused, words, output, said):
+    """A run that cannot be kept or checked is neither right nor wrong."""
+    (tmp_path / "tour").mkdir()
+    for number in range(3):
+        (tmp_path / "tour" / f"{number}.schedule").write_text(
+            "lock ticket threads 1 bits 4\n0 acquire\n")
     (tmp_path / "way").write_text("# way 1\n")
-    program = built(SOURCES / "mcs.c", "EXPLORE", *refuses)
-    assert answer(program, 2, 1, "again", "way", cwd=tmp_path) == refusal(
-        "way: Cannot allocate memory")
+    program = built((HERE if source == "unnoted" else SOURCES) / f"{source}.c", *mode.split(),
+                    *refusing(refused, "struct lr_way;"))
+    assert answer(program, *words.split(), cwd=tmp_path) == refusal(said, output)
 
 
 def test_wrong_schedule_among_others(ended, tmp_path):

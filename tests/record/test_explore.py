@@ -184,17 +184,6 @@ def test_no_memory(built, refusing, tmp_path, compiler, kept):
     assert (refusal, done.returncode) == (f"no memory for the run's {kept}s", 3)
 
 
-# An allocation that is refused: of a way, of a trail, and of clocks.
-@pytest.mark.parametrize("refused", [
-    "malloc(size) (NULL)", "calloc(count, size) ((count) == 1 ? NULL : calloc(count, size))",
-    "realloc(old, size) _Generic(old, unsigned *: NULL, default: realloc(old, size))"])
-def test_no_memory_for_the_other_runs(built, refusing, tmp_path, refused):
-    program = built(HERE / "unnoted.c", "EXPLORE", *refusing(refused), "-DSET(n)=(void)n")
-    assert answer(program, 2, 1, 1, tmp_path / "logs") == refusal(
-        "no memory for the other runs",
-        "1 run with up to 0 preemptions, all of them accepted, and there are more\n")
-
-
 def test_room_of_a_search(planted, tmp_path):
     """A run whose moves have no room is refused, and its trace says that it was cut."""
     done = ran(planted("ticket", None, "-DLR_MOVES=5"), 2, 1, 2, tmp_path / "logs")

@@ -188,20 +188,6 @@ def test_trace_of_a_schedule(built, tmp_path, lesson):
     assert words_of((tmp_path / "it.trace").read_text()) == words_of(text)
 
 
-@pytest.mark.parametrize("refused, said", [
-    ("malloc(size) ((void)(size), NULL)", ["{}: Cannot allocate memory"]),
-    ("realloc(old, size) _Generic(old, lr_line *: NULL, default: realloc(old, size))",
-     ["{}/0.schedule: Cannot allocate memory", "{}: Invalid argument"])], ids=["names", "lines"])
-def test_no_memory_for_schedules(built, refusing, tmp_path, refused, said):
-    """If the names of a folder's schedules have no room, or the lines of one, none is followed."""
-    for number in range(3):
-        (tmp_path / f"{number}.schedule").write_text("lock ticket threads 1 bits 4\n0 acquire\n")
-    program = built(SOURCES / "ticket.c", "FOLLOW", *refusing(refused))
-    assert answer(program, tmp_path, tmp_path) == (
-        "0 schedules of 0 moves, 0 not followed\n",
-        "".join(f"lockreplay_record: {it.format(tmp_path)}\n" for it in said), 3)
-
-
 # A write lock whose holder lets others go first inside of the monitor, and signals.
 MONITOR = f"""#include "{TOP}/record/lockreplay_record.h"
 static int is_taken, is_inside, sections;
