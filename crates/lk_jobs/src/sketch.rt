@@ -19,7 +19,7 @@ use std::rt::Runtime;
 
 /// Where a sketch is.
 #[derive(Drop)]
-pub enum Place {
+pub enum SketchSource {
     /// The name of a file. `-` is standard input.
     File(String),
     /// A header, and lines.
@@ -193,10 +193,10 @@ fn put_named(text: &mut Text, alloc: Global, place: (&str, u64), line: &[u8], fa
 }
 
 /// A sketch with its lock, or how the job ends without one.
-pub(crate) type Taken = Result<(Sketch, Shape), Status>;
+pub(crate) type ReadSketch = Result<(Sketch, Shape), Status>;
 
 // A sketch that was read to its end.
-fn whole(sketch: Sketch, place: (&str, u64), said: &mut Outputs) -> Taken {
+fn whole(sketch: Sketch, place: (&str, u64), said: &mut Outputs) -> ReadSketch {
     let fault = match sketch.header {
         Some(_) if sketch.way.is_open() => LineFault::Endless,
         Some(header) => return Ok((sketch, header)),
@@ -211,7 +211,7 @@ fn read_input<R: Read + Drop>(
     input: R,
     name: &str,
     said: &mut Outputs,
-) -> Result<Taken, AllocError> {
+) -> Result<ReadSketch, AllocError> {
     let (alloc, errors, mut sketch) = (said.alloc, &mut said.errors, Sketch::new(said.alloc));
     let (number, ended) = take_lines(alloc, input, |number, line| -> Result<_, AllocError> {
         let Some(fault) = sketch.line(alloc, line.bytes())? else {
@@ -228,7 +228,7 @@ fn read_input<R: Read + Drop>(
 }
 
 // Reads the sketch whose lines are words of a command.
-fn read_words(words: &[String], said: &mut Outputs) -> Result<Taken, AllocError> {
+fn read_words(words: &[String], said: &mut Outputs) -> Result<ReadSketch, AllocError> {
     let (alloc, mut sketch, mut last) = (said.alloc, Sketch::new(said.alloc), "");
     for word in words {
         last = word.as_str();
@@ -252,12 +252,12 @@ pub fn lock_named(
 /// Reads a sketch, and says what is wrong with it.
 pub(crate) fn read_sketch<R: Runtime>(
     rt: &R,
-    place: &Place,
+    source: &SketchSource,
     said: &mut Outputs,
-) -> Result<Taken, AllocError> {
-    match place {
-        Place::Words(words) => read_words(words.as_slice(), said),
-        Place::File(name) => match open(rt, name.as_str()) {
+) -> Result<ReadSketch, AllocError> {
+    match source {
+        SketchSource::Words(words) => read_words(words.as_slice(), said),
+        SketchSource::File(name) => match open(rt, name.as_str()) {
             Ok(input) => read_input(input, name, said),
             Err(error) => Ok(Err(put_unread(&mut said.errors, said.alloc, name, &error))),
         },

@@ -25,7 +25,7 @@ enum Form {
     Text,
     /// One text. The word may not be missing.
     Needed,
-    /// At least so many texts.
+    /// At least this number of texts.
     Texts(usize),
     /// How many workers there are.
     Workers,

@@ -56,7 +56,7 @@ fn job_given(rt: &HostRuntime) -> Result<Job, ParseFault> {
 // Searches a lock's space, and gives the status that the program ends with.
 fn found_in<R: Runtime>(rt: &R, job: &SearchJob, said: &mut Outputs) -> Result<u8, Failure> {
     let (header, asked, aim) = match job {
-        SearchJob::Find { place, asked } => return Ok(find_run(rt, place, *asked, said)? as u8),
+        SearchJob::Find { source, asked } => return Ok(find_run(rt, source, *asked, said)? as u8),
         SearchJob::Cover(job) => return Ok(cover_traces(rt, job, said)?),
         SearchJob::Lock { header, asked, aim } => (header, *asked, aim),
     };

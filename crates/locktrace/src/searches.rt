@@ -3,7 +3,7 @@
 use crate::command_line::{ParseFault, choice, copied, folder_given, names_in, said_of};
 use clap::ArgMatches;
 use lk_checks::cover::{CoverFormat, CoverJob, is_kind};
-use lk_jobs::sketch::{Place, rounds_of};
+use lk_jobs::sketch::{SketchSource, rounds_of};
 use lk_jobs::space::{Asked, Rounds, SpaceFormat};
 use lk_text::STANDARD;
 use std::alloc::{AllocError, Global};
@@ -15,7 +15,7 @@ const LIMIT: u64 = 1_000_000;
 #[derive(Drop)]
 pub enum SearchJob {
     Find {
-        place: Place,
+        source: SketchSource,
         asked: Asked,
     },
     Cover(CoverJob),
@@ -82,18 +82,18 @@ const SKETCH: &str = "give a lock, its threads and the lines of a sketch, or the
 /// The job of the command `find`.
 pub fn find_given(alloc: Global, matches: &ArgMatches<'_>) -> Result<SearchJob, ParseFault> {
     let words = matches.get_strs("words").unwrap_or(&[]);
-    let place = match words {
+    let source = match words {
         [_] if matches.get_str("bits").is_some() => return Err(ParseFault::Misused(BITS)),
-        [file] => Place::File(String::from_str(alloc, *file)?),
+        [file] => SketchSource::File(String::from_str(alloc, *file)?),
         [lock, threads, parts @ ..] if !parts.is_empty() => {
             let mut lines = vec![in alloc; header_of(alloc, matches, *lock, *threads)?]?;
             lines.extend(copied(alloc, parts)?)?;
-            Place::Words(lines)
+            SketchSource::Words(lines)
         }
         _ => return Err(ParseFault::Misused(SKETCH)),
     };
     let asked = asked_of(alloc, matches)?;
-    Ok(SearchJob::Find { place, asked })
+    Ok(SearchJob::Find { source, asked })
 }
 
 // The search of the lock that is named; with two threads, if nothing is said of them.
