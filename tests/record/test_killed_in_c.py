@@ -1,7 +1,7 @@
 """Free threads in C whose process is killed leave logs.
 
 A process makes the logs from the notes of the run. The lock of endings.c is right; a test gives it
-a BODY, which thread 1 runs in its fourth round. test_killed_in_rust.py has the tests of the Rust crate.
+a BODY, which thread 1 runs in its fourth round. test_killed_in_rust.py tests the Rust crate.
 """
 import os
 import re
