@@ -153,7 +153,7 @@ function key(name) {
   document.body.dispatchEvent(new KeyboardEvent('keydown', { key: name, bubbles: true }));
 }
 
-// What a function takes at each of these moves.
+// The values of a function at each of these moves.
 const atEach = (moves, take) => moves.map((move) => {
   go(move);
   return take(move);
@@ -203,7 +203,7 @@ function follow(fragment) {
 // Makes the page write its address at once.
 const leave = () => dispatchEvent(new Event('pagehide'));
 
-// What the page would do a while after an act.
+// The function that the page would call a while after an act.
 function delayedBy(act) {
   const { setTimeout } = window;
   let later;
