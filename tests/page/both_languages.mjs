@@ -68,6 +68,18 @@ const otherwise = (english, other, path) => {
 };
 assert.deepEqual(otherwise(sources, de, []).sort(), OTHERWISE);
 
+// Texts that German does not have: names of the program, its files and its words, and signs alone.
+const ALIKE = [
+  'page.outcomes', 'page.own.fileName', 'page.own.template', 'page.product', 'page.quiz.fileName',
+  'page.quiz.short', 'page.shortThread', 'page.spoken.did', 'page.wordBecomes',
+];
+const lacking = (english, other, path) => (
+  english instanceof Object && !(english instanceof Function)
+    ? Object.keys(english).flatMap((name) => (
+      name in other ? lacking(english[name], other[name], [...path, name])
+        : [[...path, name].join('.')])) : []);
+assert.deepEqual(lacking(sources, de, []).sort(), ALIKE);
+
 // Each text of a lesson, a refusal or a fault has a German translation.
 const german = JSON.parse(readFileSync(
   new URL('../../examples/lessons.de.json', import.meta.url), 'utf8'));
