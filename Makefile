@@ -23,7 +23,6 @@ used_by = $(filter lk_%,$(shell sed -n 's/^$(1)[ :]//p' crates.txt))
 SOURCES := $(call sources_of,*)
 PROGRAM := crates/lockreplay/out/lockreplay
 TRACER  := crates/locktrace/out/locktrace
-LESSON  := examples/ticket-hand-over.schedule
 MODULE  := crates/lk_page/out/lockreplay.wasm
 MODULE_SOURCES := $(call sources_of,lk_page $(call used_by,lk_page))
 # the check of a trace, for C
@@ -35,6 +34,9 @@ TESTS_SOURCES := $(call sources_of,$(TESTS) $(call used_by,$(TESTS)))
 SOAK_SECONDS := 3600
 MISTAKE :=
 PROVE :=
+
+# The kit that proves and builds this tree: `rt version` ends with this sum of its logic.
+LOGIC := dac8208d650f15bf
 
 # This file is newer than the sources while `out` has the libraries that the gate proved of them.
 PROVED := crates/lk_words/out/proved
@@ -48,19 +50,22 @@ SPREAD := -n $(LANES) --dist loadgroup
 # Targets that are no files: those with a line ##, and these
 .PHONY: $(shell sed -n 's/^## \([a-z-]*\).*/\1/p' Makefile packaging/targets.mk) \
 	help needs-rt test-needs test-parts test-programs page-built \
-	gate-and-page gate-built gate-module gate-library test-page-built by-root
+	gate-and-page gate-built gate-module gate-library test-page-committed test-page-built by-root
 
 help:
 	@sed -n 's/^## //p' $(MAKEFILE_LIST) | awk -F ' [|] ' '{ printf "make %-43s%s\n", $$1, $$2 }'
 
 ## demo | replays a schedule of two threads, in a minute: nothing is proved
 demo: needs-rt
-	@cd crates/lockreplay && { said=$$(rt try -- replay < ../../$(LESSON) 2>&1 >&3) || \
+	@cd crates/lockreplay && { said=$$(rt try -- replay < stdin 2>&1 >&3) || \
 	    { echo "$$said" >&2; exit 1; }; } 3>&1
-	@echo 'Not proved: "make programs" proves and builds lockreplay and locktrace, in half an hour.'
+	@echo 'Not proved: "make lockreplay" proves and builds this program.' >&2
 
+# $(call stop_unless_right,LINE) stops if this line of `rt version` is of another kit.
+stop_unless_right = $(if $(filter $(LOGIC),$(lastword $(1))),,$(error \
+	have $(or $(1),no rt on the path that works), need a Rattle kit of logic $(LOGIC)))
 needs-rt:
-	@command -v rt > /dev/null || { echo 'rt, of the Rattle kit, is not on the path' >&2; exit 1; }
+	@$(call stop_unless_right,$(shell rt version 2> /dev/null | head -n 1))
 
 test-needs: needs-rt
 	@tests/tools/needs.sh
@@ -68,6 +73,11 @@ test-needs: needs-rt
 # What `make test` does after the proofs, in this order. In one run each process would have both
 # browsers open until its last test, and side by side pages that wait take more processor time.
 PARTS := test-programs test-page
+
+# The proofs of the last crates leave processors free. On a machine with more than two, and memory
+# for browsers beside the proofs, the tests that need only the committed page take these.
+IS_SMALL := $(shell [ "$$(nproc)" -gt 2 ] && \
+	awk '/^MemTotal/ { exit $$2 < 15000000 }' /proc/meminfo || echo yes)
 
 ## test | the one test command: proves all from nothing, then tests what is built
 test: test-needs
@@ -77,34 +87,13 @@ test: test-needs
 test-parts:
 	@echo $(PARTS)
 
-# `rt ci` sets `out` aside, and in the end puts the libraries of earlier checks back. They are
-# deleted first, so that `out` has the libraries that it proved. Its copies take gigabytes, and in
-# Debian 13 /tmp is memory.
-#
-# A crate on two processors ends after two thirds of the time, but takes a quarter to a half more of
-# both together. So on a machine with two each crate has one, and on others only the longest chain
-# of crates may have two: `rt ci` gives a crate half of those that are free when its proof begins.
-# The others take what the chain leaves. `rt ci NAME..` keeps what passed, and waits for what
-# another one proves.
-CHAIN  := rt ci lk_trace && rt ci locktrace
-BESIDE := rt ci lk_space && rt ci lk_why lk_catalogue && rt ci lk_workers && \
-	rt ci lockreplay lk_trace_c && rt ci lk_tests lk_page two_threads
-# The last crates of the chain take one or two processors. On a machine that has more, and memory
-# for browsers beside the proofs, the tests that need only the committed page take the others.
-IS_SMALL := $(shell [ "$$(nproc)" -gt 2 ] && \
-	awk '/^MemTotal/ { exit $$2 < 15000000 }' /proc/meminfo || echo yes)
-gate-and-page: BESIDE += && $(PYTEST) $(SPREAD) -m "not (built or timed)" tests/page
-gate-and-page: gate
-
 ## gate | the proofs, from nothing, and the stored runs
 gate: needs-rt
-	rm -rf crates/*/out/rlib
-	export TMPDIR=$${TMPDIR:-/var/tmp} && \
-	if [ "$$(nproc)" -le 2 ]; then RT_JOBS=$$(nproc) rt ci; else \
-	    { RT_JOBS=2 nice sh -c '$(BESIDE)' & beside=$$!; $(CHAIN); chain=$$?; \
-	        wait $$beside && [ $$chain = 0 ] && rt ci; }; fi
-	touch --no-create $(PROGRAM) $(TRACER) $(TESTS_BUILT)
+	tests/tools/gate.sh
 	touch $(PROVED)
+
+gate-and-page:
+	+$(MAKE) --no-print-directory -j 2 gate test-page-committed
 
 # The static libraries, which `rt ci` proves and does not build, over the libraries that it leaves
 gate-built:
@@ -176,6 +165,10 @@ test-page: $(PROGRAM) page-built
 	$(PYTEST) $(SPREAD) -m 'not (timed or planted)' tests/page
 	$(PYTEST) -m timed tests/page
 
+# Nothing is built here, so these tests can run beside the proofs.
+test-page-committed: test-needs
+	nice $(PYTEST) $(SPREAD) -m 'not (built or timed)' tests/page
+
 test-page-built: $(PROGRAM) page-built
 	$(PYTEST) $(SPREAD) -m 'built and not planted' tests/page
 	$(PYTEST) -m timed tests/page
@@ -212,7 +205,13 @@ mutants: needs-rt $(if $(CRATE),,$(PROVED))
 	tests/prover/try_mutants.py $(CRATE)$(addprefix /,$(MISTAKE))
 
 ## programs | builds lockreplay and locktrace
-programs: $(PROGRAM) $(TRACER)
+programs: lockreplay locktrace
+
+## lockreplay | proves and builds lockreplay
+lockreplay: $(PROGRAM)
+
+## locktrace | proves and builds locktrace
+locktrace: $(TRACER)
 
 ## library | builds the static library for traces
 library: $(LIBRARY)
@@ -237,7 +236,7 @@ soak: $(PROGRAM) test-needs
 include packaging/targets.mk
 
 $(PROGRAM): $(SOURCES) | needs-rt
-	cd crates/lockreplay && rt run -- replay < ../../$(LESSON) > /dev/null
+	cd crates/lockreplay && rt run -- replay < stdin > /dev/null
 
 $(TRACER): $(SOURCES) | needs-rt
 	cd crates/locktrace && rt run -- check < stdin > /dev/null

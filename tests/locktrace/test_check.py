@@ -289,6 +289,19 @@ def test_reader_that_left(tracer, words, status):
         assert tracer.run(*words, stdout=pipe) == ("", "", status)
 
 
+@pytest.mark.parametrize("times", [1, 2])
+def test_last_thread_hangs(tracer, times):
+    """Thread 63 polls in vain. That it has not ended may be said twice."""
+    moves = "".join(f"{thread} {word}\n" for thread in (0, 63) for word in ROUND[:3])
+    ends = "".join(f"# thread {thread} has ended\n" for thread in range(63))
+    tracer.write(run="lock ticket threads 64\n" + moves + ends
+                 + times * "# thread 63 has not ended\n")
+    assert tracer.run("check", "run") == (
+        "run: hangs: each thread that has not ended waits\n"
+        "run:7: note: thread 63 waits from here on for now_serving to be 1, its ticket; "
+        "now_serving is 0\nrun: note: held by 0; queue 0,63\n", "", 1)
+
+
 @pytest.mark.parametrize("name", ["runs", "runs/"])
 def test_folder(tracer, name):
     """A folder stands for its traces and schedules, by their names, and for no other file."""

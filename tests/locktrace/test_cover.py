@@ -13,7 +13,7 @@ import search_rows
 from spaces import searched, walk
 from tree import cases
 
-FAILED = "release: failed compare-and-swap"
+FAILED, CALLED = "release: failed compare-and-swap", "acquire: called"
 ROUND = "{0} acquire\n{0} add\n{0} read\n{0} release\n{0} read\n{0} write\n"
 TICKET = """ticket: 6 of 7 kinds of transition, in 60 moves
         10  acquire: called
@@ -52,6 +52,11 @@ def test_rounds(program):
     "required and there": (["--require", FAILED, "late"], "mcs: ", "", 0),
     "required and missing": (["--require", FAILED, "none"], "mcs: ",
                              f"locktrace: missing: {FAILED}\n", 1),
+    "the last of four is missing": (
+        ["--require", f"{CALLED},acquire: took a ticket,release: called,{FAILED}", "ticket"],
+        "ticket: ", f"locktrace: missing: {FAILED}\n", 1),
+    "four are missing": (["--require", f"{CALLED},{FAILED},{CALLED},{FAILED}", "none"], "mcs: ",
+                         2 * f"locktrace: missing: {CALLED}\nlocktrace: missing: {FAILED}\n", 1),
     "all are required": (["--require", "all", "none"], "mcs: ", ALL_MISSING, 1),
     "another value": (["differs"], "mcs: 2 of 16 kinds of transition, in 2 moves\n",
                       "differs:4: refused: thread 0's swap found 1 in tail; "

@@ -9,9 +9,15 @@ from locks import LOCKS
 from tree import TOP, ran
 
 VERDICT = re.compile(r"(?P<illegal>[\d,]+) moves?, and thread \d .+"
-                     r"|(?P<stuck>[\d,]+) moves? to where a call can never end: .+"
+                     r"|(?P<stuck>[\d,]+) moves? to where no run can come to rest within the "
+                     r"rounds: \d .+"
                      r"|harmless: all (?P<harmless>[\d,]+) states? were searched")
 ROUNDS = 2  # the default
+# Changes of which a shortest run leaves calls that can all still end, though not all by one run.
+CALLS_CAN_END = {
+    "ticket": "PassOn, if its write is left out",
+    "mcs": "CasTail, if it finds 0, whatever is there",
+}
 
 
 def read(text):
@@ -95,6 +101,32 @@ def test_run(tracer, lockreplay, lock, change):
         assert lines[:2] == [f"#! changed: {change}", f"changed lock {lock} threads 2"]
         refused = ran(lockreplay, "replay", input="\n".join(lines))
         assert (refused.stdout, refused.returncode) == ("fault line 2 BadHeader\n", 1)
+
+
+def states_from(lock, start):
+    """The states to which the moves of a changed lock lead, except for harm."""
+    found, new = {start}, [start]
+    while new:
+        for _, after in lock.moves(new.pop()):
+            if after is not None and after not in found:
+                found.add(after)
+                new.append(after)
+    return found
+
+
+@pytest.mark.parametrize("lock, change", CALLS_CAN_END.items())
+def test_not_said_of_a_call(tracer, lock, change):
+    """Each pending call can end where no run comes to rest, so the verdict is about runs."""
+    space = Searched(lock, 2, ROUNDS, change)
+    output = tracer.output("why", lock, 2, "--runs")
+    told, *lines = parts_of(output)[1][change].split("\n  ")
+    end = followed(space.lock, lines[2::2], [line.removeprefix("# ") for line in lines[3::2]])
+    pending = {thread for thread, place in enumerate(end.places) if place.call}
+    reached = states_from(space.lock, end)
+    assert {thread for thread in pending
+            if any(not state.places[thread].call for state in reached)} == pending != set()
+    assert not reached & space.ending()
+    assert "to where no run can come to rest within the rounds: " in told
 
 
 def test_four_threads_are_the_most(tracer):

@@ -1,12 +1,14 @@
-"""Many schedules and traces over two hosts, by the commands of docs/FORMATS.md for GNU parallel.
+"""Many schedules and traces in blocks, on one machine and over two hosts, by the commands of
+docs/FORMATS.md for GNU parallel.
 
 Each host is an sshd on a port of the loopback device, and reads no settings of the machine's ssh.
 One host goes away in the middle of a run. When it is back, the same command does the remaining
-jobs. Each result has to equal the output of the program here.
+blocks. Each result has to equal the output of the program here.
 
 The output of a job comes through the connection that also brings its status. A file that `parallel`
 fetches after a job can be lost with its host, and `parallel` takes the job as done.
 """
+import itertools
 import os
 import re
 import shlex
@@ -14,15 +16,18 @@ import signal
 import socket
 import subprocess
 import time
+from pathlib import Path
 
 import pytest
 
 import corpus
 from tree import TOP, environment, output, ran
 
-FILES, PATIENCE = 24, 100  # seconds
-COMMANDS = re.search(r"```sh\n(parallel .*?)\n```", (TOP / "docs" / "FORMATS.md").read_text(),
-                     re.DOTALL)[1].replace("\\\n", "").splitlines()
+BLOCK, PATIENCE = 250, 100  # files; seconds
+BLOCKS = 10
+DOCUMENT = (TOP / "docs" / "FORMATS.md").read_text()
+BLOCKS_OF_CODE = re.findall(r"```sh\n(parallel .*?)\n```", DOCUMENT, re.DOTALL)
+HERE, *COMMANDS = "\n".join(BLOCKS_OF_CODE).replace("\\\n", "").splitlines()
 SERVER = """ListenAddress 127.0.0.1
 Port {port}
 HostKey {folder}/key
@@ -56,12 +61,48 @@ class Host:
         self.process.wait()
 
 
-@pytest.mark.parametrize("command", COMMANDS, ids=lambda command: shlex.split(command)[13])
+def write_runs(folder, ending, count):
+    """Writes this many small texts into the folder `runs`. The last one is refused."""
+    texts = [text for name, text in sorted(corpus.TEXTS.items())
+             if name.startswith("end-") and len(text) < 1000]
+    (folder / "runs").mkdir()
+    names = [f"runs/{number:05}{ending}" for number in range(count)]
+    for name, text in zip(names, itertools.cycle(texts)):
+        (folder / name).write_bytes(text)
+    (folder / names[-1]).write_bytes(corpus.TEXTS["refused-NoCall-mcs-idle"])
+    return names
+
+
+def blocks_of(names):
+    return [names[at:at + BLOCK] for at in range(0, len(names), BLOCK)]
+
+
+def check_outputs(folder, ending, program, names):
+    """Each block has a file, with the output of one process for all its files."""
+    blocks = blocks_of(names)
+    assert {path.name for path in folder.glob(f"*{ending}")} \
+        == {f"{number}{ending}" for number in range(1, len(blocks) + 1)}
+    for number, block in enumerate(blocks, 1):
+        own = ran(*program, *block, text=False, cwd=folder)
+        assert (folder / f"{number}{ending}").read_bytes() == own.stdout
+
+
+def test_one_machine(lockreplay, tmp_path):
+    """The last block is not full, and has a refused text."""
+    names = write_runs(tmp_path, ".schedule", 2 * BLOCK + 3)
+    (tmp_path / "lockreplay").symlink_to(lockreplay)
+    done = ran("sh", "-c", HERE, cwd=tmp_path,
+               env=environment(PATH=f"{tmp_path}:{os.environ['PATH']}"))
+    assert (done.stdout, done.returncode) == ("", 1)
+    check_outputs(tmp_path, ".reports", [lockreplay, "batch", "--workers", "2"], names)
+
+
+@pytest.mark.parametrize("command", COMMANDS, ids=["replayed", "checked"])
 def test_two_hosts(lockreplay, locktrace, tmp_path, request, command):
-    result, log, job, pattern = (shlex.split(command)[at] for at in (7, 10, 11, 13))
-    stems = sorted(corpus.TEXTS)[:FILES]
-    for stem in stems:
-        (tmp_path / f"{stem}{pattern[1:]}").write_bytes(corpus.TEXTS[stem])
+    words = shlex.split(command)
+    result, log = (words[words.index(name) + 1] for name in ("--results", "--joblog"))
+    job, pattern = words[words.index(":::") - 1], words[words.index(":::") + 1]
+    names = write_runs(tmp_path, Path(pattern).suffix, BLOCKS * BLOCK - 7)
     for program in (lockreplay, locktrace):
         (tmp_path / program.name).symlink_to(program)
     output("ssh-keygen", "-q", "-t", "ed25519", "-N", "", "-f", tmp_path / "key")
@@ -78,13 +119,16 @@ def test_two_hosts(lockreplay, locktrace, tmp_path, request, command):
         host.come()
         request.addfinalizer(host.go)
     run = subprocess.Popen(["sh", "-c", f"exec {command}"], stderr=subprocess.DEVNULL, **how)
-    while len(jobs()) < FILES // 4 and run.poll() is None:
+    while len(jobs()) < BLOCKS // 4 and run.poll() is None:
         time.sleep(0.05)
     hosts[1].go()
     assert run.wait(PATIENCE)
+    assert "255" in {it[6] for it in jobs()}
     hosts[1].come()
     ran("sh", "-c", command, **how)
-    assert len({job[1] for job in jobs()}) == 2
-    for stem in stems:
-        own = ran("sh", "-c", job.replace("{}", f"{stem}{pattern[1:]}"), text=False, **how)
-        assert (tmp_path / result.replace("{.}", stem)).read_bytes() == own.stdout
+    last = {it[0]: (it[1], it[6]) for it in jobs()}
+    assert {status for _, status in last.values()} == {"0", "1"}
+    assert len({host for host, _ in last.values()}) == 2
+    program = [tmp_path / word if word.startswith("lock") else word
+               for word in shlex.split(job.replace("{}", ""))]
+    check_outputs(tmp_path, result.removeprefix("{#}"), program, names)

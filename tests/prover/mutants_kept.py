@@ -1,9 +1,9 @@
 """Which mutants and twins an earlier run on this machine tried, and found to fare as they must.
 
 How one fares rests on the kit, on the crate and those below it, on the edit and its twin, and on
-the scripts that try it. While none of these changes, it is not tried again: `rt ci` keeps its
-proofs in the same way. Each has an empty file in FOLDER, named by a sum of all that it rests on.
-Delete the folder to begin anew.
+the scripts that try it. While none of these changes, it is not tried again, and counts as kept and
+not as passed. Each has an empty file in FOLDER, named by a sum of all that it rests on. Delete the
+folder to begin anew.
 """
 import hashlib
 import os

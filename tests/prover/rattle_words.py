@@ -1,8 +1,8 @@
 """The command by which one crate is checked or built over the libraries that are in `out` already.
 
 `rt check` and `rt lib` first prove the libraries below a crate once more, unless they built these
-themselves. `rt ci` leaves the libraries that it has proved, and what the gate does after it is done
-over them.
+themselves. `make gate` leaves the libraries that it has proved, and what `make test` does after it
+is done over them.
 """
 import subprocess
 from pathlib import Path

@@ -12,7 +12,7 @@ import pytest
 
 from mutant_checks import Lab, unproved_below, verdict_on
 from mutant_edits import BadEdit, edits_in
-from try_mutants import TRIES, edits_of, group_of, verdict
+from try_mutants import TRIES, Crate, edits_of, ending, group_of, table, verdict
 from mutants_kept import PARTS, SCRIPTS, Kept
 from rattle_functions import functions_of
 from rattle_words import TOP
@@ -228,16 +228,35 @@ def test_what_was_tried_is_kept(tmp_path):
         assert replace(one, **change) not in again
 
 
+def test_what_is_kept_did_not_pass(tmp_path, monkeypatch):
+    """What this run did not try counts as kept, and not as passed."""
+    monkeypatch.setattr("try_mutants.Kept", lambda name: Kept(name, folder=tmp_path))
+    edits = edits_in("lk_words", BESIDE)
+    first = Crate("lk_words", edits, is_anew=False)
+    assert list(ending([first], [])) == ["0 passed, 0 failed"]  # nothing was tried yet
+    assert first.is_settled(edits[0], "refused", "", is_last=True)
+    assert list(ending([first], ["a fault"])) == ["1 passed, 1 failed"]
+    second = Crate("lk_words", edits, is_anew=False)
+    assert [line.split()[3:7] for line in table([second])][1] == ["1", "1", "0", "0"]
+    assert second.is_settled(edits[1], "proved", "", is_last=True)
+    kept = "{} kept from earlier runs on this machine, and not tried"
+    assert list(ending([second], [])) == [kept.format(1), "1 passed, 0 failed"]
+    third = Crate("lk_words", edits, is_anew=False)
+    third.run()
+    assert list(ending([third], [])) == [kept.format(2), "0 passed, 0 failed"]
+    assert Crate("lk_words", edits, is_anew=True).new == edits
+
+
 def test_open_proofs(tmp_path):
     """All proofs but those of some functions, and of those that have one proof together, are left
     open, and no other time."""
     lab = Lab("lk_workers", tmp_path)
     proofs = {path: path.read_text() for path in sorted(tmp_path.rglob("proofs/**/*.antt"))}
     place = tmp_path / "proofs" / "many"
-    lab.leave_open({"lk_workers::many::draw_all"})
+    lab.leave_open({"lk_workers::many::deal"})
     assert "place_all_spec = ?" in (place / "place_all" / "Proof.antt").read_text()
     assert not (place / "place_all" / "Answers.antt").exists()
-    assert not (place / "draw_all" / "Proof.antt").exists()  # it is to be proved
+    assert not (place / "deal" / "Proof.antt").exists()  # it is to be proved
     assert not (place / "work_all").exists()  # it is in a cycle
     lab.leave_open(set(functions_of(lab.crate, lab.files)))
     assert proofs == {path: path.read_text()

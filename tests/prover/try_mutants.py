@@ -17,10 +17,11 @@ what is no function, as a constant, is tried alone, and a function that its bloc
 notice it. A change of a contract is tried alone too, since callers read it.
 
 Each check is over what earlier checks kept in `out`. Crates are tried side by side, as many as
-there are lanes, the dearest first. What an earlier run on this machine tried is not tried again
-while nothing has changed on which it rests (mutants_kept.py), unless --anew is given.
+there are lanes, the dearest first. What an earlier run on this machine tried is kept, and not tried
+again, while nothing has changed on which it rests (mutants_kept.py), unless --anew is given.
 
-Prints each one that fares as it must not, then a table, then `N passed, M failed`.
+Prints each one that fares as it must not, then a table, then how many are kept if there are any,
+then `N passed, M failed`, which counts those that this run tried.
 """
 import argparse
 import os
@@ -51,8 +52,13 @@ class Crate:
         self.new = [edit for edit in edits if is_anew or edit not in self.kept]
         self.tries = dict.fromkeys(edits, 0)
         self.apart = defaultdict(set)  # functions, by one of which nothing was clear beside them
-        self.well = Counter(edit.is_twin for edit in edits if edit not in self.new)
+        self.well = Counter()
         self.checks, self.seconds = 0, 0.0
+
+    @property
+    def kept_before(self):
+        """How many an earlier run tried, so this one does not."""
+        return len(self.edits) - len(self.new)
 
     def cost(self):
         """A measure of how long it takes: a check over more libraries takes longer."""
@@ -202,13 +208,24 @@ def edits_of(words):
 
 
 def table(crates):
-    """How many fared as they must, and how many were tried in this run, a line a crate."""
-    yield (f"{'crate':16}{'mutants':>9}{'refused':>9}{'twins':>7}{'proved':>8}{'tried':>7}"
-           f"{'checks':>8}{'s':>7}")
+    """How many are kept, and how many fared as they must in this run, a line a crate."""
+    yield (f"{'crate':16}{'mutants':>9}{'twins':>7}{'kept':>7}{'tried':>7}{'refused':>9}"
+           f"{'proved':>8}{'checks':>8}{'s':>7}")
     for crate in crates:
         twins = sum(edit.is_twin for edit in crate.edits)
-        yield (f"{crate.name:16}{len(crate.edits) - twins:9}{crate.well[False]:9}{twins:7}"
-               f"{crate.well[True]:8}{len(crate.new):7}{crate.checks:8}{crate.seconds:7.0f}")
+        yield (f"{crate.name:16}{len(crate.edits) - twins:9}{twins:7}{crate.kept_before:7}"
+               f"{len(crate.new):7}{crate.well[False]:9}{crate.well[True]:8}{crate.checks:8}"
+               f"{crate.seconds:7.0f}")
+
+
+def ending(crates, faults):
+    """The lines after the table."""
+    kept = sum(crate.kept_before for crate in crates)
+    passed = sum(sum(crate.well.values()) for crate in crates)
+    failed = len(faults) + sum(len(crate.faults) for crate in crates)
+    if kept:
+        yield f"{kept} kept from earlier runs on this machine, and not tried"
+    yield f"{passed} passed, {failed} failed"
 
 
 def main(words, lanes, is_anew):
@@ -217,10 +234,8 @@ def main(words, lanes, is_anew):
     crates = [Crate(name, its, is_anew) for name, its in edits.items() if its]
     with ThreadPoolExecutor(lanes) as pool:
         list(pool.map(Crate.run, sorted(crates, key=Crate.cost, reverse=True)))
-    print(*table(crates), sep="\n")
-    failed = len(faults) + sum(len(crate.faults) for crate in crates)
-    print(f"{sum(sum(crate.well.values()) for crate in crates)} passed, {failed} failed")
-    return 1 if failed else 0
+    print(*table(crates), *ending(crates, faults), sep="\n")
+    return 1 if faults or any(crate.faults for crate in crates) else 0
 
 
 if __name__ == "__main__":

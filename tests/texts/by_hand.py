@@ -8,6 +8,9 @@ from catalogue import (ANSWERS, DIFFERS, FAULTS, HOLDERS, MESSAGES, MOVES, OF, O
 RUST, PAGE, MAN = "record/rust/src", "page/src", "packaging/man"
 DUE, C = "crates/lk_trace/src/due.rt", "crates/lk_trace_c/src/numbers.rt"
 LIMIT = 1_000_000  # the states that a search goes through if no number is given
+MOST = {name: int(number.replace("_", "")) for name, number in found(
+    r"pub const MOST_(MOVES|BYTES|OF_A_LINE): usize = ([\d_]+);",
+    read("crates/lk_replay/src/schedule.rt") + read("crates/lk_trace/src/line.rt"))}
 
 # Texts that these files must contain, wherever their lines break.
 SAID = {
@@ -15,6 +18,10 @@ SAID = {
     "crates/locktrace/src/*.rt": [f'VERSION: &str = "{VERSION}";', f"LIMIT: u64 = {LIMIT:_};",
                                   f"{LIMIT:,} if it is not given"],
     f"{MAN}/locktrace.1": [f"Without it {LIMIT:,}."],
+    "SECURITY.md": [f"at most {MOST['MOVES']:,} moves and {MOST['BYTES']:,} bytes",
+                    f"at most {MOST['OF_A_LINE'] + 1} bytes are kept"],
+    # What README.md names as not proved.
+    "CITATION.cff": ["The page's JavaScript and the recorders in C and Rust are only tested."],
     C: [f'"{name}: {text}"' for name, text in MESSAGES.items() if name != "NoHeader"],
     f"{PAGE}/machine/codes.js": [
         f"FIRST_STEP = {MOVES[STEPS['Read']]};",

@@ -1,14 +1,16 @@
 """Checks that a document names only existing links, files, targets of `make` and names of sources.
 
 A name in backticks that looks like a file has to be one; a word in capitals stands for any part of
-it. `A::b` has to be public. A word with an underscore, or with a capital inside, has to be defined
-in some source. Any other word has to be somewhere in a source or in an example.
+it. In `A::b` the name `b` has to be public in `A` (public_names.py). A word with an underscore, or
+with a capital inside, has to be defined in some source. Any other word has to be somewhere in a
+source or in an example.
 """
 import fnmatch
 import os
 import re
 
 from document_blocks import without_blocks
+from public_names import public_names
 
 SKIPPED = {".git", "out", "target", "node_modules", "__pycache__"}
 TEXTS = (".rt", ".rattle", ".rs", ".antt", ".py", ".js", ".mjs", ".c", ".h", ".sh", ".html",
@@ -29,10 +31,6 @@ DEFINED = [re.compile(pattern, re.MULTILINE) for pattern in (
     r"^\s+([A-Z]\w*)(?:\(|,| \{|$)",
     r"^[\w ]+?\**(\w+)\(",
 )]
-PUBLIC = re.compile(r"^\s*pub (?:fn|struct|enum|trait|type|mod|const) (\w+)", re.MULTILINE)
-# The functions of a public trait and the variants of a public enum are public.
-INSIDE = re.compile(r"^pub (?:trait|enum) .*?^\}", re.MULTILINE | re.DOTALL)
-INNER = re.compile(r"^    (?:fn (\w+)|([A-Z]\w*)[(,{ ])", re.MULTILINE)
 # Names from outside the repository: from the kit, the C library and other programs.
 OUTSIDE = set("""
     ArrayVec AllocError BufWriter Vec String Mutex Global Display SIGPIPE WebAssembly include_str
@@ -71,26 +69,23 @@ class Names:
         self.top = top
         self.looked_at = 0
         self.files = list(files_of(top))
-        self.defined, self.public, self.words = set(), set(), set()
+        self.defined, self.words = set(), set()
+        self.public = public_names(top)
         for path in self.files:
             self.words.update(re.findall(r"[\w-]+", path))
             self.defined.add(os.path.splitext(os.path.basename(path))[0])
             if path.endswith(TEXTS) and os.path.isfile(top / path):
-                self.add_text(path, (top / path).read_text(errors="replace"))
+                self.add_text((top / path).read_text(errors="replace"))
         files = [top / "Makefile", *(top / "packaging").glob("*.mk")]
         make = "\n".join(file.read_text() for file in files)
         self.targets = set(re.findall(r"^([\w-]+)(?: [\w-]+)*:", make, re.MULTILINE))
         self.variables = set(re.findall(r"^(?:ifdef |)(\w+)(?: *:?=|$)", make, re.MULTILINE))
 
-    def add_text(self, path, text):
+    def add_text(self, text):
         self.words.update(re.findall(r"\w+", text))
         self.words.update(re.findall(r"[\w-]+", text))
         for pattern in DEFINED:
             self.defined.update(pattern.findall(text))
-        if path.endswith((".rt", ".rs")):
-            self.public.update(PUBLIC.findall(text))
-            for block in INSIDE.findall(text):
-                self.public.update(name for found in INNER.findall(block) for name in found if name)
 
     def is_file(self, name, document):
         """Whether a file has this path from the top or the document, or a path with this end."""
@@ -112,9 +107,10 @@ class Names:
                 and (crate == "NAME" or f"crates/{crate}" in self.files))
 
     def is_path(self, name):
-        """Whether `A::b` or `A::{b, c}` is public."""
-        return all(part in self.public or part in OUTSIDE or f"crates/{part}" in self.files
-                   for part in re.findall(r"\w+", name))
+        """Whether each name of `A::b` or `A::{b, c}` is public in the one before it."""
+        *owners, last = name.split("::")
+        pairs = [*zip(owners, owners[1:]), *((owners[-1], it) for it in re.findall(r"\w+", last))]
+        return all(owner in OUTSIDE or it in self.public[owner] for owner, it in pairs)
 
     def is_there(self, name, document):
         """Whether the name in backticks exists. Text that is no name always passes."""

@@ -117,7 +117,8 @@ REGIONS = {
         ("numbers of outcomes", NUMBER), ("numbers of faults", NUMBER)),
     "record/src/checker.c": (
         ("moves by number", '"{word}",'), ("places", '"{word}",'),
-        ("outcomes by number", '"{word}",'), ("texts of faults", '"{word}",')),
+        ("outcomes by number", '"{word}",')),
+    "record/src/fault_text.c": (("texts of faults", '"{word}",'),),
     "record/src/lockreplay_record.h": (("version", '#define LR_VERSION "{word}"'),),
     "record/src/moves.h": (
         ("calls", "LR_CALL_{word},"), ("steps", "LR_STEP_{word},"), ("places", "LR_PLACE_{word},"),

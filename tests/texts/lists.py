@@ -33,8 +33,9 @@ LISTS_OF_LOCKS = (
           "p).words\n", "makes_operation kind", "".join(
               f"makes_operation {variant} bits ws t p k r = grind arith\n" for variant in QUEUES)),
     Place(f"{PROOFS}/OneOperation.antt", "≡ words_after bits ws operation\n", "\n--", "".join(
-        f"step_words {variant} {OF_STEPS} = ap (λ o. (step_by {MODULES[variant]}.after bits ws p o)"
-        ".words) e\n" for variant in QUEUES) + "".join(
+        f"step_words {variant} {OF_STEPS} =\n    ap (λ o. (step_by ({MODULES[variant]}.after t) "
+        f"bits ws p o).words) e ∙ {MODULES[variant]}_leaves t p _ _\n"
+        for variant in QUEUES) + "".join(
         f"step_words {variant} {OF_STEPS} = cc\n" for variant in MONITORS)),
     Place(f"{PROOFS}/OneOperation.antt", "→ word_of o < word_count kind n\n", "word_within kind",
           "".join(f"word_within {variant} n bits t {first_step(variant)} o e h f = "

@@ -77,6 +77,13 @@ def test_copies_by_hand():
     assert list(by_hand.faults()) == []
 
 
+@pytest.mark.parametrize("path", ["README.md", "THIRD-PARTY", "docs/PROOF.md"])
+def test_logic_of_the_kit(path):
+    """A file that names the logic of the kit names the one that the Makefile asks for."""
+    assert set(found(r"\blogic ([0-9a-f]{8,})", read(path))) \
+        == set(found(r"^LOGIC := (\w+)$", read("Makefile")))
+
+
 @pytest.mark.parametrize("lock", LOCKS.values())
 def test_lock(lock):
     written, text = lines_written(lock), definitions_of(lock)

@@ -23,6 +23,9 @@ RIGHT = {
     "marked": "<!-- not run: it is a test -->\n```sh\nfalse\n```",
     "program that is not built": "<!-- with: no-such-program -->\n```sh\nfalse\n```",
     "names": "`make demo`, `crates/NAME/mutants.txt`, `Keeper::play`, `every_run_is_as_promised`",
+    "names in a crate, a module, a trait and an enum, and one that a derive writes":
+        "`lk_locks::Shape`, `theorems::calls_act_once`, `Words::read`, `Mode::Follow`, "
+        "`Shape::clone`",
     "a quote": f"<!-- quoted: VERSION -->\n```text\n{VERSION}\n```",
     "web link": "[a](https://example.org/b)",
 }
@@ -46,6 +49,11 @@ FAULTY = {
     "no such variable": "`make demo NOSUCH=1`",
     "no such mutant": "`make mutants CRATE=lk_words MISTAKE=no_such_mutant`",
     "no such method": "`Keeper::no_such_method`",
+    "a method of another type": "`Schedule::draw`",
+    "a method of another type beside its own": "`LiveTicket::{take, draw}`",
+    "a type of another crate": "`lk_words::Shape`",
+    "a function of another module": "`theorems::replay`",
+    "a variant of another enum": "`Outcome::Follow`",
     "a private function": "`Checker::seen_other`",
     "no such name": "`no_such_name`",
     "a command that does not end": "```console\n$ sleep 20\n```",

@@ -4,7 +4,8 @@
 #     tests/tools/needs.sh            for `make test`: Build-Depends of debian/control
 #     tests/tools/needs.sh release    for `make release-checks`: Depends of debian/tests/control
 #
-# If another user than root runs it, it prints the command for root, and ends with status 1.
+# It names the packages that it installs. If another user than root runs it, it prints the command
+# for root, and ends with status 1.
 set -euo pipefail
 cd "$(dirname "$0")/../.."
 export LC_ALL=C DEBIAN_FRONTEND=noninteractive
@@ -27,4 +28,6 @@ fi
 exec 9< debian/control
 flock 9
 apt-get update > /dev/null
+new=$("${words[@]}" --simulate | sed -n 's/^Inst \([^ ]*\).*/\1/p' | sort | xargs)
+echo "needs.sh: installs $new" >&2
 "${words[@]}" --yes > /dev/null

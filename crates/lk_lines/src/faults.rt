@@ -1,5 +1,9 @@
 //! The reasons for which a text is no schedule.
 
+ghost use Rattle.std.specs.Prelude.{◌≡◌};
+ghost use Rattle.lk_lines.specs.declared.faults.ReadFault.TheVariants.{OutOfMemory};
+
+use std::alloc::AllocError;
 use thiserror::Error;
 
 /// The reason for which a text has no schedule, with the number of the line.
@@ -30,4 +34,12 @@ pub enum ReadFault {
     /// The header's words have no more values than it has threads.
     #[error("line {0}: words too narrow for the threads")]
     WordsTooNarrow(u32),
+}
+
+impl From<AllocError> for ReadFault {
+    ghost from_gives = { λ _ fault. fault ≡ OutOfMemory };
+
+    fn from(_error: AllocError) -> ReadFault {
+        ReadFault::OutOfMemory
+    }
 }

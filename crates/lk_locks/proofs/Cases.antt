@@ -4,9 +4,9 @@ use Rattle.std.proofs.Common.{◌≡◌, ◌<◌, ◌≤◌, ◌^◌, None, sym}
 use Rattle.std.proofs.lemmas.List.{set-get_or}
 use Rattle.std.specs.List.{AllByRecursion}
 use Rattle.lk_locks.specs.{Change.Change, declared.kinds.Entry.TheVariants.Called}
-use Rattle.lk_locks.specs.Steps.{move_entries, belongs, has_op, move_change, refusal_in}
+use Rattle.lk_locks.specs.Steps.{belongs, has_op, move_change, refusal_in}
 use Rattle.lk_locks.specs.Legal.{AreEnabled, after_entries, whole_call}
-use Rattle.lk_locks.specs.Locks.{after_call, family_of, step_entries, step_of, word_count}
+use Rattle.lk_locks.specs.Locks.{after_call, family_of, step_of, word_count}
 use Rattle.lk_locks.specs.Sequential.{Sequential, nobody, thread_of}
 use Rattle.lk_locks.specs.State.{State, phase_at, start}
 use Rattle.lk_locks.specs.invariants.Locks.{AgreeAs, AreLinks, IsPhaseOf, owed_of}
@@ -42,7 +42,7 @@ Keeps kind =
     → let change : Change = move_change kind bits ws t p m in
     let next : State =
     record { kind = kind; bits = bits; words = change.words; phases = set ps t change.phase } in
-    IsAgreed (AgreeAs kind next) q (move_entries kind t p m change.outcome)
+    IsAgreed (AgreeAs kind next) q change.entries
 
 -- a thread that waits changes nothing
 pub waits : {kind : LockKind} {bits : ℕ} {ws : List ℕ} {ps : List Phase} {q : Sequential} {t : ℕ}
@@ -56,8 +56,7 @@ pub record LockProof (kind : LockKind) : Type 0 where
   -- each step adds the next entries of the pending call
   pub goes_on : (bits t : ℕ) (ws : List ℕ) (p : Phase)
       → owed_of kind t p
-      ≡ step_entries kind t p (step_of kind bits ws t p).outcome
-      ++ owed_of kind t (step_of kind bits ws t p).phase
+      ≡ (step_of kind bits ws t p).entries ++ owed_of kind t (step_of kind bits ws t p).phase
   -- a call begins when the one before it is finished
   pub begins : (n t : ℕ) (p : Phase) (op : Op) → IsPhaseOf kind n p
       → has_op (family_of kind) op ≡ true → refusal_in kind p (Call op) ≡ None

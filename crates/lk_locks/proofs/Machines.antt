@@ -4,6 +4,7 @@ use Rattle.std.proofs.Common.{None, refl, sym, ◌∙◌, arith, slice_index, []
 use Rattle.std.proofs.lemmas.List.{length-set, take-replicate, length-replicate, get_or_past}
 use Rattle.std.proofs.lemmas.List.{get_or-replicate}
 use Rattle.std.proofs.{lemmas.Bool.cases_lt, Math.Seq.take-set-lt}
+use Rattle.lk_locks.specs.declared.entries.Added.{Added}
 use Rattle.lk_locks.specs.{Change.Makes, Locks.word_count, Sequential.nobody, invariants.Kept.Kept}
 use Rattle.lk_locks.specs.State.{State, phase_at, start, start_of}
 use Rattle.lk_locks.specs.Steps.{move_change, change_of, next_state, refusal_of, after_move}
@@ -38,16 +39,17 @@ well_new kind bits n ws enough clear = record {
 
 -- the words and the phase that a move leaves are those of the state after it, and of a machine
 pub next_machine : (kind : LockKind) (bits n : ℕ) (ws words : List ℕ) (ps : List Phase) (t : ℕ)
-    (p : Phase) (answer : Phase × Outcome) (m : Move) (now : State)
+    (p : Phase) (answer : Phase × Outcome × Added) (m : Move) (now : State)
     → state_of kind bits n ws ps ≡ now → refusal_of now t m ≡ None → p ≡ phase_at now.phases t
-    → Makes words answer (move_change kind bits ws t p m) → IsMachine n (state_of kind bits n ws ps)
+    → Makes words t answer (move_change kind bits ws t p m)
+    → IsMachine n (state_of kind bits n ws ps)
     → IsMachine n (state_of kind bits n words (set ps t answer.0))
     × (state_of kind bits n words (set ps t answer.0) ≡ after_move now t m)
 next_machine kind bits n ws words ps t p answer m now is_now no_refusal was made machine =
     let s : State = state_of kind bits n ws ps in
     let not_refused : refusal_of s t m ≡ None = rw (← is_now) at no_refusal in
     let is : p ≡ phase_at (take n ps) t = rw (← is_now) at was in
-    let change : Makes words answer (change_of s t m) = rw is at made in
+    let change : Makes words t answer (change_of s t m) = rw is at made in
     let accepted = accepted_of s t m not_refused in
     let in_lock : t < n = omega (arith, accepted.thread, machine.count) in
     let same : state_of kind bits n words (set ps t answer.0) ≡ next_state s t m =

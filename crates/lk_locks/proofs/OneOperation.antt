@@ -4,6 +4,7 @@ use Rattle.std.proofs.Common.{◌≡◌}
 use Rattle.lk_words.specs.Operations.{effect_on, word_of, words_after}
 use Rattle.lk_words.proofs.Operations.{one_word}
 use Rattle.lk_words.specs.declared.operation.Operation.{Operation}
+use Rattle.lk_words.specs.declared.operation.Answer.{Answer}
 use Rattle.lk_locks.specs.{Change.step_by, invariants.Locks.IsPhaseOf, State.State, State.phase_at}
 use Rattle.lk_locks.specs.invariants.WellFormed.{WellFormed}
 use Rattle.lk_locks.specs.Effects.{IsEffectOf, IsMade, IsOneOperation}
@@ -24,12 +25,23 @@ makes_operation Ticket bits ws t p k r = grind arith
 makes_operation Mcs bits ws t p k r = grind arith
 makes_operation kind bits ws t p k r = tt
 
+-- an answer leads to a phase, an outcome and entries, and leaves the words
+pub ticket_leaves : (i : ℕ) (p : Phase) (answer : Answer) (ws : List ℕ)
+    → (ticket.after i p answer ws).words ≡ ws
+ticket_leaves i p answer ws = grind arith
+
+mcs_leaves : (i : ℕ) (p : Phase) (answer : Answer) (ws : List ℕ)
+    → (mcs.after i p answer ws).words ≡ ws
+mcs_leaves i p answer ws = grind arith
+
 -- after a step the words are as its operation leaves them
 pub step_words : (kind : LockKind) (bits : ℕ) (ws : List ℕ) (t : ℕ) (p : Phase)
     (operation : Operation) → operation_of kind bits t p ≡ Some operation
     → (step_of kind bits ws t p).words ≡ words_after bits ws operation
-step_words Ticket bits ws t p operation e = ap (λ o. (step_by ticket.after bits ws p o).words) e
-step_words Mcs bits ws t p operation e = ap (λ o. (step_by mcs.after bits ws p o).words) e
+step_words Ticket bits ws t p operation e =
+    ap (λ o. (step_by (ticket.after t) bits ws p o).words) e ∙ ticket_leaves t p _ _
+step_words Mcs bits ws t p operation e =
+    ap (λ o. (step_by (mcs.after t) bits ws p o).words) e ∙ mcs_leaves t p _ _
 step_words RwSimple bits ws t p operation e = cc
 step_words RwFifo bits ws t p operation e = cc
 

@@ -1,7 +1,7 @@
 -- Definitions. Mutual exclusion, in its own words: laws of every legal history.
 use Rattle.std.specs.Prelude.{◌≡◌, ℕ, List, [], ◌∷◌, ◌++◌, Option, None, Some, ◌⊎◌, IsTrue, Any}
 use Rattle.lk_locks.specs.Locks.{family_of}
-use Rattle.lk_locks.specs.Sequential.{Sequential, nobody, is_head}
+use Rattle.lk_locks.specs.Sequential.{Sequential, after_acts, nobody, is_head}
 use Rattle.lk_locks.specs.Legal.{Legal, after_entries}
 use Rattle.lk_locks.specs.Holding.{holder_after}
 use Rattle.lk_locks.specs.Types.{LockKind, ReadUnlock, WriteLock, WriteUnlock, Downgrade, Announced}
@@ -52,8 +52,8 @@ HasOneWriter es =
     (t u : ℕ) → Between (Acted t WriteLock) (Acted u WriteLock) (StopsWriting t) es
 
 -- A reader enters only after the writer before it stopped writing, and a writer only after each
--- reader before it left, and each writer that became a reader. After each prefix of the history: if
--- there is a writer, there is no reader. No list of entries leaves the sequential object otherwise.
+-- reader before it left, and each writer that became a reader. After each prefix of the history the
+-- acts, allowed or not, leave no reader beside a writer.
 pub record IsNeverBesideReader (kind : LockKind) (es : List Entry) : Type 0 where
   pub then_reader : (t u : ℕ)
       → Between (Acted t WriteLock) (Acted u ReadLock) (StopsWriting t) es
@@ -62,7 +62,7 @@ pub record IsNeverBesideReader (kind : LockKind) (es : List Entry) : Type 0 wher
   pub downgraded_writer : (t u : ℕ)
       → Between (Acted t Downgrade) (Acted u WriteLock) (λ e. e ≡ Acted t ReadUnlock) es
   pub no_reader : (before after : List Entry) → es ≡ before ++ after
-      → let now : Sequential = after_entries (nobody kind) before in
+      → let now : Sequential = after_acts (nobody kind) before in
       (w : ℕ) → now.writer ≡ Some w → now.readers ≡ []
 
 -- an announced FIFO writer enters before a later reader enters, and before another writer announces

@@ -11,7 +11,7 @@ use Rattle.lk_locks.specs.rw_simple
 use Rattle.lk_locks.specs.rw_fifo
 use Rattle.lk_locks.specs.Types.{LockKind, Ticket, Mcs, RwSimple, RwFifo, Family, Queue, ReadWrite}
 use Rattle.lk_locks.specs.Types.{FifoReadWrite, Phase, Op, StepKind, Read, Write, Swap, Cas, Add}
-use Rattle.lk_locks.specs.Types.{Section, StepEffect, OneWord, Monitor, Outcome, Entry}
+use Rattle.lk_locks.specs.Types.{Section, StepEffect, OneWord, Monitor}
 
 abbrev pub family_of : LockKind → Family
 family_of Ticket = Queue
@@ -53,10 +53,10 @@ step_due kind p = read_write.step_due p
 
 -- a step of thread t in this phase
 abbrev pub step_of : LockKind → ℕ → List ℕ → ℕ → Phase → Change
-step_of Ticket bits ws t p = step_by ticket.after bits ws p (ticket.operation bits p)
-step_of Mcs bits ws t p = step_by mcs.after bits ws p (mcs.operation t p)
-step_of RwSimple bits ws t p = rw_simple.step bits ws p
-step_of RwFifo bits ws t p = rw_fifo.step bits ws p
+step_of Ticket bits ws t p = step_by (ticket.after t) bits ws p (ticket.operation bits p)
+step_of Mcs bits ws t p = step_by (mcs.after t) bits ws p (mcs.operation t p)
+step_of RwSimple bits ws t p = rw_simple.step bits ws t p
+step_of RwFifo bits ws t p = rw_fifo.step bits ws t p
 
 -- the effect that the next step of thread t in this phase would have, if it has one
 abbrev pub effect_of : LockKind → ℕ → List ℕ → ℕ → Phase → Option StepEffect
@@ -67,11 +67,5 @@ effect_of Mcs bits ws t p =
     option_map (λ o. OneWord (effect_on bits ws o) (step_of Mcs bits ws t p).outcome)
     (mcs.operation t p)
 effect_of kind bits ws t p =
-    option_map (λ due. Monitor (read_write.effect (family_of kind) bits ws p))
+    option_map (λ due. Monitor (read_write.effect (family_of kind) bits ws t p))
     (read_write.step_due p)
-
--- the entries of a step of thread t, from this phase and with this outcome
-abbrev pub step_entries : LockKind → ℕ → Phase → Outcome → List Entry
-step_entries Ticket t p o = ticket.entries t p o
-step_entries Mcs t p o = mcs.entries t p o
-step_entries kind t p o = read_write.entries (family_of kind) t p o

@@ -2,13 +2,14 @@
 -- that it adds, one by one and in lists. This file knows no lock: `Locks` has the differences.
 use Rattle.std.specs.Prelude.{ℕ, List, length, set, Option, None, Some, is_some, is_none, unwrap_or}
 use Rattle.std.specs.Prelude.{Bool, true, false, nat_lt, if◌then◌else◌, Result, Ok, Err, [], ◌∷◌}
-use Rattle.std.specs.Prelude.{◌++◌}
+use Rattle.std.specs.Prelude.{◌++◌, ◌&&◌}
 use Rattle.std.specs.List.{list_any}
+use Rattle.std.specs.Option.{option_eq}
 use denote.Enum.Bare.{sameb}
 use Rattle.lk_locks.specs.contracts.kinds.StepKind.{the_type}
 use Rattle.lk_locks.specs.Change.{Change, to}
 use Rattle.lk_locks.specs.State.{State, phase_at}
-use Rattle.lk_locks.specs.Locks.{family_of, steps_of, after_call, step_due, step_of, step_entries}
+use Rattle.lk_locks.specs.Locks.{family_of, steps_of, after_call, step_due, step_of}
 use Rattle.lk_locks.specs.Types.{LockKind, Family, Queue, Phase, Idle, Op, Acquire, Release}
 use Rattle.lk_locks.specs.Types.{StepKind, Move, Call, Step, Outcome, Called, Refusal, NoSuchThread}
 use Rattle.lk_locks.specs.Types.{WrongLock, Busy, NotHolder, AlreadyHolds, NoCall, WrongStep, Entry}
@@ -54,10 +55,22 @@ refusal_of s t m =
     then (if belongs s.kind m then refusal_in s.kind (phase_at s.phases t) m else Some WrongLock)
     else Some NoSuchThread
 
+-- Acceptance, without the reasons of refusals: `refusal_of` gives none of exactly these moves, as a
+-- law of `theorems` says.
+
+-- a thread in this phase may make the call, or is due to take the step
+abbrev pub may_make : LockKind → Phase → Move → Bool
+may_make kind p (Call op) = is_some (after_call kind p op)
+may_make kind p (Step step) = option_eq same_step (Some step) (step_due kind p)
+
+abbrev pub accepts : State → ℕ → Move → Bool
+accepts s t m = nat_lt t (length s.phases) && may_make s.kind (phase_at s.phases t) m
+
 -- the change that an accepted move makes
 
 abbrev pub move_change : LockKind → ℕ → List ℕ → ℕ → Phase → Move → Change
-move_change kind bits ws t p (Call op) = to ws (unwrap_or (after_call kind p op) p) Called
+move_change kind bits ws t p (Call op) =
+    to ws (unwrap_or (after_call kind p op) p) Called (entry.Called t op ∷ [])
 move_change kind bits ws t p (Step step) = step_of kind bits ws t p
 
 abbrev pub change_of : State → ℕ → Move → Change
@@ -85,18 +98,10 @@ refused_with (Err r) = Some r
 abbrev pub after_move : State → ℕ → Move → State
 after_move s t m = if is_none (refusal_of s t m) then next_state s t m else s
 
--- the entries of an accepted move of thread t
-abbrev pub move_entries : LockKind → ℕ → Phase → Move → Outcome → List Entry
-move_entries kind t p (Call op) o = entry.Called t op ∷ []
-move_entries kind t p (Step step) o = step_entries kind t p o
-
-abbrev pub entries_of : State → ℕ → Move → List Entry
-entries_of s t m = move_entries s.kind t (phase_at s.phases t) m (change_of s t m).outcome
-
 -- the entries of moves one after another. A refused move has none, and changes nothing
 abbrev pub entries_after : State → List (ℕ × Move) → List Entry
 entries_after s [] = []
 entries_after s (m ∷ ms) =
-    if is_none (refusal_of s m.0 m.1)
-    then entries_of s m.0 m.1 ++ entries_after (next_state s m.0 m.1) ms
+    if accepts s m.0 m.1
+    then (change_of s m.0 m.1).entries ++ entries_after (next_state s m.0 m.1) ms
     else entries_after s ms

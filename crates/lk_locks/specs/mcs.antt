@@ -1,5 +1,4 @@
--- Definitions. The MCS queue lock: its words, calls and steps, and the history entries of its
--- steps.
+-- Definitions. The MCS queue lock: its words, its calls, and its steps with their history entries.
 --
 -- Mellor-Crummey and Scott, "Algorithms for Scalable Synchronization on Shared-Memory
 -- Multiprocessors", ACM TOCS 9(1), 1991, section 2.4, with the release that has compare-and-swap.
@@ -12,10 +11,10 @@ use Rattle.lk_words.specs.declared.operation.Operation.TheVariants.{Read, Write,
 use Rattle.lk_words.specs.declared.operation.Operation.TheVariants.{CompareAndSwap}
 use Rattle.lk_words.specs.declared.operation.Answer.{Answer}
 use Rattle.lk_words.specs.declared.operation.Answer.TheVariants.{Found, Swapped}
-use Rattle.lk_locks.specs.Change.{acts}
+use Rattle.lk_locks.specs.Change.{Change, acts, to}
 use Rattle.lk_locks.specs.Types.{ClearNext, SwapTail, SetLocked, AwaitGrant, McsInside, AwaitLink}
-use Rattle.lk_locks.specs.Types.{ReadNext, CasTail, Acquire, Release, Outcome, Entered, Returned}
-use Rattle.lk_locks.specs.Types.{Phase, Idle, LinkTo, Grant, Op, Moved, Waits, Left, Entry, Acted}
+use Rattle.lk_locks.specs.Types.{ReadNext, CasTail, Acquire, Release, Entered, Returned, Acted}
+use Rattle.lk_locks.specs.Types.{Phase, Idle, LinkTo, Grant, Op, Moved, Waits, Left}
 
 -- The index of each word: `tail` names the last thread of the queue, or is nil; thread i's `next`
 -- names its successor, and its `locked` is 1 while it has to wait.
@@ -48,30 +47,24 @@ operation i (Grant j) = Some (Write (locked j) 0)
 operation i p = None
 
 -- if the read found a successor, the thread's next step grants it the lock
-abbrev pub grant_or : ℕ → Phase × Outcome → Phase × Outcome
-grant_or found otherwise = if found == 0 then otherwise else (Grant (found - 1), Moved)
+abbrev pub grant_or : ℕ → List ℕ → Change → Change
+grant_or found ws otherwise = if found == 0 then otherwise else to ws (Grant (found - 1)) Moved []
 
--- the next phase and the outcome, by the answer of the operation
-abbrev pub after : Phase → Answer → Phase × Outcome
-after ClearNext answer = (SwapTail, Moved)
-after SwapTail (Found p) =
-    if p == 0 then (McsInside, Entered) else (SetLocked (p - 1), Moved)
-after (SetLocked j) answer = (LinkTo j, Moved)
-after (LinkTo j) answer = (AwaitGrant, Moved)
-after AwaitGrant (Found l) = if l == 0 then (McsInside, Entered) else (AwaitGrant, Waits)
-after ReadNext (Found s) = grant_or s (CasTail, Moved)
-after CasTail (Swapped true) = (Idle, Left)
-after CasTail (Swapped false) = (AwaitLink, Moved)
-after AwaitLink (Found s) = grant_or s (AwaitLink, Waits)
-after (Grant j) answer = (Idle, Left)
-after p answer = (p, Waits)
-
--- The entries of a step. An acquire acts at its swap, and returns when it enters: at the swap
--- if that found nil, otherwise at the read that finds `locked` 0. A release acts and returns at its
--- last step.
-abbrev pub entries : ℕ → Phase → Outcome → List Entry
-entries i SwapTail Moved = Acted i Acquire ∷ []
-entries i SwapTail Entered = acts i Acquire
-entries i AwaitGrant Entered = Returned i Acquire ∷ []
-entries i p Left = acts i Release
-entries i p o = []
+-- The change of a step of thread i, by the answer of its operation, which leaves the words `ws`. An
+-- acquire acts at its swap, and returns when it enters: at the swap if that found nil, otherwise at
+-- the read that finds `locked` 0. A release acts and returns at its last step.
+abbrev pub after : ℕ → Phase → Answer → List ℕ → Change
+after i ClearNext answer ws = to ws SwapTail Moved []
+after i SwapTail (Found p) ws =
+    if p == 0 then to ws McsInside Entered (acts i Acquire)
+    else to ws (SetLocked (p - 1)) Moved (Acted i Acquire ∷ [])
+after i (SetLocked j) answer ws = to ws (LinkTo j) Moved []
+after i (LinkTo j) answer ws = to ws AwaitGrant Moved []
+after i AwaitGrant (Found l) ws =
+    if l == 0 then to ws McsInside Entered (Returned i Acquire ∷ []) else to ws AwaitGrant Waits []
+after i ReadNext (Found s) ws = grant_or s ws (to ws CasTail Moved [])
+after i CasTail (Swapped true) ws = to ws Idle Left (acts i Release)
+after i CasTail (Swapped false) ws = to ws AwaitLink Moved []
+after i AwaitLink (Found s) ws = grant_or s ws (to ws AwaitLink Waits [])
+after i (Grant j) answer ws = to ws Idle Left (acts i Release)
+after i p answer ws = to ws p Waits []

@@ -1,20 +1,20 @@
 -- Definitions. The common part of the two read-write locks: their calls, their one kind of step,
--- and the entries of their sections.
+-- and the effect of a section.
 --
 -- After Herlihy and Shavit, The Art of Multiprocessor Programming, chapter 8. `Downgrade`, by which
 -- a writer becomes a reader in one section, is an addition.
-use Rattle.std.specs.Prelude.{ℕ, ◌<◌, slice_index, List, [], ◌∷◌, ◌++◌, Option, None, Some}
+use Rattle.std.specs.Prelude.{ℕ, ◌<◌, slice_index, List, Option, None, Some}
 use Rattle.std.specs.Prelude.{◌≡◌, ◌≢◌, ◌==◌, if◌then◌else◌, length}
 use Rattle.std.specs.Option.{option_or}
 use Rattle.lk_words.specs.declared.operation.Answer.TheVariants.{Nothing}
 use Rattle.lk_words.specs.declared.operation.Effect.{Effect}
-use Rattle.lk_locks.specs.Change.{acts, announcement, Change}
+use Rattle.lk_locks.specs.Change.{Change}
 use Rattle.lk_locks.specs.rw_fifo
 use Rattle.lk_locks.specs.rw_simple
-use Rattle.lk_locks.specs.Types.{FifoReadWrite, TryWrite, AwaitReaders, TryDowngrade, SectionEffect}
+use Rattle.lk_locks.specs.Types.{FifoReadWrite, TryWrite, TryDowngrade, SectionEffect}
 use Rattle.lk_locks.specs.Types.{TryRead, LeaveRead, LeaveWrite, ReadUnlock, WriteLock, WriteUnlock}
-use Rattle.lk_locks.specs.Types.{Family, Reading, Writing, ReadLock, Downgrade, StepKind, Announced}
-use Rattle.lk_locks.specs.Types.{Phase, Idle, Op, Section, Outcome, Moved, Entered, Left, Entry}
+use Rattle.lk_locks.specs.Types.{Family, Reading, Writing, ReadLock, Downgrade, StepKind}
+use Rattle.lk_locks.specs.Types.{Phase, Idle, Op, Section}
 
 -- the calls that a thread in this phase may make, and the phases to which they lead
 abbrev pub after_call : Phase → Op → Option Phase
@@ -37,10 +37,10 @@ abbrev pub word_count : Family → ℕ
 word_count FifoReadWrite = 3
 word_count family = 2
 
--- a section of a thread in this phase
-abbrev pub step : Family → ℕ → List ℕ → Phase → Change
-step FifoReadWrite bits ws p = rw_fifo.step bits ws p
-step family bits ws p = rw_simple.step bits ws p
+-- a section of thread i in this phase
+abbrev pub step : Family → ℕ → List ℕ → ℕ → Phase → Change
+step FifoReadWrite bits ws i p = rw_fifo.step bits ws i p
+step family bits ws i p = rw_simple.step bits ws i p
 
 -- the change of word i, if it differs between these lists
 abbrev pub change_at : List ℕ → List ℕ → ℕ → Option Effect
@@ -60,15 +60,15 @@ change_to ws (Some (i, value)) =
     if slice_index ws i == value then None
     else Some (record { word = i; found = slice_index ws i; left = value; answer = Nothing })
 
--- the effect of a section of a thread in this phase: on the first word, and on one of the others
-abbrev pub effect : Family → ℕ → List ℕ → Phase → SectionEffect
-effect family bits ws p = record {
-  first = change_at ws (step family bits ws p).words 0;
-  second =
-      option_or (change_at ws (step family bits ws p).words 1)
-      (change_at ws (step family bits ws p).words 2);
-  outcome = (step family bits ws p).outcome;
-}
+-- the effect of a section of thread i in this phase: on the first word, and on one of the others
+abbrev pub effect : Family → ℕ → List ℕ → ℕ → Phase → SectionEffect
+effect family bits ws i p =
+    let made : Change = step family bits ws i p in
+    record {
+      first = change_at ws made.words 0;
+      second = option_or (change_at ws made.words 1) (change_at ws made.words 2);
+      outcome = made.outcome;
+    }
 
 -- this word is the one that changes
 abbrev pub IsOn : Option Effect → ℕ → Type 0
@@ -88,15 +88,3 @@ pub record Tells (section : SectionEffect) (before after : List ℕ) : Type 0 wh
   pub apart : (i : ℕ) → IsOn section.first i → IsOn section.second i → ⊥
   pub others : (i : ℕ) → (IsOn section.first i → ⊥) → (IsOn section.second i → ⊥)
       → slice_index after i ≡ slice_index before i
-
--- The entries of a section. A FIFO writer announces itself when it sets the flag; a call acts
--- when it succeeds.
-abbrev pub entries : Family → ℕ → Phase → Outcome → List Entry
-entries family i TryRead Entered = acts i ReadLock
-entries family i LeaveRead Left = acts i ReadUnlock
-entries family i TryWrite Moved = Announced i ∷ []
-entries family i TryWrite Entered = announcement family i WriteLock ++ acts i WriteLock
-entries family i AwaitReaders Entered = acts i WriteLock
-entries family i LeaveWrite Left = acts i WriteUnlock
-entries family i TryDowngrade Entered = acts i Downgrade
-entries family i p o = []

@@ -80,7 +80,7 @@ impl<W: Words> Keeper<W> {
         ensures kept { OnErr result (self.new ≡ self.old) }
     {
         self.lock.machine().check(t, m).map_err(PlayFault::Refused)?;
-        self.history.make_room().or(Err(PlayFault::OutOfMemory))?;
+        self.history.make_room()?;
         match self.lock.play(t, m) {
             Ok((outcome, added)) => {
                 self.history.append(added.entries(t).as_slice());

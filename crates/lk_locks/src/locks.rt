@@ -2,14 +2,14 @@
 //! the locks share calls these, and knows no lock.
 
 ghost use Rattle.std.specs.Prelude.{◌≡◌, ◌≤◌, ℕ, IfSome};
-ghost use Rattle.lk_locks.specs.Change.{Makes, entries_by};
+ghost use Rattle.lk_locks.specs.Change.{Makes};
 ghost use Rattle.lk_locks.specs.Locks.{family_of, word_count, after_call, step_due};
-ghost use Rattle.lk_locks.specs.Locks.{operation_of, effect_of, step_of, step_entries};
+ghost use Rattle.lk_locks.specs.Locks.{operation_of, effect_of, step_of};
 ghost use Rattle.lk_locks.specs.Effects.{IsEffectOf};
-ghost use Rattle.lk_locks.specs.Steps.{belongs};
+ghost use Rattle.lk_locks.specs.Steps.{belongs, move_change};
 ghost use Rattle.lk_locks.specs.invariants.WellFormed.{IsReady};
 
-use crate::entries::Added;
+use crate::entries::{Added, Next};
 use crate::{
     Family, LockKind, Move, Op, Outcome, Phase, StepEffect, StepKind, mcs, read_write, ticket,
 };
@@ -43,23 +43,17 @@ pub fn words_needed(kind: LockKind, threads: u8) -> usize
 pub fn belongs(kind: LockKind, action: Move) -> bool
     ensures { result ≡ belongs kind action }
 {
-    use Move::{Call, Step};
-    use Op::{Acquire, Downgrade, ReadLock, ReadUnlock, Release, WriteLock, WriteUnlock};
     use StepKind::{Add, Cas, Read, Section, Swap, Write};
-    match kind {
-        LockKind::Ticket => matches!(action, Call(Acquire | Release) | Step(Add | Read | Write)),
-        LockKind::Mcs => {
-            matches!(
-                action,
-                Call(Acquire | Release) | Step(Read | Write | Swap | Cas)
-            )
+    match action {
+        Move::Call(op) => {
+            let is_queued = matches!(op, Op::Acquire | Op::Release);
+            is_queued == matches!(kind, LockKind::Ticket | LockKind::Mcs)
         }
-        LockKind::RwSimple | LockKind::RwFifo => {
-            matches!(
-                action,
-                Call(ReadLock | ReadUnlock | WriteLock | WriteUnlock | Downgrade)
-            ) || action == Step(Section)
-        }
+        Move::Step(step) => match kind {
+            LockKind::Ticket => matches!(step, Add | Read | Write),
+            LockKind::Mcs => matches!(step, Read | Write | Swap | Cas),
+            LockKind::RwSimple | LockKind::RwFifo => step == Section,
+        },
     }
 }
 
@@ -91,16 +85,8 @@ pub fn operation_of(kind: LockKind, bits: u8, thread: u8, phase: Phase) -> Optio
     }
 }
 
-/// The step that a thread in this phase takes next, if it has a pending call. Which kind it is
-/// depends on neither thread nor bits.
-#[inline(always)]
-pub(crate) fn step_due(kind: LockKind, phase: Phase) -> Option<StepKind>
-    ensures { result ≡ step_due kind phase }
-{
-    step_by(kind, phase, operation_of(kind, 64, 0, phase))
-}
-
-/// The step that a thread in this phase takes next, by the operation that it makes next.
+/// Returns the step that a thread in this phase takes next, by the operation that it makes next, if
+/// it has a pending call. Which kind it is depends on neither thread nor bits.
 #[inline(always)]
 pub(crate) fn step_by(
     kind: LockKind,
@@ -122,32 +108,33 @@ pub(crate) fn step_by(
     })
 }
 
-/// A step of a thread in this phase, which makes this operation, with its new phase.
+/// Makes an accepted move of a thread on the words, and returns the thread's new phase, the outcome
+/// and the entries. `operation` is the one that its next step makes.
 #[inline(always)]
-pub(crate) fn take_step<W: Words>(
+pub(crate) fn make_move<W: Words>(
     words: &mut W,
     kind: LockKind,
     thread: u8,
     phase: Phase,
     operation: Option<Operation>,
-) -> (Phase, Outcome)
+    action: Move,
+) -> Next
     requires ready { IsReady kind (W.width words.old) (W.list words.old) thread phase }
     requires due { operation ≡ operation_of kind (W.width words.old) thread phase }
-    ensures change { Makes (W.list words.new) result
-        (step_of kind (W.width words.old) (W.list words.old) thread phase) }
+    ensures change { Makes (W.list words.new) thread result
+        (move_change kind (W.width words.old) (W.list words.old) thread phase action) }
     ensures width { W.width words.new ≡ W.width words.old }
 {
-    match kind {
-        LockKind::Ticket => match operation {
-            Some(operation) => ticket::after(phase, perform(words, operation)),
-            None => (phase, Outcome::Waits),
-        },
-        LockKind::Mcs => match operation {
-            Some(operation) => mcs::after(phase, perform(words, operation)),
-            None => (phase, Outcome::Waits),
-        },
-        LockKind::RwSimple => read_write::step(words, Family::ReadWrite, phase),
-        LockKind::RwFifo => read_write::step(words, Family::FifoReadWrite, phase),
+    if let Move::Call(op) = action {
+        let next = after_call(kind, phase, op).unwrap_or(phase);
+        return (next, Outcome::Called, Added::Call(op));
+    }
+    match (kind, operation) {
+        (LockKind::Ticket, Some(operation)) => ticket::after(phase, perform(words, operation)),
+        (LockKind::Mcs, Some(operation)) => mcs::after(phase, perform(words, operation)),
+        (LockKind::Ticket | LockKind::Mcs, None) => (phase, Outcome::Waits, Added::Nothing),
+        (LockKind::RwSimple, _) => read_write::step(words, Family::ReadWrite, phase),
+        (LockKind::RwFifo, _) => read_write::step(words, Family::FifoReadWrite, phase),
     }
 }
 
@@ -175,20 +162,6 @@ pub(crate) fn effect_of(
         LockKind::RwSimple | LockKind::RwFifo => {
             read_write::step_due(phase)?;
             Some(StepEffect::Monitor(read_write::effect(words, family_of(kind), phase)))
-        }
-    }
-}
-
-/// The entries of a step.
-#[inline(always)]
-pub(crate) fn step_entries(kind: LockKind, phase: Phase, outcome: Outcome) -> Added
-    ensures { (t : ℕ) → entries_by t result ≡ step_entries kind t phase outcome }
-{
-    match kind {
-        LockKind::Ticket => ticket::entries(phase, outcome),
-        LockKind::Mcs => mcs::entries(phase, outcome),
-        LockKind::RwSimple | LockKind::RwFifo => {
-            read_write::entries(family_of(kind), phase, outcome)
         }
     }
 }

@@ -6,28 +6,27 @@
 //! Different here: each thread has one record, and thread `i`'s is record `i + 1`, so that 0 is
 //! nil; the last write of a release uses the successor that was read last.
 //!
-//! In contracts `after_call`, `operation`, `after` and `entries` are the definitions of
-//! `specs/mcs.antt`.
+//! In contracts `after_call`, `operation` and `after` are the definitions of `specs/mcs.antt`.
 
-ghost use Rattle.std.specs.Prelude.{◌≡◌, ◌+◌, ◌-◌, ◌<◌, ◌≤◌, ℕ};
-ghost use Rattle.lk_locks.specs.Change.{entries_by};
-ghost use Rattle.lk_locks.specs.mcs.{next, locked, after_call, operation, after, entries};
+ghost use Rattle.std.specs.Prelude.{◌≡◌, ◌+◌, ◌-◌, ◌<◌, ◌≤◌, ℕ, List};
+ghost use Rattle.lk_locks.specs.Change.{Makes};
+ghost use Rattle.lk_locks.specs.mcs.{next, locked, after_call, operation, after};
 ghost use Rattle.lk_locks.specs.invariants.mcs.{IsInRange};
 
-use crate::entries::Added;
-use crate::{Op, Outcome, Phase};
+use crate::Outcome::{Entered, Left, Moved, Waits};
+use crate::Phase::{
+    AwaitGrant, AwaitLink, CasTail, ClearNext, Grant, Idle, LinkTo, McsInside, ReadNext, SetLocked,
+    SwapTail,
+};
+use crate::entries::Added::{Act, ActAndReturn, Nothing, Return};
+use crate::entries::Next;
+use crate::{Op, Phase};
+use lk_words::Answer::{Found, Swapped};
 use lk_words::{Answer, Operation};
 
 const TAIL: usize = 0;
 
 const NIL: u64 = 0;
-
-// The number of a thread's record; 0 is nil.
-fn record(thread: u8) -> u64
-    ensures { result ≡ thread + 1 }
-{
-    thread as u64 + 1
-}
 
 // The thread whose record this link names; it is not nil.
 fn owner_of(link: u64) -> u8
@@ -58,8 +57,8 @@ pub fn after_call(phase: Phase, op: Op) -> Option<Phase>
     ensures { result ≡ after_call phase op }
 {
     match (phase, op) {
-        (Phase::Idle, Op::Acquire) => Some(Phase::ClearNext),
-        (Phase::McsInside, Op::Release) => Some(Phase::ReadNext),
+        (Idle, Op::Acquire) => Some(ClearNext),
+        (McsInside, Op::Release) => Some(ReadNext),
         _ => None,
     }
 }
@@ -69,35 +68,36 @@ pub fn after_call(phase: Phase, op: Op) -> Option<Phase>
 pub fn operation(thread: u8, phase: Phase) -> Option<Operation>
     ensures { result ≡ operation thread phase }
 {
+    let record = thread as u64 + 1;
     match phase {
         // a link of an earlier call may be here; after the swap it would pass for a successor's
-        Phase::ClearNext => Some(Operation::Write {
+        ClearNext => Some(Operation::Write {
             word: next(thread),
             value: NIL,
         }),
-        Phase::SwapTail => Some(Operation::Swap {
+        SwapTail => Some(Operation::Swap {
             word: TAIL,
-            value: record(thread),
+            value: record,
         }),
         // before the link: a linked thread may be granted the lock, and a later 1 would undo that
-        Phase::SetLocked(_) => Some(Operation::Write {
+        SetLocked(_) => Some(Operation::Write {
             word: locked(thread),
             value: 1,
         }),
-        Phase::LinkTo(predecessor) => Some(Operation::Write {
+        LinkTo(predecessor) => Some(Operation::Write {
             word: next(predecessor),
-            value: record(thread),
+            value: record,
         }),
-        Phase::AwaitGrant => Some(Operation::Read {
+        AwaitGrant => Some(Operation::Read {
             word: locked(thread),
         }),
-        Phase::ReadNext | Phase::AwaitLink => Some(Operation::Read { word: next(thread) }),
-        Phase::CasTail => Some(Operation::CompareAndSwap {
+        ReadNext | AwaitLink => Some(Operation::Read { word: next(thread) }),
+        CasTail => Some(Operation::CompareAndSwap {
             word: TAIL,
-            old: record(thread),
+            old: record,
             new: NIL,
         }),
-        Phase::Grant(successor) => Some(Operation::Write {
+        Grant(successor) => Some(Operation::Write {
             word: locked(successor),
             value: 0,
         }),
@@ -105,47 +105,29 @@ pub fn operation(thread: u8, phase: Phase) -> Option<Operation>
     }
 }
 
-/// The next phase and the outcome, by the answer of the phase's operation.
+/// Returns the next phase, the outcome and the entries, by the answer of the phase's operation. An
+/// acquire acts at its swap, and returns when it enters. A release acts and returns at its last
+/// step.
 #[inline(always)]
-pub fn after(phase: Phase, answer: Answer) -> (Phase, Outcome)
+pub fn after(phase: Phase, answer: Answer) -> Next
     requires { IsInRange phase answer }
-    ensures { result ≡ after phase answer }
+    ensures { (t : ℕ) (ws : List ℕ) → Makes ws t result (after t phase answer ws) }
 {
     match (phase, answer) {
-        (Phase::ClearNext, _) => (Phase::SwapTail, Outcome::Moved),
-        (Phase::SwapTail | Phase::AwaitGrant, Answer::Found(0)) => {
-            (Phase::McsInside, Outcome::Entered)
-        }
-        (Phase::SwapTail, Answer::Found(link)) => {
-            (Phase::SetLocked(owner_of(link)), Outcome::Moved)
-        }
-        (Phase::SetLocked(predecessor), _) => (Phase::LinkTo(predecessor), Outcome::Moved),
-        (Phase::LinkTo(_), _) => (Phase::AwaitGrant, Outcome::Moved),
-        (Phase::ReadNext, Answer::Found(0)) => (Phase::CasTail, Outcome::Moved),
-        (Phase::ReadNext | Phase::AwaitLink, Answer::Found(link)) if link != 0 => {
-            (Phase::Grant(owner_of(link)), Outcome::Moved)
-        }
-        // nobody came after this thread: the queue is empty again
-        (Phase::CasTail, Answer::Swapped(true)) => (Phase::Idle, Outcome::Left),
+        (ClearNext, _) => (SwapTail, Moved, Nothing),
+        (SwapTail, Found(0)) => (McsInside, Entered, ActAndReturn(Op::Acquire)),
+        (SwapTail, Found(link)) => (SetLocked(owner_of(link)), Moved, Act(Op::Acquire)),
+        (SetLocked(predecessor), _) => (LinkTo(predecessor), Moved, Nothing),
+        (LinkTo(_), _) => (AwaitGrant, Moved, Nothing),
+        (AwaitGrant, Found(0)) => (McsInside, Entered, Return(Op::Acquire)),
+        (ReadNext, Found(0)) => (CasTail, Moved, Nothing),
+        (ReadNext | AwaitLink, Found(link)) if link != 0 => (Grant(owner_of(link)), Moved, Nothing),
         // Another thread has swapped the tail, perhaps without linking itself yet. Until it does,
         // this record does not name it: a release that returned now would grant to nobody.
-        (Phase::CasTail, Answer::Swapped(false)) => (Phase::AwaitLink, Outcome::Moved),
-        (Phase::Grant(_), _) => (Phase::Idle, Outcome::Left),
+        (CasTail, Swapped(false)) => (AwaitLink, Moved, Nothing),
+        // if the compare-and-swap succeeds, nobody came after this thread: the queue is empty again
+        (CasTail, Swapped(true)) | (Grant(_), _) => (Idle, Left, ActAndReturn(Op::Release)),
         // a failed poll; in a phase without a step the machine refuses the move
-        _ => (phase, Outcome::Waits),
-    }
-}
-
-/// The history entries of a step with this outcome.
-#[inline(always)]
-pub fn entries(phase: Phase, outcome: Outcome) -> Added
-    ensures { (t : ℕ) → entries_by t result ≡ entries t phase outcome }
-{
-    match (phase, outcome) {
-        (Phase::SwapTail, Outcome::Moved) => Added::Act(Op::Acquire),
-        (Phase::SwapTail, Outcome::Entered) => Added::ActAndReturn(Op::Acquire),
-        (Phase::AwaitGrant, Outcome::Entered) => Added::Return(Op::Acquire),
-        (_, Outcome::Left) => Added::ActAndReturn(Op::Release),
-        _ => Added::Nothing,
+        _ => (phase, Waits, Nothing),
     }
 }

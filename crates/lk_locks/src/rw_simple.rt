@@ -10,23 +10,21 @@ ghost use Rattle.std.specs.Prelude.{◌≡◌, ◌<◌, ◌≤◌, ◌^◌, List
 ghost use Rattle.lk_locks.specs.rw_simple.{step};
 ghost use Rattle.lk_locks.specs.invariants.read_write.{IsSection};
 
+use crate::entries::Added::{ActAndReturn, Nothing};
 use crate::read_write::Section;
-use crate::{Outcome, Phase};
+use crate::{Op, Outcome, Phase};
 use lk_words::{greatest_of, sum};
 
-const READERS: usize = 0;
-
-const FLAG: usize = 1;
-
-/// A section of a thread in this phase that finds these words of `bits` bits. In the contract
-/// `step` is the definition of `specs/rw_simple.antt`.
+/// Returns the section of a thread in this phase that finds these words of `bits` bits: word 0
+/// counts the readers, and word 1 is the flag. In the contract `step` is the definition of
+/// `specs/rw_simple.antt`.
 #[tactic(auto, using(crate::proofs::Words::one_fits))]
 #[inline(always)]
 pub fn section(bits: u8, readers: u64, flag: u64, phase: Phase) -> Section
     requires least { 2 ≤ bits }
     requires most { bits ≤ 64 }
-    ensures does { (ws : List ℕ) → slice_index ws 0 ≡ readers → slice_index ws 1 ≡ flag
-        → IsSection result ws (step bits ws phase) }
+    ensures does { (ws : List ℕ) (t : ℕ) → slice_index ws 0 ≡ readers → slice_index ws 1 ≡ flag
+        → IsSection result ws t (step bits ws t phase) }
     ensures first { IfSome result.first (λ first. (first.0 ≡ 0) × (first.1 < 2 ^ bits)) }
     ensures other { IfSome result.other (λ other. (other.0 ≡ 1) × (other.1 < 2 ^ bits)) }
 {
@@ -35,23 +33,30 @@ pub fn section(bits: u8, readers: u64, flag: u64, phase: Phase) -> Section
     match phase {
         TryRead if flag == 0 => {
             let readers = sum(bits, readers, 1);
-            Section::new(Some((READERS, readers)), None, Reading, Entered)
+            let next = (Reading, Entered, ActAndReturn(Op::ReadLock));
+            Section::new(Some((0, readers)), None, next)
         }
         // adding 2^B - 1 subtracts one modulo 2^B, without a case for 0
         LeaveRead => {
             let readers = sum(bits, readers, greatest_of(bits));
-            Section::new(Some((READERS, readers)), None, Idle, Left)
+            let next = (Idle, Left, ActAndReturn(Op::ReadUnlock));
+            Section::new(Some((0, readers)), None, next)
         }
         TryWrite if readers == 0 && flag == 0 => {
-            Section::new(None, Some((FLAG, 1)), Writing, Entered)
+            let next = (Writing, Entered, ActAndReturn(Op::WriteLock));
+            Section::new(None, Some((1, 1)), next)
         }
-        LeaveWrite => Section::new(None, Some((FLAG, 0)), Idle, Left),
+        LeaveWrite => {
+            let next = (Idle, Left, ActAndReturn(Op::WriteUnlock));
+            Section::new(None, Some((1, 0)), next)
+        }
         // both in one section, so that no writer comes in between
         TryDowngrade => {
             let readers = sum(bits, readers, 1);
-            Section::new(Some((READERS, readers)), Some((FLAG, 0)), Reading, Entered)
+            let next = (Reading, Entered, ActAndReturn(Op::Downgrade));
+            Section::new(Some((0, readers)), Some((1, 0)), next)
         }
         // a failed poll; in a phase without a step the machine refuses the move
-        _ => Section::new(None, None, phase, Waits),
+        _ => Section::new(None, None, (phase, Waits, Nothing)),
     }
 }

@@ -4,7 +4,10 @@
 //! `Keeper::entries` ensures that what a keeper recorded is legal, so each law holds of every
 //! keeper's entries.
 
-ghost use Rattle.std.specs.Prelude.{None};
+ghost use Rattle.std.specs.Prelude.{None, is_none, ℕ, ◌≡◌};
+ghost use Rattle.lk_locks.specs.State.{State};
+ghost use Rattle.lk_locks.specs.Steps.{accepts, refusal_of};
+ghost use Rattle.lk_locks.specs.Types.{Move};
 ghost use Rattle.lk_locks.specs.Legal.{OfEveryLegal};
 ghost use Rattle.lk_locks.specs.MainTheorem.{EveryRunIsAsPromised};
 ghost use Rattle.lk_locks.specs.Exclusion.{IsHeldInTurn, IsHeldByHead, HasOneHolder, HasOneWriter};
@@ -17,6 +20,12 @@ ghost use Rattle.lk_locks.specs.Calls.{ActsOnce, ActsInCalls};
 /// or swaps.
 pub fn every_run_is_as_promised()
     ensures { EveryRunIsAsPromised }
+{}
+
+/// A move is accepted exactly if no refusal applies to it.
+#[tactic(auto, using(crate::proofs::Acceptance::accepts_unless_refused))]
+pub fn accepts_unless_refused()
+    ensures { (s : State) (t : ℕ) (m : Move) → accepts s t m ≡ is_none (refusal_of s t m) }
 {}
 
 /// An acquire returns only if nobody holds the queue lock, and only its holder releases it.
@@ -50,7 +59,7 @@ pub fn never_two_writers()
 {}
 
 /// Between the acts of a writer and a reader the first stops writing or reading, and at no moment
-/// are there both.
+/// do the acts leave both.
 #[tactic(auto, using(crate::proofs::SharedLaws::never_a_writer_beside_a_reader))]
 pub fn never_a_writer_beside_a_reader()
     ensures { OfEveryLegal IsNeverBesideReader }

@@ -5,20 +5,20 @@
 //! tickets wrap; back-off is not a step; a release is two steps, a read of `now_serving` and a
 //! write of the value read plus one.
 //!
-//! In contracts `after_call`, `operation`, `after` and `entries` are the definitions of
-//! `specs/ticket.antt`.
+//! In contracts `after_call` is the definition of `specs/ticket.antt`, and `operation` and `after`
+//! are those of `specs/laws.antt`.
 
-ghost use Rattle.std.specs.Prelude.{◌≡◌, ◌≤◌, ℕ};
-ghost use Rattle.lk_locks.specs.Change.{entries_by};
-ghost use Rattle.lk_locks.specs.ticket.{after_call, operation, after, entries};
+ghost use Rattle.std.specs.Prelude.{◌≡◌, ◌≤◌, ℕ, List};
+ghost use Rattle.lk_locks.specs.Change.{Makes};
+ghost use Rattle.lk_locks.specs.ticket.{after_call, operation, after};
 
-use crate::entries::Added;
-use crate::{Op, Outcome, Phase};
+use crate::Outcome::{Entered, Left, Moved, Waits};
+use crate::Phase::{AwaitTurn, Idle, PassOn, ReadServing, TakeTicket, TicketInside};
+use crate::entries::Added::{Act, ActAndReturn, Nothing, Return};
+use crate::entries::Next;
+use crate::{Op, Phase};
+use lk_words::Answer::Found;
 use lk_words::{Answer, Operation, sum};
-
-const NEXT_TICKET: usize = 0;
-
-const NOW_SERVING: usize = 1;
 
 /// The phase that a call leads to, if a thread in this phase may make it.
 #[inline(always)]
@@ -26,13 +26,14 @@ pub fn after_call(phase: Phase, op: Op) -> Option<Phase>
     ensures { result ≡ after_call phase op }
 {
     match (phase, op) {
-        (Phase::Idle, Op::Acquire) => Some(Phase::TakeTicket),
-        (Phase::TicketInside(ticket), Op::Release) => Some(Phase::ReadServing(ticket)),
+        (Idle, Op::Acquire) => Some(TakeTicket),
+        (TicketInside(ticket), Op::Release) => Some(ReadServing(ticket)),
         _ => None,
     }
 }
 
-/// The next operation of a thread in this phase, on one word of `bits` bits.
+/// Returns the next operation of a thread in this phase, on word 0, `next_ticket`, or on word 1,
+/// `now_serving`, of `bits` bits.
 #[inline(always)]
 pub fn operation(bits: u8, phase: Phase) -> Option<Operation>
     requires least { 2 ≤ bits }
@@ -40,49 +41,33 @@ pub fn operation(bits: u8, phase: Phase) -> Option<Operation>
     ensures { result ≡ operation bits phase }
 {
     match phase {
-        Phase::TakeTicket => Some(Operation::FetchAndAdd {
-            word: NEXT_TICKET,
-            addend: 1,
-        }),
-        Phase::AwaitTurn(_) | Phase::ReadServing(_) => {
-            Some(Operation::Read { word: NOW_SERVING })
-        }
+        TakeTicket => Some(Operation::FetchAndAdd { word: 0, addend: 1 }),
+        AwaitTurn(_) | ReadServing(_) => Some(Operation::Read { word: 1 }),
         // no fetch-and-add is needed: only the holder writes this word
-        Phase::PassOn(serving) => Some(Operation::Write {
-            word: NOW_SERVING,
+        PassOn(serving) => Some(Operation::Write {
+            word: 1,
             value: sum(bits, serving, 1),
         }),
         _ => None,
     }
 }
 
-/// The next phase and the outcome, by the answer of the phase's operation.
+/// Returns the next phase, the outcome and the entries, by the answer of the phase's operation. An
+/// acquire acts at its fetch-and-add, and returns at the read that finds its ticket. A release acts
+/// and returns at its last step.
 #[inline(always)]
-pub fn after(phase: Phase, answer: Answer) -> (Phase, Outcome)
-    ensures { result ≡ after phase answer }
+pub fn after(phase: Phase, answer: Answer) -> Next
+    ensures { (t : ℕ) (ws : List ℕ) → Makes ws t result (after t phase answer ws) }
 {
     match (phase, answer) {
-        (Phase::TakeTicket, Answer::Found(ticket)) => (Phase::AwaitTurn(ticket), Outcome::Moved),
+        (TakeTicket, Found(ticket)) => (AwaitTurn(ticket), Moved, Act(Op::Acquire)),
         // `==` and not `>=`: tickets wrap
-        (Phase::AwaitTurn(ticket), Answer::Found(serving)) if serving == ticket => {
-            (Phase::TicketInside(ticket), Outcome::Entered)
+        (AwaitTurn(ticket), Found(serving)) if serving == ticket => {
+            (TicketInside(ticket), Entered, Return(Op::Acquire))
         }
-        (Phase::ReadServing(_), Answer::Found(serving)) => (Phase::PassOn(serving), Outcome::Moved),
-        (Phase::PassOn(_), _) => (Phase::Idle, Outcome::Left),
+        (ReadServing(_), Found(serving)) => (PassOn(serving), Moved, Nothing),
+        (PassOn(_), _) => (Idle, Left, ActAndReturn(Op::Release)),
         // a failed poll; in a phase without a step the machine refuses the move
-        _ => (phase, Outcome::Waits),
-    }
-}
-
-/// The history entries of a step with this outcome.
-#[inline(always)]
-pub fn entries(phase: Phase, outcome: Outcome) -> Added
-    ensures { (t : ℕ) → entries_by t result ≡ entries t phase outcome }
-{
-    match (phase, outcome) {
-        (Phase::TakeTicket, Outcome::Moved) => Added::Act(Op::Acquire),
-        (Phase::AwaitTurn(_), Outcome::Entered) => Added::Return(Op::Acquire),
-        (Phase::PassOn(_), Outcome::Left) => Added::ActAndReturn(Op::Release),
-        _ => Added::Nothing,
+        _ => (phase, Waits, Nothing),
     }
 }

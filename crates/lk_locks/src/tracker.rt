@@ -8,7 +8,7 @@ ghost use Rattle.lk_locks.specs.Play.{Tracked, tracker_of, tracker_after, holdin
 ghost use Rattle.lk_locks.specs.invariants.Kept.{IsRecorded, IsTracked};
 ghost use Rattle.lk_locks.specs.State.{start_of};
 ghost use Rattle.lk_locks.specs.Sequential.{nobody};
-ghost use Rattle.lk_locks.specs.Steps.{change_of, refusal_of, refused_with, entries_of};
+ghost use Rattle.lk_locks.specs.Steps.{change_of, refusal_of, refused_with};
 
 use crate::entries::Added;
 use crate::holders::copy_of;
@@ -76,7 +76,7 @@ impl<W: Words> Tracker<W> {
         ensures outcome { IfOk result
             (λ played. played.0 ≡ (change_of self.old.state t m).outcome) }
         ensures entries { IfOk result
-            (λ played. entries_by t played.1 ≡ entries_of self.old.state t m) }
+            (λ played. entries_by t played.1 ≡ (change_of self.old.state t m).entries) }
         ensures after { self.new ≡ tracker_after self.old t m }
     {
         let (outcome, added) = self.machine.play(t, m)?;

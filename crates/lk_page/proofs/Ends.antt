@@ -4,7 +4,7 @@ use Rattle.std.proofs.Common.{append-nil, ℕ, length, take, drop, Result, Ok, r
 use Rattle.std.specs.List.{flat_map}
 use Rattle.std.specs.Option.{option_map_or}
 use Rattle.lk_locks.specs.State.{start_of}
-use Rattle.lk_locks.specs.Steps.{refusal_of, next_state, entries_of}
+use Rattle.lk_locks.specs.Steps.{refusal_of, next_state, change_of}
 use Rattle.lk_locks.specs.declared.kinds.Refusal.{Refusal}
 use Rattle.lk_replay.specs.Replay.{replay_from, made_by, with_move, refused_or}
 use Rattle.lk_replay.specs.declared.schedule.Line.{Line}
@@ -26,7 +26,7 @@ entries_step : (r : Option Refusal) (m : Moment) (l : Line) (ls : List Line)
     ≡ m.entries ++ flat_map (λ x. x.entries) (refused_or r l.number (with_move
     (made_by m.state l) (replay_from (next_state m.state l.thread l.action) ls))).made
 entries_step None m l ls later =
-    later ∙ append_assoc m.entries (entries_of m.state l.thread l.action) _
+    later ∙ append_assoc m.entries (change_of m.state l.thread l.action).entries _
 entries_step (Some r) m l ls later = sym (append-nil m.entries)
 
 entries_replayed : (m : Moment) (ls : List Line)

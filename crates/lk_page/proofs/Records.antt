@@ -1,7 +1,7 @@
 -- The record of a move that was made, and the lock after it.
 use Rattle.std.proofs.Common.{◌≡◌, ℕ, List, ◌++◌, None, refl, Bool, length, Option, ap, ◌∙◌}
 use Rattle.lk_locks.specs.State.{State, phase_at}
-use Rattle.lk_locks.specs.Steps.{refusal_of, next_state, entries_of, change_of}
+use Rattle.lk_locks.specs.Steps.{refusal_of, next_state, change_of}
 use Rattle.lk_locks.specs.Sequential.{nobody}
 use Rattle.lk_locks.specs.Play.{tracker_of, tracker_with, tracker_after, Tracked, holding_in}
 use Rattle.lk_locks.specs.Play.{waiting_in}
@@ -32,8 +32,9 @@ more_tracked s t m es new = rw (after_append (nobody s.kind) es new, holder_appe
 
 -- an accepted move leaves the lock that its entries lead to
 pub tracked_on : (s : State) (t : ℕ) (m : Move) (es : List Entry) → refusal_of s t m ≡ None
-    → tracker_after (tracker_of s es) t m ≡ tracker_of (next_state s t m) (es ++ entries_of s t m)
-tracked_on s t m es accepted = rw accepted (more_tracked s t m es (entries_of s t m))
+    → tracker_after (tracker_of s es) t m
+    ≡ tracker_of (next_state s t m) (es ++ (change_of s t m).entries)
+tracked_on s t m es accepted = rw accepted (more_tracked s t m es (change_of s t m).entries)
 
 -- ---- the record
 

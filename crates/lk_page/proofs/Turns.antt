@@ -6,7 +6,7 @@ use Rattle.lk_replay.specs.Schedule.{with_line}
 use Rattle.lk_replay.specs.declared.schedule.Line.{Line}
 use Rattle.lk_page.specs.Playing.{moves_in, moment, HavePlayed, ArePlaying}
 use Rattle.lk_locks.specs.State.{State, phase_at}
-use Rattle.lk_locks.specs.Steps.{refusal_of, entries_of, change_of}
+use Rattle.lk_locks.specs.Steps.{refusal_of, change_of}
 use Rattle.lk_locks.specs.Play.{Tracked, tracker_after, tracker_of}
 use Rattle.lk_locks.specs.declared.kinds.Refusal.{Refusal}
 use Rattle.lk_page.specs.Told.{Moment, IsRecord, after_line}
@@ -68,7 +68,7 @@ playing_on s ms old k next l rest count now written r p a e told w =
     e ∙ ap (λ (x : Tracked). tracker_after x l.thread l.action) p.tracks
     ∙ tracked_on k.state l.thread l.action p.entries a in
     rw g (record {
-      entries = p.entries ++ entries_of k.state l.thread l.action;
+      entries = p.entries ++ (change_of k.state l.thread l.action).entries;
       tracks = refl;
       made = omega (arith, rw a at p.made);
       stopped = rw a at p.stopped;

@@ -6,7 +6,7 @@ use Rattle.std.specs.Option.{option_map_or}
 use Rattle.lk_words.specs.Operations.{word_of}
 use Rattle.lk_locks.specs.State.{State, phase_at, start_of}
 use Rattle.lk_locks.specs.Locks.{operation_of, step_due}
-use Rattle.lk_locks.specs.Steps.{refusal_of, change_of, next_state, entries_of}
+use Rattle.lk_locks.specs.Steps.{refusal_of, change_of, next_state}
 use Rattle.lk_locks.specs.Sequential.{has}
 use Rattle.lk_locks.specs.Holding.{Holding, Free, HeldBy, ReadBy, WrittenBy, holding_of, waiting_of}
 use Rattle.lk_locks.specs.declared.kinds.LockKind.{LockKind}
@@ -37,7 +37,7 @@ beginning p = record { state = start_of p.shape; entries = [] }
 abbrev pub after_line : Moment → Line → Moment
 after_line m l = record {
   state = next_state m.state l.thread l.action;
-  entries = m.entries ++ entries_of m.state l.thread l.action;
+  entries = m.entries ++ (change_of m.state l.thread l.action).entries;
 }
 
 -- after these moves, up to the first refused one

@@ -2,7 +2,7 @@
 use Rattle.std.proofs.Common.{◌≡◌, ℕ, ◌+◌, ◌<◌, ◌≤◌, ◌^◌, List, [], ◌∷◌, length, map, nat_le}
 use Rattle.std.proofs.Common.{nat_lt, ◌&&◌, replicate, Option, None, Some, IfSome, Result, Ok, refl}
 use Rattle.std.proofs.Common.{sym, ap, subst, arith, inl, inr, ◌++◌, codes, ◌∙◌, append-nil}
-use Rattle.std.proofs.Common.{length-append}
+use Rattle.std.proofs.Common.{length-append, is_none, true}
 use Rattle.std.specs.Prelude.{IfOk}
 use Rattle.std.specs.List.{flat_map}
 use Rattle.std.specs.Io.KnownBytes.{Appends, Consumes, IsAtEnd}
@@ -13,7 +13,8 @@ use Rattle.std.proofs.lemmas.Result.{IfOk-at_ok}
 use Rattle.lk_locks.proofs.Runs.{every_run_is_as_promised}
 use Rattle.lk_locks.specs.MainTheorem.{IsAsPromised}
 use Rattle.lk_locks.specs.State.{State, Shape, start_of}
-use Rattle.lk_locks.specs.Steps.{entries_after, refusal_of, next_state}
+use Rattle.lk_locks.proofs.Acceptance.{accepts_unless_refused}
+use Rattle.lk_locks.specs.Steps.{accepts, entries_after, refusal_of, next_state}
 use Rattle.lk_locks.specs.Locks.{word_count}
 use Rattle.lk_locks.specs.declared.kinds.Entry.{Entry}
 use Rattle.lk_locks.specs.declared.kinds.Move.{Move}
@@ -44,7 +45,11 @@ one_run : (s : State) (l : Line) (ls : List Line) (r : Option Refusal)
     entries_after (next_state s l.thread l.action) (moves_made rest.made) ≡ added_entries rest.made
     → let next : Replay = refused_or r l.number (with_move (made_by s l) rest) in
     entries_after s (moves_made next.made) ≡ added_entries next.made
-one_run s l ls None accepted same = rw (accepted, same) refl
+one_run s l ls None accepted same =
+    let accepts_it : accepts s l.thread l.action ≡ true =
+    accepts_unless_refused s l.thread l.action
+    ∙ ap (λ (r : Option Refusal). is_none r) accepted in
+    rw (accepts_it, same) refl
 one_run s l ls (Some x) refused same = refl
 
 -- the entries of the accepted moves are those that they leave

@@ -16,15 +16,6 @@ written_after xs now post at len within fits =
     ∙ take-append-add (take at xs) (now ++ post) len
     ∙ ap (λ (ys : List ℕ). take at xs ++ ys) (take-append-le len now post fits)
 
--- the same in a `Vec`, which is filled up to its length
-pub written_in : (xs now post tail : List ℕ) (at len cap : ℕ) → at ≤ length xs → len ≤ length now
-    → at + len ≤ cap
-    → take (at + len) (take cap ((take at xs ++ (now ++ post)) ++ tail))
-    ≡ take at xs ++ take len now
-written_in xs now post tail at len cap within fits room =
-    rw (take-take, append_assoc (take at xs) (now ++ post) tail, append_assoc now post tail)
-    (written_after xs now (post ++ tail) at len within fits)
-
 -- the same of a block, of which `wide` bytes were copied
 pub block_pushed : (xs now block : List ℕ) (at len wide : ℕ) → now ≡ take wide block
     → wide ≤ length block → len ≤ wide → at ≤ length xs

@@ -3,7 +3,7 @@
 use Rattle.std.specs.Prelude.{ℕ, List, [], ◌∷◌, map, Option, None, Some}
 use Rattle.std.specs.List.{flat_map}
 use Rattle.lk_locks.specs.State.{State, start_of}
-use Rattle.lk_locks.specs.Steps.{refusal_of, change_of, next_state, entries_of}
+use Rattle.lk_locks.specs.Steps.{refusal_of, change_of, next_state}
 use Rattle.lk_locks.specs.declared.kinds.LockKind.{LockKind}
 use Rattle.lk_locks.specs.declared.kinds.Entry.{Entry}
 use Rattle.lk_locks.specs.declared.kinds.Refusal.{Refusal}
@@ -29,7 +29,7 @@ made_by s l = record {
     action = l.action;
     outcome = (change_of s l.thread l.action).outcome;
   };
-  entries = entries_of s l.thread l.action;
+  entries = (change_of s l.thread l.action).entries;
 }
 
 abbrev pub with_move : Made → Replay → Replay

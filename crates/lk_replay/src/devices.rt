@@ -3,9 +3,10 @@
 ghost use Rattle.std.specs.Prelude.{◌≡◌, ◌≢◌, ◌<◌, ◌≤◌, length, IfOk, IfErr, OnOk, OnErr};
 ghost use Rattle.std.specs.Io.KnownBytes.{Appends, Consumes, IsAtEnd};
 ghost use Rattle.lk_replay.specs.Devices.{AppendsPrefix};
+ghost use Rattle.lk_replay.specs.declared.devices.RunFault.TheVariants.{OutOfMemory};
 
 use crate::schedule::MOST_BYTES;
-use std::alloc::Global;
+use std::alloc::{AllocError, Global};
 use std::io::{Read, Write};
 use thiserror::Error;
 
@@ -21,6 +22,14 @@ pub enum RunFault {
     /// A request for memory was refused.
     #[error("out of memory")]
     OutOfMemory,
+}
+
+impl From<AllocError> for RunFault {
+    ghost from_gives = { λ _ fault. fault ≡ OutOfMemory };
+
+    fn from(_error: AllocError) -> RunFault {
+        RunFault::OutOfMemory
+    }
 }
 
 /// The most bytes that are read: one more than a schedule may have, so that a longer text is known
@@ -53,8 +62,7 @@ pub fn read_text<R: Read>(alloc: Global, input: &mut R) -> Result<Vec<u8>, RunFa
         if count == 0 {
             break;
         }
-        let read = text.extend_from_slice(&chunk[..count]);
-        read.or(Err(RunFault::OutOfMemory))?;
+        text.extend_from_slice(&chunk[..count])?;
     }
     text.shrink_to_fit();
     Ok(text)

@@ -3,7 +3,6 @@
 
 mod devices;
 mod ending;
-mod output_buffer;
 mod played;
 mod report;
 mod schedule;
@@ -13,7 +12,6 @@ mod theorems;
 pub use devices::{RunFault, read_text, send};
 pub use ending::{Ending, ending_of};
 pub use lk_lines::ReadFault;
-pub use output_buffer::OutputBuffer;
 pub use played::{Accepted, Played, replay};
 pub use report::report_of;
 pub use schedule::{Line, Schedule, read_header, read_move, read_schedule};

@@ -19,20 +19,8 @@ pub use closings::fault_text;
 pub use replay::Replay;
 use std::alloc::{AllocError, Global};
 
-// The most bytes of a move's line without its longer list, of holders or of the queue, of a thread
-// in that list, and of the last line.
-const LONGEST_LINE: usize = 44;
-
-const LONGEST_LISTED: usize = 3;
-
-const LONGEST_LAST: usize = 64;
-
 // The bytes that are printed at once.
 const PLACE: usize = 4_096;
-
-// The lines for which a report has room at first. More are seldom, and a schedule of many moves may
-// be refused at its first.
-const FIRST_LINES: usize = 1_024;
 
 // Appends what is left of a report.
 fn push_rest(out: &mut Vec<u8>, replay: &mut Replay<'_>) -> Result<(), AllocError>
@@ -46,34 +34,22 @@ fn push_rest(out: &mut Vec<u8>, replay: &mut Replay<'_>) -> Result<(), AllocErro
     Ok(())
 }
 
-// The bytes of the report.
-#[tactic(auto, unfolding(crate::specs::Report::report_text))]
-fn print_report(alloc: Global, bytes: &[u8]) -> Result<Vec<u8>, AllocError>
-    ensures { IfOk result (λ report. report.items ≡ report_text bytes.now) }
-{
-    let mut text = Vec::new(alloc);
-    match read_schedule(alloc, bytes) {
-        Ok(schedule) => {
-            let longest = LONGEST_LINE + LONGEST_LISTED * usize::from(schedule.threads());
-            let lines = schedule.moves().len().min(FIRST_LINES);
-            text.reserve(longest * lines + LONGEST_LAST)?;
-            push_rest(&mut text, &mut Replay::new(&schedule))?;
-        }
-        Err(fault) => text.extend_from_slice(fault_text(fault)?.as_slice())?,
-    }
-    text.shrink_to_fit();
-    Ok(text)
-}
-
 /// The report of a schedule text, which shows the legal history that its moves leave. A fault of
 /// the text is a report, not an error.
 ///
 /// # Errors
 ///
 /// There was no memory for the schedule or the report.
+#[tactic(auto, unfolding(crate::specs::Report::report_text))]
 pub fn report_of(alloc: Global, bytes: &[u8]) -> Result<Vec<u8>, AllocError>
     ensures report { IfOk result (λ report. report.items ≡ report_text bytes.now) }
     ensures promised { IfOk result (λ report. IsReportOfText bytes.now report.items) }
 {
-    print_report(alloc, bytes)
+    let mut text = Vec::new(alloc);
+    match read_schedule(alloc, bytes) {
+        Ok(schedule) => push_rest(&mut text, &mut Replay::new(&schedule))?,
+        Err(fault) => text.extend_from_slice(fault_text(fault)?.as_slice())?,
+    }
+    text.shrink_to_fit();
+    Ok(text)
 }

@@ -68,6 +68,15 @@ impl Schedule {
         self.shape.threads()
     }
 
+    /// Returns the number of bits of a word, from 2 to 64.
+    pub fn bits(&self) -> u8
+        ensures bits { result ≡ self.now.shape.bits }
+        ensures least { 2 ≤ result }
+        ensures most { result ≤ 64 }
+    {
+        self.shape.bits()
+    }
+
     /// The moves, in order.
     pub fn moves(&self) -> &[Line]
         ensures moves { result.now ≡ self.now.moves }
@@ -149,7 +158,7 @@ fn read_moves(alloc: Global, lines: Lines<'_>, most: usize) -> Result<Vec<Line>,
     ensures read { Gives (λ moves. moves.items) result
         (moves_from lines.entry.number 0 lines.entry.lines) }
 {
-    let mut moves = Vec::with_capacity(alloc, most).or(Err(ReadFault::OutOfMemory))?;
+    let mut moves = Vec::with_capacity(alloc, most)?;
     let mut lines = lines;
     while let Some(line) = read_move(&mut lines, moves.len())? {
         moves.push(line).or(Err(ReadFault::OutOfMemory))?;

@@ -59,11 +59,11 @@ fn write_report<W: Write>(alloc: Global, output: &mut W, text: &[u8]) -> Result<
 {
     match read_schedule(alloc, text) {
         Ok(schedule) => {
-            let mut place = vec![in alloc; 0; PLACE].or(Err(RunFault::OutOfMemory))?;
+            let mut place = vec![in alloc; 0; PLACE]?;
             send_rest(output, &mut place, &mut Replay::new(&schedule))
         }
         Err(fault) => {
-            let line = fault_text(fault).or(Err(RunFault::OutOfMemory))?;
+            let line = fault_text(fault)?;
             send(output, line.as_slice())?;
             Ok(Ending::Faulty)
         }

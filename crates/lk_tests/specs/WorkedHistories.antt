@@ -1,9 +1,8 @@
 -- Definitions. Histories written out, and moves that lead to some of them. On these the laws are
 -- evaluated: each holds of histories that are as they should be, and fails of one that is not.
 use Rattle.std.specs.Prelude.{◌≡◌, ℕ, List, [], ◌∷◌, ◌++◌, Some}
-use Rattle.lk_locks.specs.Legal.{after_entries}
 use Rattle.lk_locks.specs.MainTheorem.{IsAsPromised}
-use Rattle.lk_locks.specs.Sequential.{Sequential, nobody}
+use Rattle.lk_locks.specs.Sequential.{Sequential, after_acts, nobody}
 use Rattle.lk_locks.specs.declared.kinds.LockKind.{LockKind}
 use Rattle.lk_locks.specs.declared.kinds.Op.TheVariants.{Acquire, Release, ReadLock, ReadUnlock}
 use Rattle.lk_locks.specs.declared.kinds.Op.TheVariants.{WriteLock, WriteUnlock, Downgrade}
@@ -127,11 +126,11 @@ abbrev pub OfEachPromised : (LockKind → ℕ → List Entry → Type 0) → Typ
 OfEachPromised Holds =
     (kind : LockKind) (n : ℕ) (es : List Entry) → IsAsPromised kind n es → Holds kind n es
 
--- after whatever beginning of the history: if there is a writer, there is no reader
+-- after each prefix of the history the acts, allowed or not, leave no reader beside a writer
 abbrev pub WritesAlone : LockKind → List Entry → Type 0
 WritesAlone kind es =
     (before after : List Entry) → es ≡ before ++ after
-    → let now : Sequential = after_entries (nobody kind) before in
+    → let now : Sequential = after_acts (nobody kind) before in
     (w : ℕ) → now.writer ≡ Some w → now.readers ≡ []
 
 -- moves: those that are refused leave no entry

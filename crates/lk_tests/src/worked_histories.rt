@@ -104,6 +104,7 @@ pub fn writers_of_read_write_locks()
     ensures reader { (t u : ℕ) → IsNeverBesideReader RwSimple (reader_beside_writer t u) → ⊥ }
     ensures another_unlocks { IsNeverBesideReader RwSimple unlocked_by_another → ⊥ }
     ensures writer { (t u : ℕ) → IsNeverBesideReader RwSimple (writer_beside_reader t u) → ⊥ }
+    ensures reader_stays { IsNeverBesideReader RwSimple left_once → ⊥ }
     ensures downgraded_reader { (t u : ℕ)
         → IsNeverBesideReader RwSimple (writer_beside_downgraded t u) → ⊥ }
     ensures first { IsAnnouncedFirst announced_entered }
@@ -140,8 +141,8 @@ pub fn acts_of_calls()
 /// `two_writers` two writers, and `act_without_call` no call. None of them is legal, and every
 /// legal history has the other four parts (`lk_locks::theorems`). So no history tells the theorem
 /// from one with a part less, and each is taken out of it here. The last part of
-/// `IsNeverBesideReader` holds of every list of entries, since the sequential object makes allowed
-/// acts alone; `writers_of_read_write_locks` has a history for each of the other three.
+/// `IsNeverBesideReader` is of the acts alone, allowed or not, and fails of histories that are not
+/// legal: of `left_once`, and of a reader that comes beside a writer.
 pub fn parts_of_the_theorem()
     ensures legal { OfEachPromised Legal }
     ensures one_holder { OfEachPromised (λ kind n. HasOneHolder) }
@@ -149,7 +150,8 @@ pub fn parts_of_the_theorem()
     ensures one_writer { OfEachPromised (λ kind n. HasOneWriter) }
     ensures no_reader_beside { OfEachPromised (λ kind n. IsNeverBesideReader kind) }
     ensures no_reader { OfEachPromised (λ kind n. WritesAlone kind) }
-    ensures alone { (kind : LockKind) (es : List Entry) → WritesAlone kind es }
+    ensures left_once { WritesAlone RwSimple left_once → ⊥ }
+    ensures reader { WritesAlone RwFifo (reader_beside_writer 0 1) → ⊥ }
 {}
 
 /// Moves lead to the entries that they are due, and refused ones to none. What they lead to is as

@@ -12,7 +12,6 @@ use Rattle.lk_words.specs.declared.operation.Effect.{Effect}
 use Rattle.lk_locks.specs.Locks as locks
 use Rattle.lk_locks.specs.Locks.{operation_of}
 use Rattle.lk_locks.specs.Steps.{refusal_of, change_of, next_state}
-use Rattle.lk_locks.specs.Steps.{entries_of}
 use Rattle.lk_locks.specs.Play.{Tracked, tracker_of, tracker_with}
 use Rattle.lk_locks.specs.declared.kinds.LockKind.{LockKind}
 use Rattle.lk_locks.specs.declared.kinds.Move.{Move}
@@ -125,7 +124,8 @@ count_given last seen = last
 
 -- the lock after a move that it accepts
 abbrev pub lock_after : Tracked → ℕ → Move → Tracked
-lock_after lock t m = tracker_with lock (next_state lock.state t m) (entries_of lock.state t m)
+lock_after lock t m =
+    tracker_with lock (next_state lock.state t m) (change_of lock.state t m).entries
 
 -- a line without a difference is made
 abbrev pub lock_with : Checked → TraceLine → Checked

@@ -7,9 +7,9 @@ use Rattle.std.proofs.lemmas.List.{get_or-set_other, get_or-set_same, get_or-tak
 use Rattle.std.proofs.lemmas.List.{length-replicate}
 use Rattle.std.proofs.lemmas.List.{length-set, length-take-le}
 use Rattle.lk_locks.specs.Change.{Change, to}
-use Rattle.lk_locks.specs.Locks.{step_due, step_entries, step_of}
+use Rattle.lk_locks.specs.Locks.{step_due, step_of}
 use Rattle.lk_locks.specs.State.{Shape, State, phase_at, put_back, start_of}
-use Rattle.lk_locks.specs.Steps.{after_move, change_of, entries_of, next_state, refusal_of}
+use Rattle.lk_locks.specs.Steps.{after_move, change_of, next_state, refusal_of}
 use Rattle.lk_locks.specs.invariants.Locks.{IsPhaseOf}
 use Rattle.lk_locks.specs.invariants.WellFormed.{WellFormed}
 use Rattle.lk_locks.proofs.EachLock.{proof_of}
@@ -69,12 +69,12 @@ alone_well s ws t p words ready h =
 -- nothing comes of a step that is not due
 pub no_step : (kind : LockKind) (bits : ℕ) (ws : List ℕ) (t : ℕ) (p : Phase)
     → step_due kind p ≡ None
-    → (step_of kind bits ws t p ≡ to ws p Waits) × (step_entries kind t p Waits ≡ [])
+    → step_of kind bits ws t p ≡ to ws p Waits []
 no_step Ticket bits ws t TakeTicket due = absurd (cc)
 no_step Ticket bits ws t (AwaitTurn k) due = absurd (cc)
 no_step Ticket bits ws t (ReadServing k) due = absurd (cc)
 no_step Ticket bits ws t (PassOn k) due = absurd (cc)
-no_step Ticket bits ws t p due = (refl, refl)
+no_step Ticket bits ws t p due = refl
 no_step Mcs bits ws t ClearNext due = absurd (cc)
 no_step Mcs bits ws t SwapTail due = absurd (cc)
 no_step Mcs bits ws t (SetLocked j) due = absurd (cc)
@@ -84,43 +84,32 @@ no_step Mcs bits ws t ReadNext due = absurd (cc)
 no_step Mcs bits ws t CasTail due = absurd (cc)
 no_step Mcs bits ws t AwaitLink due = absurd (cc)
 no_step Mcs bits ws t (Grant j) due = absurd (cc)
-no_step Mcs bits ws t p due = (refl, refl)
-no_step RwSimple bits ws t Idle due = (refl, refl)
-no_step RwSimple bits ws t Reading due = (refl, refl)
-no_step RwSimple bits ws t Writing due = (refl, refl)
+no_step Mcs bits ws t p due = refl
+no_step RwSimple bits ws t Idle due = refl
+no_step RwSimple bits ws t Reading due = refl
+no_step RwSimple bits ws t Writing due = refl
 no_step RwSimple bits ws t p due = absurd (cc)
-no_step RwFifo bits ws t Idle due = (refl, refl)
-no_step RwFifo bits ws t Reading due = (refl, refl)
-no_step RwFifo bits ws t Writing due = (refl, refl)
+no_step RwFifo bits ws t Idle due = refl
+no_step RwFifo bits ws t Reading due = refl
+no_step RwFifo bits ws t Writing due = refl
 no_step RwFifo bits ws t p due = absurd (cc)
 
--- a step that waits adds no entries
-pub waits_silent : (kind : LockKind) (t : ℕ) (p : Phase) → step_entries kind t p Waits ≡ []
-waits_silent Ticket t Idle = refl
-waits_silent Ticket t p = refl
-waits_silent Mcs t Idle = refl
-waits_silent Mcs t p = refl
-waits_silent RwSimple t Idle = refl
-waits_silent RwSimple t p = refl
-waits_silent RwFifo t Idle = refl
-waits_silent RwFifo t p = refl
-
--- so what the code leaves of it is what the step leaves
-pub waits_leaves : (kind : LockKind) (t : ℕ) (ws : List ℕ) (p : Phase) (change : Change)
-    (m : Made) → change ≡ to ws p Waits → m.words.items ≡ ws → m.phase ≡ p → m.half ≡ None
-    → m.outcome ≡ Waits → m.entries.items ≡ [] → Leaves (made kind t p change) m
-waits_leaves kind t ws p change m same words phase half outcome entries =
+-- the code leaves of a step that waits what the step leaves
+pub waits_leaves : (ws : List ℕ) (p : Phase) (change : Change) (m : Made)
+    → change ≡ to ws p Waits [] → m.words.items ≡ ws → m.phase ≡ p → m.half ≡ None
+    → m.outcome ≡ Waits → m.entries.items ≡ [] → Leaves (made change) m
+waits_leaves ws p change m same words phase half outcome entries =
     rw same (record {
       words = words;
       phase = phase;
       half = half;
       outcome = outcome;
-      entries = entries ∙ sym (waits_silent kind t p);
+      entries = entries;
     })
 
 -- a step that would move on waits
 pub waited : (kind : LockKind) (bits : ℕ) (ws : List ℕ) (t : ℕ) (p : Phase)
-    → (step_of kind bits ws t p).outcome ≡ Moved → waiting kind bits ws t p ≡ to ws p Waits
+    → (step_of kind bits ws t p).outcome ≡ Moved → waiting kind bits ws t p ≡ to ws p Waits []
 waited kind bits ws t p moved = rw moved refl
 
 -- a step on the machine is the step of its thread
@@ -129,7 +118,7 @@ pub played : (s : Shape) (ws : List ℕ) (t : ℕ) (p : Phase) (k : StepKind) (b
     → t < s.threads → refusal_of board t (Step k) ≡ None → after ≡ after_move board t (Step k)
     → m.words.items ≡ after.words → m.phase ≡ phase_at after.phases t → m.half ≡ None
     → m.outcome ≡ (change_of board t (Step k)).outcome
-    → m.entries.items ≡ entries_of board t (Step k)
+    → m.entries.items ≡ (change_of board t (Step k)).entries
     → Leaves (unchanged s.kind s.bits ws t p) m
 played s ws t p k board after m same few h accepted is_after words phase half outcome entries =
     let there : phase_at (alone s.threads t p) t ≡ p = alone_there s.threads t p few h in

@@ -1,6 +1,6 @@
 -- The words and phases from which a changed lock takes a step stay those of the lock.
 use Rattle.std.proofs.Common.{Bool, if◌then◌else◌, true, false, ◌-◌, ◌==◌}
-use Rattle.std.proofs.Common.{◌≡◌, ℕ, ◌+◌, ◌*◌, ◌<◌, ◌≤◌, ◌^◌, List, arith, length, refl, set}
+use Rattle.std.proofs.Common.{◌≡◌, ℕ, ◌+◌, ◌*◌, ◌<◌, ◌≤◌, ◌^◌, List, [], arith, length, refl, set}
 use Rattle.std.proofs.Common.{slice_index, inl, inr, ◌∙◌}
 use Rattle.std.proofs.lemmas.Bool.Decides.{eqb_tells}
 use Rattle.std.proofs.lemmas.List.{get_or-set_other, get_or-set_same, get_or_past, length-set}
@@ -15,9 +15,12 @@ use Rattle.lk_locks.specs.Locks.{word_count, step_of}
 use Rattle.lk_locks.specs.State.{Shape}
 use Rattle.lk_locks.specs.invariants.Locks.{AreLinks, IsPhaseOf}
 use Rattle.lk_locks.proofs.EachLock.{proof_of}
+use Rattle.lk_locks.proofs.OneOperation.{step_words}
 use Rattle.lk_locks.proofs.Words.{plus_one-lt}
+use Rattle.lk_words.specs.declared.operation.Operation.TheVariants.{CompareAndSwap, Read, Swap}
 use Rattle.lk_why.specs.Types.{AwaitReaders, AwaitTurn, CasTail, ClearNext, Entered, Grant}
-use Rattle.lk_why.specs.Types.{LeaveRead, Moved, Waits, Writing}
+use Rattle.lk_why.specs.Types.{AwaitGrant, AwaitLink, Entry, LeaveRead, Moved, ReadNext, Waits}
+use Rattle.lk_why.specs.Types.{Writing}
 use Rattle.lk_why.specs.Types.{LeaveWrite, LinkTo, LockKind, Mcs, Outcome, PassOn, Phase}
 use Rattle.lk_why.specs.Types.{ReadServing, RwFifo, RwSimple, SetLocked, SwapTail, TakeTicket}
 use Rattle.lk_why.specs.Types.{Ticket, TryDowngrade, TryRead, TryWrite}
@@ -122,15 +125,16 @@ either P true x y left right = left
 either P false x y left right = right
 
 -- words of which the flag is set, whoever is inside, or that stay
-flagged : (clear gone : Bool) (P : List ℕ → Type 0) (ws : List ℕ) → P (set ws 2 1) → P ws
+flagged : (clear gone : Bool) (P : List ℕ → Type 0) (ws : List ℕ) (es fs : List Entry)
+    → P (set ws 2 1) → P ws
     → P (if clear
     then (if gone
-    then to (set ws 2 1) Writing Entered
-    else to (set ws 2 1) AwaitReaders Moved)
-    else to ws TryWrite Waits).words
-flagged true true P ws set_flag stay = set_flag
-flagged true false P ws set_flag stay = set_flag
-flagged false gone P ws set_flag stay = stay
+    then to (set ws 2 1) Writing Entered es
+    else to (set ws 2 1) AwaitReaders Moved fs)
+    else to ws TryWrite Waits []).words
+flagged true true P ws es fs set_flag stay = set_flag
+flagged true false P ws es fs set_flag stay = set_flag
+flagged false gone P ws es fs set_flag stay = stay
 
 -- a value that is 0, or was there
 kept_or_0 : (m x : ℕ) (b : Bool) → 0 < m → x < m → (if b then 0 else x) < m
@@ -145,21 +149,31 @@ fit_kept Ticket bits n t ws TakeTicket h narrow fit =
     All-set (λ x. x < 2 ^ bits) ws 0 _ (plus_one-lt bits (slice_index ws 0)) fit
 fit_kept Ticket bits n t ws (PassOn v) h narrow fit =
     All-set (λ x. x < 2 ^ bits) ws 1 _ (plus_one-lt bits v) fit
+fit_kept Ticket bits n t ws (AwaitTurn k) h narrow fit =
+    rw (step_words Ticket bits ws t (AwaitTurn k) (Read 1) refl) fit
 fit_kept Ticket bits n t ws p h narrow fit = fit
 fit_kept Mcs bits n t ws ClearNext h narrow fit =
     All-set (λ x. x < 2 ^ bits) ws _ 0 (pow_pos bits) fit
 fit_kept Mcs bits n t ws SwapTail h narrow fit =
-    All-set (λ x. x < 2 ^ bits) ws 0 (t + 1) (omega arith) fit
+    rw (step_words Mcs bits ws t SwapTail (Swap 0 (t + 1)) refl)
+    (All-set (λ x. x < 2 ^ bits) ws 0 (t + 1) (omega arith) fit)
 fit_kept Mcs bits n t ws (SetLocked j) h narrow fit =
     All-set (λ x. x < 2 ^ bits) ws _ 1 (omega arith) fit
 fit_kept Mcs bits n t ws (LinkTo j) h narrow fit =
     All-set (λ x. x < 2 ^ bits) ws _ (t + 1) (omega arith) fit
 fit_kept Mcs bits n t ws CasTail h narrow fit =
-    All-set (λ x. x < 2 ^ bits) ws 0 _
+    rw (step_words Mcs bits ws t CasTail (CompareAndSwap 0 (t + 1) 0) refl)
+    (All-set (λ x. x < 2 ^ bits) ws 0 _
     (kept_or_0 (2 ^ bits) (slice_index ws 0) _ (pow_pos bits)
-    (all_at (2 ^ bits) ws 0 (pow_pos bits) fit)) fit
+    (all_at (2 ^ bits) ws 0 (pow_pos bits) fit)) fit)
 fit_kept Mcs bits n t ws (Grant j) h narrow fit =
     All-set (λ x. x < 2 ^ bits) ws _ 0 (pow_pos bits) fit
+fit_kept Mcs bits n t ws AwaitGrant h narrow fit =
+    rw (step_words Mcs bits ws t AwaitGrant (Read (2 + 2 * t)) refl) fit
+fit_kept Mcs bits n t ws ReadNext h narrow fit =
+    rw (step_words Mcs bits ws t ReadNext (Read (1 + 2 * t)) refl) fit
+fit_kept Mcs bits n t ws AwaitLink h narrow fit =
+    rw (step_words Mcs bits ws t AwaitLink (Read (1 + 2 * t)) refl) fit
 fit_kept Mcs bits n t ws p h narrow fit = fit
 fit_kept RwSimple bits n t ws TryRead h narrow fit =
     either (All (λ (w : ℕ). w < 2 ^ bits)) _ _ _
@@ -182,7 +196,7 @@ fit_kept RwFifo bits n t ws TryRead h narrow fit =
 fit_kept RwFifo bits n t ws LeaveRead h narrow fit =
     All-set (λ x. x < 2 ^ bits) ws 1 _ (plus_one-lt bits (slice_index ws 1)) fit
 fit_kept RwFifo bits n t ws TryWrite h narrow fit =
-    flagged (slice_index ws 2 == 0) (are_gone ws) (All (λ (w : ℕ). w < 2 ^ bits)) ws
+    flagged (slice_index ws 2 == 0) (are_gone ws) (All (λ (w : ℕ). w < 2 ^ bits)) ws _ _
     (All-set (λ x. x < 2 ^ bits) ws 2 1 (omega arith) fit) fit
 fit_kept RwFifo bits n t ws AwaitReaders h narrow fit =
     either (All (λ (w : ℕ). w < 2 ^ bits)) _ _ _ fit fit
@@ -212,9 +226,9 @@ no_number Mcs n p other fits = grind arith
 no_number RwSimple n p other fits = grind arith
 no_number RwFifo n p other fits = grind arith
 
--- one of two phases and outcomes
-served_or : (P : Phase → Type 0) (b : Bool) (x y : Phase × Outcome) → P x.0 → P y.0
-    → P (if b then x else y).0
+-- the phase after one of two changes
+served_or : (P : Phase → Type 0) (b : Bool) (x y : Change) → P x.phase → P y.phase
+    → P (if b then x else y).phase
 served_or P true x y left right = left
 served_or P false x y left right = right
 

@@ -5,7 +5,7 @@ use Rattle.std.proofs.lemmas.Bool.{and_parts, lt-ltb, ltb-true}
 use Rattle.lk_locks.specs.Legal.{after_entries}
 use Rattle.lk_locks.specs.Locks.{step_due}
 use Rattle.lk_locks.specs.State.{State, phase_at}
-use Rattle.lk_locks.specs.Steps.{belongs, entries_of, next_state, refusal_at, refusal_of}
+use Rattle.lk_locks.specs.Steps.{belongs, next_state, refusal_at, refusal_of, change_of}
 use Rattle.lk_locks.proofs.Moves.{accepted_of}
 use Rattle.lk_why.specs.Positions.{Position, after, is_due}
 use Rattle.lk_why.specs.Types.{Add, Call, Idle, LockKind, Mcs, Move, Phase, RwFifo, RwSimple}
@@ -76,7 +76,7 @@ same_state x t (Step k) = refl
 
 same_sequential : (x : Position) (t : ℕ) (m : Move)
     → (after None x t (action_of m)).sequential
-    ≡ after_entries x.sequential (entries_of x.lock t m)
+    ≡ after_entries x.sequential (change_of x.lock t m).entries
 same_sequential x t (Call op) = refl
 same_sequential x t (Step k) = refl
 

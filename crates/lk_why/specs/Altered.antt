@@ -1,6 +1,6 @@
 -- Definitions. Whole steps that are changed: a step whose words stay as they were, and a step that
 -- finds a value that is not there. Both are steps of the lock itself, on altered words.
-use Rattle.std.specs.Prelude.{ℕ, ◌+◌, ◌==◌, List, None, Option, Some, if◌then◌else◌, set}
+use Rattle.std.specs.Prelude.{ℕ, ◌+◌, ◌==◌, List, [], None, Option, Some, if◌then◌else◌, set}
 use Rattle.std.specs.Prelude.{slice_index}
 use Rattle.lk_words.specs.Operations.{word_of}
 use Rattle.lk_words.specs.declared.operation.Operation.{Operation}
@@ -38,7 +38,7 @@ unwritten kind Counts before after = set before (flag_of kind) (slice_index afte
 abbrev pub leaving_out : Written → LockKind → ℕ → List ℕ → ℕ → Phase → Change
 leaving_out written kind bits ws t p =
     let made : Change = step_of kind bits ws t p in
-    to (unwritten kind written ws made.words) made.phase made.outcome
+    to (unwritten kind written ws made.words) made.phase made.outcome made.entries
 
 -- the word that a test looks at, and the value that it is to find there
 abbrev pub sight : Found → LockKind → ℕ → List ℕ → ℕ → Phase → ℕ × ℕ
@@ -58,11 +58,11 @@ seen_away (w, value) before after =
 abbrev pub finding : ℕ × ℕ → LockKind → ℕ → List ℕ → ℕ → Phase → Change
 finding (w, value) kind bits ws t p =
     let made : Change = step_of kind bits (set ws w value) t p in
-    to (seen_away (w, value) ws made.words) made.phase made.outcome
+    to (seen_away (w, value) ws made.words) made.phase made.outcome made.entries
 
 -- a step that would move on waits instead, and writes nothing
 abbrev pub waiting_if : Outcome → Change → List ℕ → Phase → Change
-waiting_if Moved made ws p = to ws p Waits
+waiting_if Moved made ws p = to ws p Waits []
 waiting_if outcome made ws p = made
 
 abbrev pub waiting : LockKind → ℕ → List ℕ → ℕ → Phase → Change

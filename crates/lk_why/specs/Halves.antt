@@ -30,7 +30,7 @@ storing value kind bits ws t p =
     let w : ℕ = word_or_0 operation in
     let made : Change = step_of kind bits (set ws w value) t p in
     to (if stores value operation then set ws w (slice_index made.words w) else ws)
-    made.phase made.outcome
+    made.phase made.outcome made.entries
 
 -- the phase after a step; that of a write depends on no word
 abbrev pub following : LockKind → ℕ → List ℕ → ℕ → Phase → Phase
@@ -57,4 +57,4 @@ overtaken value kind bits ws t p =
     let next : Phase = following kind bits ws t p in
     let w : ℕ = word_or_0 (operation_of kind bits t next) in
     let made : Change = step_of kind bits (set ws w value) t next in
-    to (step_of kind bits ws t p).words made.phase made.outcome
+    to (step_of kind bits ws t p).words made.phase made.outcome made.entries

@@ -1,7 +1,7 @@
 -- Definitions. The step of a changed lock.
 use Rattle.std.specs.Prelude.{ℕ, List, [], None, Option, Some}
 use Rattle.lk_locks.specs.Change.{Change, acts}
-use Rattle.lk_locks.specs.Locks.{operation_of, step_entries, step_of}
+use Rattle.lk_locks.specs.Locks.{operation_of, step_of}
 use Rattle.lk_why.specs.Types.{Entry, Idle, Left, LockKind, Moved, Outcome, Phase, Release}
 use Rattle.lk_why.specs.Altered.{finding, leaving_out, sight, waiting}
 use Rattle.std.specs.List.{filter}
@@ -18,18 +18,18 @@ pub record Stepped : Type 0 where
   pub outcome : Outcome
   pub entries : List Entry
 
--- a whole step of thread t from phase p, or the last half of one
-abbrev pub made : LockKind → ℕ → Phase → Change → Stepped
-made kind t p change = record {
+-- a whole step that makes this change, or the last half of one
+abbrev pub made : Change → Stepped
+made change = record {
   words = change.words;
   phase = change.phase;
   half = None;
   outcome = change.outcome;
-  entries = step_entries kind t p change.outcome;
+  entries = change.entries;
 }
 
 abbrev pub unchanged : LockKind → ℕ → List ℕ → ℕ → Phase → Stepped
-unchanged kind bits ws t p = made kind t p (step_of kind bits ws t p)
+unchanged kind bits ws t p = made (step_of kind bits ws t p)
 
 -- a release returns, and leaves the words
 abbrev pub returned : List ℕ → ℕ → Stepped
@@ -51,23 +51,23 @@ first_half (Some value) ws p es whole =
 -- the acts of the step after a write, which come with it
 abbrev pub early : LockKind → ℕ → List ℕ → ℕ → Phase → List Entry
 early kind bits ws t next =
-    filter is_act (step_entries kind t next (step_of kind bits ws t next).outcome)
+    filter is_act (step_of kind bits ws t next).entries
 
 -- a write that comes late, with the entries of the step after it that are no acts
 abbrev pub late : ℕ → LockKind → ℕ → List ℕ → ℕ → Phase → Stepped
 late value kind bits ws t p =
     let next : Phase = following kind bits ws t p in
-    let whole : Stepped = made kind t next (overtaken value kind bits ws t p) in
+    let whole : Stepped = made (overtaken value kind bits ws t p) in
     record whole { entries = filter is_no_act whole.entries }
 
 -- a step that is changed so
 abbrev pub step_by : How → LockKind → ℕ → List ℕ → ℕ → Phase → Stepped
 step_by (LeaveOut written) kind bits ws t p =
-    made kind t p (leaving_out written kind bits ws t p)
+    made (leaving_out written kind bits ws t p)
 step_by (Find found) kind bits ws t p =
-    made kind t p (finding (sight found kind bits ws t p) kind bits ws t p)
+    made (finding (sight found kind bits ws t p) kind bits ws t p)
 step_by Return kind bits ws t p = returned ws t
-step_by Wait kind bits ws t p = made kind t p (waiting kind bits ws t p)
+step_by Wait kind bits ws t p = made (waiting kind bits ws t p)
 step_by Split kind bits ws t p =
     first_half (loaded ws (operation_of kind bits t p)) ws p [] (unchanged kind bits ws t p)
 step_by Exchange kind bits ws t p =
@@ -78,7 +78,7 @@ step_by Exchange kind bits ws t p =
 
 -- the last half of a step, whose first half loaded this value
 abbrev pub last_half : How → ℕ → LockKind → ℕ → List ℕ → ℕ → Phase → Stepped
-last_half Split value kind bits ws t p = made kind t p (storing value kind bits ws t p)
+last_half Split value kind bits ws t p = made (storing value kind bits ws t p)
 last_half Exchange value kind bits ws t p = late value kind bits ws t p
 last_half how value kind bits ws t p = unchanged kind bits ws t p
 

@@ -1,7 +1,7 @@
 -- Definitions. A lock of which nothing is changed is the lock itself.
 use Rattle.std.specs.Prelude.{◌≡◌, ◌↔◌, ℕ, None, true}
 use Rattle.lk_locks.specs.Legal.{after_entries}
-use Rattle.lk_locks.specs.Steps.{entries_of, next_state, refusal_of}
+use Rattle.lk_locks.specs.Steps.{next_state, refusal_of, change_of}
 use Rattle.lk_why.specs.Positions.{Position, after, is_due}
 use Rattle.lk_why.specs.Types.{Call, Move, Step, StepKind}
 use Rattle.lk_why.specs.declared.choice.Action.{Action}
@@ -19,7 +19,7 @@ pub record IsTheLock (x : Position) (t : ℕ) : Type 0 where
       → (after None x t (action_of m)).lock ≡ next_state x.lock t m
   pub sequential : (m : Move) → refusal_of x.lock t m ≡ None
       → (after None x t (action_of m)).sequential
-      ≡ after_entries x.sequential (entries_of x.lock t m)
+      ≡ after_entries x.sequential (change_of x.lock t m).entries
   pub steps : is_due x t ≡ true ↔ ((kind : StepKind) × (refusal_of x.lock t (Step kind) ≡ None))
 
 abbrev pub AnUnchangedLockIsTheLock : Type 0

@@ -107,7 +107,7 @@ pub fn leaving_out(shape: Shape, t: u8, words: &[u64], phase: Phase, written: Wr
     requires thread { t < shape.threads }
     requires words { AreWords shape words.now }
     requires phase { IsReady shape phase }
-    ensures { Leaves (made shape.kind t phase
+    ensures { Leaves (made
         (leaving_out written shape.kind shape.bits words.now t phase)) result }
 {
     let mut made = step_on(shape, t, words, phase);
@@ -140,7 +140,7 @@ pub fn finding(shape: Shape, t: u8, words: &[u64], phase: Phase, seen: (usize, u
     requires words { AreWords shape words.now }
     requires phase { IsReady shape phase }
     requires value { IsValue shape seen.1 }
-    ensures { Leaves (made shape.kind t phase
+    ensures { Leaves (made
         (finding seen shape.kind shape.bits words.now t phase)) result }
 {
     let (word, value) = seen;
@@ -156,7 +156,7 @@ pub fn waiting(shape: Shape, t: u8, words: &[u64], phase: Phase) -> Made
     requires thread { t < shape.threads }
     requires words { AreWords shape words.now }
     requires phase { IsReady shape phase }
-    ensures { Leaves (made shape.kind t phase
+    ensures { Leaves (made
         (waiting shape.kind shape.bits words.now t phase)) result }
 {
     let made = step_on(shape, t, words, phase);

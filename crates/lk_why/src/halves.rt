@@ -71,7 +71,7 @@ pub fn storing(shape: Shape, t: u8, words: &[u64], phase: Phase, value: u64) -> 
     requires words { AreWords shape words.now }
     requires phase { IsReady shape phase }
     requires value { IsValue shape value }
-    ensures { Leaves (made shape.kind t phase
+    ensures { Leaves (made
         (storing value shape.kind shape.bits words.now t phase)) result }
 {
     let operation = operation_of(shape.kind(), shape.bits(), t, phase);

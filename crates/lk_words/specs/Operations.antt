@@ -29,11 +29,14 @@ left_by bits found (FetchAndAdd i d) = (found + d) % 2 ^ bits
 
 -- the answer of an operation on a word that holds `found`
 abbrev pub answer_of : ℕ → Operation → Answer
-answer_of found (Read i) = Found found
 answer_of found (Write i v) = Nothing
-answer_of found (Swap i v) = Found found
 answer_of found (CompareAndSwap i old new) = Swapped (found == old)
-answer_of found (FetchAndAdd i d) = Found found
+answer_of found op = Found found
+
+-- the words after an operation; a read leaves all words as they are
+abbrev pub words_after : ℕ → List ℕ → Operation → List ℕ
+words_after bits ws (Read i) = ws
+words_after bits ws op = slice_set ws (word_of op) (left_by bits (slice_index ws (word_of op)) op)
 
 -- the effect of an operation on its word among the words `ws`
 abbrev pub effect_on : ℕ → List ℕ → Operation → Effect
@@ -43,11 +46,6 @@ effect_on bits ws op = record {
   left = left_by bits (slice_index ws (word_of op)) op;
   answer = answer_of (slice_index ws (word_of op)) op;
 }
-
--- the words after an operation; a read leaves all words as they are
-abbrev pub words_after : ℕ → List ℕ → Operation → List ℕ
-words_after bits ws (Read i) = ws
-words_after bits ws op = slice_set ws (word_of op) (effect_on bits ws op).left
 
 -- the operation's word is one of `size` words, and its operands fit words of `bits` bits
 abbrev pub Fits : ℕ → ℕ → Operation → Type 0

@@ -11,7 +11,7 @@ use Rattle.atomic_table.specs.Table.{Act, stepped}
 use Rattle.lk_locks.specs.declared.kinds.Phase.{Phase}
 use Rattle.lk_locks.specs.declared.kinds.Op.{Op}
 use Rattle.lk_locks.specs.declared.kinds.Outcome.{Outcome}
-use Rattle.lk_locks.specs.Change.{to}
+use Rattle.lk_locks.specs.Change.{Change}
 use Rattle.lk_locks.specs.Locks.{after_call, step_of}
 use Rattle.lk_locks.specs.declared.kinds.LockKind.TheVariants.{Ticket}
 use Rattle.lk_workers.specs.declared.live.LivePhase.{LivePhase}
@@ -75,20 +75,29 @@ abbrev pub IsDue : Phase → Option Op → Phase → Type 0
 IsDue phase None due = due ≡ phase
 IsDue phase (Some op) due = after_call Ticket phase op ≡ Some due
 
+-- a row of `laws`, for each thread and on all words, leads to this seat's phase and this outcome
+abbrev pub LeadsTo : (ℕ → List ℕ → Change) → SeatState → Outcome → Type 0
+LeadsTo row r outcome =
+    (i : ℕ) (ws : List ℕ) → ((row i ws).phase ≡ thread_phase r) × ((row i ws).outcome ≡ outcome)
+
 -- From s to s' the thread of this seat makes the call, if there is one, and then its next step. The
--- step leads to this phase and outcome, and all else stays
-pub record Happens (s s' : Table) (id : ℕ) (r : SeatState) (call : Option Op)
-    (led : Phase × Outcome) : Type 0 where
-  pub seat : (q : SeatState) × (get_elem? s'.views id ≡ some (q ∷ [])) × (thread_phase q ≡ led.0)
+-- step makes this change, and all else stays
+pub record Happens (s s' : Table) (id : ℕ) (r : SeatState) (call : Option Op) (change : Change)
+    : Type 0 where
+  pub seat : (q : SeatState) × (get_elem? s'.views id ≡ some (q ∷ []))
+      × (thread_phase q ≡ change.phase)
+  pub words : s'.words ≡ change.words
   pub other_seats : (j : ℕ) → j ≢ id → get_elem? s'.views j ≡ get_elem? s.views j
   -- it is the step that the ticket machine of 64 bits makes on these words
   pub machine : (due : Phase) × IsDue (thread_phase r) call due
-      × (step_of Ticket 64 s.words id due ≡ to s'.words led.0 led.1)
+      × (step_of Ticket 64 s.words id due ≡ change)
 
--- The step of a seat in this phase is this call, if there is one, and the row that leads here, by
--- what the seat was and by the word found
-abbrev pub IsEvent : LiveStep → LivePhase → Option Op → (SeatState → ℕ → Phase × Outcome) → Type 0
-IsEvent live phase call leads =
+-- The step of a seat in this phase is this call, if there is one, and the row of `laws` for the
+-- thread, by what the seat was, by the word found and by the words afterwards
+abbrev pub IsEvent : LiveStep → LivePhase → Option Op → (ℕ → SeatState → ℕ → List ℕ → Change)
+    → Type 0
+IsEvent live phase call row =
     (takes id : ℕ) (s : Table) (r : SeatState) → Running takes s
     → get_elem? s.views id ≡ some (r ∷ []) → r.phase ≡ phase
-    → Happens s (table_after live id s r) id r call (leads r (slice_index s.words live.word))
+    → let next : Table = table_after live id s r in
+    Happens s next id r call (row id r (slice_index s.words live.word) next.words)

@@ -1,21 +1,10 @@
 //! Many reports as one text.
 
-ghost use Rattle.std.specs.Prelude.{◌≡◌, ◌++◌, OnOk, map, IfOk};
-ghost use Rattle.lk_workers.specs.Batch.{file_line, batch_text_of};
+ghost use Rattle.std.specs.Prelude.{◌≡◌, map, IfOk};
+ghost use Rattle.lk_workers.specs.Batch.{batch_text_of};
 
 use itoa::Buffer;
 use std::alloc::{AllocError, Global};
-
-// The line before the report of this number.
-fn push_file_line(text: &mut Vec<u8>, number: usize) -> Result<(), AllocError>
-    ensures { OnOk result (text.new.items ≡ text.old.items ++ file_line number) }
-{
-    let mut buffer = Buffer::new();
-    text.extend_from_slice(b"file ")?;
-    text.extend_from_slice(buffer.format(number).as_bytes())?;
-    text.push(b'\n')?;
-    Ok(())
-}
 
 /// The reports in order, each after the line `file K`, K from 1.
 ///
@@ -27,7 +16,10 @@ pub fn batch_text(alloc: Global, reports: &[Vec<u8>]) -> Result<Vec<u8>, AllocEr
 {
     let mut text = Vec::new(alloc);
     for place in 0..reports.len() {
-        push_file_line(&mut text, place + 1)?;
+        let mut digits = Buffer::new();
+        text.extend_from_slice(b"file ")?;
+        text.extend_from_slice(digits.format(place + 1).as_bytes())?;
+        text.push(b'\n')?;
         text.extend_from_slice(reports[place].as_slice())?;
     }
     Ok(text)

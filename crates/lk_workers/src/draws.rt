@@ -59,8 +59,6 @@ impl Join<DrawView> for Merge {
     ghost spent = { draw_view [] 0 0 };
 }
 
-type Word = Shared<(), DrawView, u64, DrawnOnce>;
-
 /// A counter that begins at 0, and whose numbers are drawn by fetch-and-add.
 #[derive(Drop)]
 pub struct Draws {
@@ -106,7 +104,7 @@ impl DrawSeat {
 }
 
 fn split_off<A: Amount>(
-    word: &Word,
+    word: &Shared<(), DrawView, u64, DrawnOnce>,
     seat: &mut Seat<(), DrawView>,
     amount: u64,
 ) -> Seat<(), DrawView>

@@ -11,12 +11,13 @@
 ghost use Rattle.std.specs.Prelude.{◌≡◌, ◌+◌, ◌^◌, ◌<◌, ◌≤◌, ◌==◌, map, max, if◌then◌else◌, []};
 ghost use Rattle.std.specs.Prelude.{◌∷◌, IfOk};
 ghost use Rattle.lk_locks.specs.declared.kinds.Outcome.TheVariants.{Moved, Waits, Entered, Left};
-ghost use Rattle.lk_locks.specs.laws.{after_take, after_look, after_read_serving, after_pass};
+ghost use Rattle.lk_locks.specs.declared.kinds.Phase.TheVariants as phase;
+ghost use Rattle.lk_locks.specs.laws.{after, Found, Nothing};
 ghost use Rattle.lk_workers.specs.declared.live.LivePhase.TheVariants.{Idle, Waiting, Inside};
 ghost use Rattle.lk_workers.specs.declared.live.LivePhase.TheVariants.{Leaving};
-ghost use Rattle.lk_workers.specs.Seats.{Live, seat_with, new_seat, ticket_in, thread_phase};
-ghost use Rattle.lk_workers.specs.Seats.{with_seen, AreApart};
-ghost use Rattle.lk_workers.specs.LockState.{IsEnd};
+ghost use Rattle.lk_workers.specs.Seats.{Live, seat_with, new_seat, ticket_in, with_seen};
+ghost use Rattle.lk_workers.specs.Seats.{AreApart};
+ghost use Rattle.lk_workers.specs.LockState.{IsEnd, LeadsTo};
 ghost use Rattle.lk_workers.specs.SeatSteps.{take_step, look_step, read_step, pass_step};
 ghost use Rattle.lk_workers.specs.SeatSteps.{seat_after, join_of, rest_of, share_of};
 ghost use Rattle.atomic_table.specs.Seated.{TableId};
@@ -174,7 +175,8 @@ impl LiveTicket {
         ensures own { seat.new.table ≡ self.now }
         ensures seat { seat.new.state ≡ seat_after take_step seat.old.state result }
         ensures seen { seat.old.state.seen ≤ result }
-        ensures event { after_take result ≡ (thread_phase seat.new.state, Moved) }
+        ensures event { LeadsTo (λ i. after i phase.TakeTicket (Found result))
+            seat.new.state Moved }
     {
         let ticket = self.table.shared.fetch_add::<Take>(&mut seat.seat, 0, 1);
         seat.phase = LivePhase::Waiting;
@@ -193,8 +195,9 @@ impl LiveTicket {
         ensures seat { seat.new.state ≡ seat_after look_step seat.old.state seat.new.state.seen }
         ensures later { seat.old.state.seen ≤ seat.new.state.seen }
         ensures answer { result ≡ (seat.new.state.seen == seat.old.state.ticket) }
-        ensures event { after_look seat.old.state.ticket seat.new.state.seen
-            ≡ (thread_phase seat.new.state, if result then Entered else Waits) }
+        ensures event { LeadsTo
+            (λ i. after i (phase.AwaitTurn seat.old.state.ticket) (Found seat.new.state.seen))
+            seat.new.state (if result then Entered else Waits) }
     {
         let serving = self.table.shared.load::<Look>(&mut seat.seat, 1);
         seat.seen = serving;
@@ -211,8 +214,9 @@ impl LiveTicket {
         requires inside { seat.old.state.phase ≡ Inside }
         ensures own { seat.new.table ≡ self.now }
         ensures seat { seat.new.state ≡ seat_after read_step seat.old.state seat.old.state.ticket }
-        ensures event { after_read_serving seat.new.state.seen
-            ≡ (thread_phase seat.new.state, Moved) }
+        ensures event { LeadsTo
+            (λ i. after i (phase.ReadServing seat.old.state.ticket) (Found seat.new.state.seen))
+            seat.new.state Moved }
     {
         let serving = self.table.shared.load::<ReadServing>(&mut seat.seat, 1);
         seat.seen = serving;
@@ -225,7 +229,8 @@ impl LiveTicket {
         requires leaving { seat.old.state.phase ≡ Leaving }
         ensures own { seat.new.table ≡ self.now }
         ensures seat { seat.new.state ≡ seat_after pass_step seat.old.state seat.old.state.ticket }
-        ensures event { after_pass ≡ (thread_phase seat.new.state, Left) }
+        ensures event { LeadsTo (λ i. after i (phase.PassOn seat.old.state.ticket) Nothing)
+            seat.new.state Left }
     {
         let next = seat.ticket + 1;
         self.table.shared.store::<Pass>(&mut seat.seat, 1, next);

@@ -11,7 +11,7 @@ ghost use Rattle.std.specs.Thread.{IsSync};
 ghost use Rattle.lk_replay.specs.Report.{report_text};
 ghost use Rattle.lk_workers.specs.Drawing.{IsSeatOf, drawer};
 ghost use Rattle.lk_workers.specs.invariants.Collected.{bytes_of, numbered_bytes, MayWork, IsDone};
-ghost use Rattle.lk_workers.specs.invariants.Collected.{IsEachOnce, places_with};
+ghost use Rattle.lk_workers.specs.invariants.Collected.{places_with};
 
 use crate::draws::{DrawSeat, Draws};
 use crate::gate::Gate;
@@ -111,25 +111,6 @@ fn work_all<G: Gate, R: Threads + Sync>(
     gather(draws, front?, back?)
 }
 
-// The reports of all texts, each once, in some order.
-fn draw_all<G: Gate, R: Threads + Sync>(
-    rt: &R,
-    alloc: Global,
-    texts: &[Vec<u8>],
-    workers: u8,
-    gate: &G,
-) -> Result<Vec<Numbered>, AllocError>
-    requires workers { (1 ≤ workers) × (workers ≤ 8) }
-    requires texts { length texts.now ≤ 65536 }
-    ensures { IfOk result (λ v. IsEachOnce (bytes_of texts.now) (numbered_bytes v.items)) }
-{
-    let share = texts.len() as u64 + 1;
-    let (draws, seat) = Draws::open(alloc, u64::from(workers) * share)?;
-    let (seat, reports) = work_all(rt, alloc, &draws, texts, gate, seat, workers)?;
-    draws.close(seat);
-    Ok(reports)
-}
-
 // Puts the reports into the places of their texts.
 fn place_all(
     alloc: Global,
@@ -168,6 +149,9 @@ pub fn replay_many<G: Gate, R: Threads + Sync>(
     ensures { IfOk result
         (λ reports. map (λ r. r.items) reports.items ≡ map (λ t. report_text t.items) texts.now) }
 {
-    let reports = draw_all(rt, alloc, texts, workers, gate)?;
+    let share = texts.len() as u64 + 1;
+    let (draws, seat) = Draws::open(alloc, u64::from(workers) * share)?;
+    let (seat, reports) = work_all(rt, alloc, &draws, texts, gate, seat, workers)?;
+    draws.close(seat);
     place_all(alloc, texts, reports)
 }

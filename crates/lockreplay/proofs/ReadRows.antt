@@ -14,14 +14,14 @@ use Rattle.lockreplay.specs.Commands.{batch_rows, digit}
 use Rattle.lockreplay.proofs.PlainLines.{plain_digit}
 
 -- the digit is a numeral, and writes the number
-is_number : (workers : ℕ) → workers ≤ 8
+is_number : (workers : ℕ) → workers ≤ 9
     → (digits_value 10 (without_leading_plus (digit workers)) ≡ workers)
     × (without_leading_plus (digit workers) ≡ digit workers) × (digit_value (48 + workers) < 10)
-is_number (suc (suc (suc (suc (suc (suc (suc (suc (suc k))))))))) most =
+is_number (suc (suc (suc (suc (suc (suc (suc (suc (suc (suc k)))))))))) most =
     absurd (omega (arith, most))
 is_number workers most = (refl, refl, omega arith)
 
-is_numeral : (workers : ℕ) → workers ≤ 8 → IsNumeral 10 (without_leading_plus (digit workers))
+is_numeral : (workers : ℕ) → workers ≤ 9 → IsNumeral 10 (without_leading_plus (digit workers))
 is_numeral workers most =
     let number = is_number workers most in
     rw (number.1) (omega arith, (number.2, tt))
@@ -29,7 +29,7 @@ is_numeral workers most =
 -- `get_one::<u8>` of the digit
 reads_digit : {E : Type 0} (gives : Text → Result ℕ E → Type 0)
     → ((t : Text) (r : Result ℕ E) → gives t r → ParsesUnsigned 8 10 t r)
-    → (workers : ℕ) (r : Option ℕ) → workers ≤ 8 → ReadsOne gives (digit workers) r
+    → (workers : ℕ) (r : Option ℕ) → workers ≤ 9 → ReadsOne gives (digit workers) r
     → r ≡ Some workers
 reads_digit gives parses workers (Some n) most read =
     ap Some ((parses _ _ read).1 ∙ (is_number workers most).0)
@@ -45,7 +45,7 @@ finds_digit workers files = rw (not-true ((48 + workers) == 45) (plain_digit wor
 -- the workers that `get_one` and `unwrap_or` read of the rows
 pub workers_read : {E : Type 0} (gives : Text → Result ℕ E → Type 0)
     → ((t : Text) (r : Result ℕ E) → gives t r → ParsesUnsigned 8 10 t r)
-    → (found : Found) (workers got : ℕ) (files : List Text) (read : Option ℕ) → workers ≤ 8
+    → (found : Found) (workers got : ℕ) (files : List Text) (read : Option ℕ) → workers ≤ 9
     → rows_of found ≡ batch_rows workers files
     → ((t : Text) → one_text found (codes "workers") ≡ Some t → ReadsOne gives t read)
     → got ≡ unwrap_or read 0 → got ≡ workers

@@ -1,6 +1,6 @@
 -- Definitions: the plain command lines, and the job of each. The parser decides on every other
 -- line, such as one with its options in another order.
-use Rattle.std.specs.Prelude.{◌≡◌, ◌+◌, ◌<◌, ◌≤◌, ◌==◌, not, ℕ, Bool, true, List, [], ◌∷◌}
+use Rattle.std.specs.Prelude.{◌≡◌, ◌⊎◌, ◌+◌, ◌<◌, ◌≤◌, ◌==◌, not, ℕ, Bool, true, List, [], ◌∷◌}
 use Rattle.std.specs.Prelude.{length, map, codes, string_bytes, Result, Ok, Err}
 use Rattle.lockreplay.specs.declared.command_line.Job.{Job}
 use Rattle.lockreplay.specs.declared.command_line.Job.TheVariants.{Replay, Batch}
@@ -46,3 +46,7 @@ abbrev pub AnswersBatch : ℕ → List Argument → Result Job ParseFault → Ty
 AnswersBatch workers files r =
     (length files ≤ 65536 → AsksFor (IsBatchOfFiles workers files) r)
     × (65536 < length files → IsTooMany r)
+
+-- the digits that are no number of workers
+abbrev pub IsUnfit : ℕ → Type 0
+IsUnfit workers = (workers ≡ 0) ⊎ (workers ≡ 9)

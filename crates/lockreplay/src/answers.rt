@@ -4,7 +4,7 @@
 
 ghost use Rattle.std.specs.Prelude.{◌≡◌, OnOk};
 ghost use Rattle.std.specs.Io.KnownBytes.{Appends};
-ghost use Rattle.lockreplay.specs.Answers.{EndsHelp, EndsProgram, message_bytes, message_status};
+ghost use Rattle.lockreplay.specs.Answers.{EndsProgram, message_bytes, message_status};
 ghost use Rattle.lockreplay.specs.Jobs.{FitsJob};
 ghost use Rattle.lockreplay.specs.declared.answers.Message.TheVariants.{Fault};
 
@@ -68,14 +68,6 @@ impl Message {
     }
 }
 
-/// Writes the help, and gives the status of a job that was done.
-fn help<W: Write>(output: &mut W, text: &str) -> Result<u8, ProgramFault>
-    ensures { EndsHelp text.now (W.contents output.old) (W.contents output.new) result }
-{
-    send(output, text.as_bytes())?;
-    Ok(Status::Accepted as u8)
-}
-
 /// Does the job that was asked for, and gives the status that the program ends with.
 ///
 /// # Errors
@@ -94,7 +86,10 @@ pub fn answer<R: Files + Threads + Sync, I: Read, O: Write>(
 {
     match asked {
         Ok(job) => Ok(perform(rt, alloc, &job, input, output)?),
-        Err(ParseFault::Help(text)) => Ok(help(output, &text)?),
+        Err(ParseFault::Help(text)) => {
+            send(output, text.as_bytes()).map_err(ProgramFault::from)?;
+            Ok(Status::Accepted as u8)
+        }
         Err(ParseFault::Usage(text)) => Err(Message::Usage(text)),
         Err(ParseFault::TooManyFiles) => Err(ProgramFault::TooManyFiles.into()),
         Err(ParseFault::OutOfMemory) => Err(ProgramFault::Memory.into()),

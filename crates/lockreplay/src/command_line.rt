@@ -5,11 +5,11 @@
 //! FILE...` with no option among the files, is proved; every other line is read as `clap` reads it.
 
 ghost use Rattle.std.specs.Prelude.{◌≡◌, ℕ, ◌<◌, ◌≤◌, List, length, map, false, true, string_bytes};
-ghost use Rattle.std.specs.Prelude.{IfOk};
+ghost use Rattle.std.specs.Prelude.{IfOk, IsErr};
 ghost use Rattle.std.specs.List.{list_all};
 ghost use Rattle.clap.specs.Words.{app_of, found_of, kind_of, rows_of};
 ghost use Rattle.clap.specs.declared.builder.command.Command.TheViews.{out-Command};
-ghost use Rattle.lockreplay.specs.CommandLines.{AnswersBatch, AsksFor, Argument};
+ghost use Rattle.lockreplay.specs.CommandLines.{AnswersBatch, AsksFor, Argument, IsUnfit};
 ghost use Rattle.lockreplay.specs.CommandLines.{batch_line, is_plain, replay_line};
 ghost use Rattle.lockreplay.specs.Commands.{batch_app, batch_rows, program_app};
 ghost use Rattle.lockreplay.specs.Jobs.{FitsJob};
@@ -126,6 +126,7 @@ fn batch_of(alloc: Global, workers: u8, files: &[&str]) -> Result<Job, ParseFaul
     ensures fits { FitsJob result }
     ensures plain { 1 ≤ workers → workers ≤ 8 → 0 < length files.now
         → AnswersBatch workers (map (λ f. f.now) files.now) result }
+    ensures unfit { IsUnfit workers → IsErr result }
 {
     if files.is_empty() || workers == 0 || workers > MOST_WORKERS {
         return Err(ParseFault::Usage(String::from_str(alloc, UNFIT_BATCH)?));
@@ -143,6 +144,8 @@ fn batch_given(alloc: Global, batch: &ArgMatches<'_>) -> Result<Job, ParseFault>
     ensures plain { (workers : ℕ) → (files : List Argument)
         → rows_of (found_of batch.now) ≡ batch_rows workers files
         → 1 ≤ workers → workers ≤ 8 → 0 < length files → AnswersBatch workers files result }
+    ensures unfit { (workers : ℕ) → (files : List Argument)
+        → rows_of (found_of batch.now) ≡ batch_rows workers files → IsUnfit workers → IsErr result }
 {
     let workers = batch.get_one::<u8>("workers").unwrap_or(0);
     let given = batch.get_strs("files").unwrap_or(&[]);
@@ -173,6 +176,10 @@ pub fn parse_words(alloc: Global, words: &[String]) -> Result<Job, ParseFault>
         → map string_bytes words.now ≡ batch_line workers files
         → 1 ≤ workers → workers ≤ 8 → 0 < length files → list_all is_plain files ≡ true
         → AnswersBatch workers files result }
+    // 0 or 9 workers get no job, whatever the parser says of them
+    ensures unfit { (workers : ℕ) → (files : List Argument)
+        → map string_bytes words.now ≡ batch_line workers files
+        → IsUnfit workers → 0 < length files → list_all is_plain files ≡ true → IsErr result }
 {
     let command = program_command(alloc)?;
     let matches = match command.try_get_matches_from(words) {

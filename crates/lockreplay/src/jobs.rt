@@ -1,7 +1,7 @@
 //! The two jobs of the program, over any devices.
 
-ghost use Rattle.std.specs.Prelude.{◌≡◌, ◌⊎◌, ◌≤◌, length, map, IfOk, IfErr};
-ghost use Rattle.lockreplay.specs.Jobs.{EndsBatch, EndsJob, EndsReplay, IsFileFault, IsFitJob};
+ghost use Rattle.std.specs.Prelude.{◌≡◌, ◌≤◌, length, map, IfOk, IfErr};
+ghost use Rattle.lockreplay.specs.Jobs.{EndsBatch, EndsJob, IsFileFault, IsFitJob};
 ghost use Rattle.lockreplay.specs.Jobs.{status_of_reports};
 
 use crate::command_line::Job;
@@ -16,38 +16,6 @@ use std::io::{Read, Write};
 use std::rt::Files;
 use std::thread::Threads;
 
-/// Replays the schedule that the input holds, writes its report, and gives the report's status.
-pub fn replay_input<R: Read, W: Write>(
-    alloc: Global,
-    input: &mut R,
-    output: &mut W,
-) -> Result<u8, ProgramFault>
-    ensures { EndsReplay (R.remaining input.old) (W.contents output.old)
-        (W.contents output.new) result }
-{
-    let ending = run(alloc, input, output)?;
-    Ok(status_of(&Ok(ending)))
-}
-
-/// The text of the file of this number, from 1.
-fn file_text<R: Files>(
-    rt: &R,
-    alloc: Global,
-    number: u32,
-    file: &str,
-) -> Result<Vec<u8>, ProgramFault>
-    ensures { IfErr result (λ e. (e ≡ ProgramFault.File number) ⊎ (e ≡ ProgramFault.Memory)) }
-{
-    let Ok(mut file) = fs::open(rt, file) else {
-        return Err(ProgramFault::File(number));
-    };
-    match read_text(alloc, &mut file) {
-        Ok(text) => Ok(text),
-        Err(RunFault::OutOfMemory) => Err(ProgramFault::Memory),
-        Err(_) => Err(ProgramFault::File(number)),
-    }
-}
-
 /// The text of each file, in order. The first file that cannot be opened or read is the fault.
 fn file_texts<R: Files>(
     rt: &R,
@@ -60,8 +28,15 @@ fn file_texts<R: Files>(
 {
     let mut texts = Vec::new(alloc);
     for (place, file) in files.iter().enumerate() {
-        let text = file_text(rt, alloc, place as u32 + 1, file.as_str())?;
-        texts.push(text).or(Err(ProgramFault::Memory))?;
+        let number = place as u32 + 1;
+        let Ok(mut file) = fs::open(rt, file.as_str()) else {
+            return Err(ProgramFault::File(number));
+        };
+        match read_text(alloc, &mut file) {
+            Ok(text) => texts.push(text).or(Err(ProgramFault::Memory))?,
+            Err(RunFault::OutOfMemory) => return Err(ProgramFault::Memory),
+            Err(_) => return Err(ProgramFault::File(number)),
+        }
     }
     Ok(texts)
 }
@@ -115,7 +90,7 @@ pub fn perform<R: Files + Threads + Sync, I: Read, O: Write>(
         (O.contents output.new) result }
 {
     match job {
-        Job::Replay => replay_input(alloc, input, output),
+        Job::Replay => Ok(status_of(&Ok(run(alloc, input, output)?))),
         Job::Batch { workers, files } => replay_files(rt, alloc, *workers, files, output),
     }
 }

@@ -13,6 +13,7 @@ mod command_line;
 mod faults;
 mod jobs;
 mod sending;
+mod surface;
 
 use answers::answer;
 use command_line::{Job, ParseFault, parse_words};

@@ -2,37 +2,41 @@
 //!
 //! The bytes are those of `batch_text`, which gives them as one text and copies all reports for it.
 //! For 24 long reports by two workers that copy took half of the time, on one thread, and half of
-//! the memory. Here a long report goes out as it is. Short texts wait in an `OutputBuffer` until a
-//! write is worth while.
+//! the memory. Here a long report goes out as it is. Short texts wait until a write is worth while,
+//! in memory that is asked for once: no request can be refused after some bytes went out.
 
 ghost use Rattle.std.specs.Prelude.{◌≡◌, ◌≢◌, ◌++◌, map, IfErr, IfOk, OnErr, OnOk};
 ghost use Rattle.std.specs.Io.KnownBytes.{Appends, Keeps};
-ghost use Rattle.std.specs.List.{flat_map};
 ghost use Rattle.lk_replay.specs.Devices.{AppendsPrefix, IfErrOf, Passes};
 ghost use Rattle.lk_workers.specs.Batch.{batch_text_of};
 
 use itoa::Buffer;
-use lk_replay::{OutputBuffer, RunFault};
+use lk_replay::{RunFault, send};
 use std::alloc::Global;
 use std::io::Write;
 
-// Passes the texts, one after another.
-fn push_all<W: Write>(
-    waiting: &mut OutputBuffer,
-    output: &mut W,
-    texts: &[&[u8]],
-) -> Result<(), RunFault>
+// The most bytes that wait: as many as a pipe of Linux holds.
+const MOST_WAITING: usize = 65_536;
+
+// Puts a text after what waits, and sends first what leaves it no room.
+fn pass<W: Write>(waiting: &mut Vec<u8>, output: &mut W, text: &[u8]) -> Result<(), RunFault>
     ensures passed { OnOk result
-        (Passes waiting.old (W.contents output.old) (flat_map (λ t. t.now) texts.now) waiting.new
+        (Passes waiting.old.items (W.contents output.old) text.now waiting.new.items
         (W.contents output.new)) }
     ensures prefix { OnErr result
         (AppendsPrefix (W.contents output.old) (W.contents output.new)
-        (waiting.old ++ flat_map (λ t. t.now) texts.now)) }
+        (waiting.old.items ++ text.now)) }
     ensures fault { IfErr result (λ e. e ≡ RunFault.Write) }
 {
-    for text in texts {
-        waiting.push(output, *text)?;
+    if text.len() > waiting.capacity() - waiting.len() {
+        send(output, waiting.as_slice())?;
+        waiting.clear();
+        if text.len() > waiting.capacity() {
+            return send(output, text);
+        }
     }
+    // There is room, so it asks for no memory.
+    waiting.extend_from_slice(text).unwrap();
     Ok(())
 }
 
@@ -57,15 +61,13 @@ pub fn send_reports<W: Write>(
         (Keeps (W.contents output.old) (W.contents output.new)) }
     ensures fault { IfErr result (λ e. e ≢ RunFault.Read) }
 {
-    let mut waiting = OutputBuffer::new(alloc).or(Err(RunFault::OutOfMemory))?;
+    let mut waiting = Vec::with_capacity(alloc, MOST_WAITING)?;
     for (place, report) in reports.iter().enumerate() {
         let mut digits = Buffer::new();
-        let number = digits.format(place + 1).as_bytes();
-        push_all(
-            &mut waiting,
-            output,
-            &[b"file ", number, b"\n", report.as_slice()],
-        )?;
+        pass(&mut waiting, output, b"file ")?;
+        pass(&mut waiting, output, digits.format(place + 1).as_bytes())?;
+        pass(&mut waiting, output, b"\n")?;
+        pass(&mut waiting, output, report.as_slice())?;
     }
-    waiting.send_whole(output)
+    send(output, waiting.as_slice())
 }

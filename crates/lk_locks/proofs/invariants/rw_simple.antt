@@ -1,10 +1,10 @@
 -- The simple read-write lock: each section adds the next entries of its call, and each move
 -- preserves that the count and the flag agree with the holders.
-use Rattle.std.proofs.Common.{List, ap, arith, inl, inr, length, refl, rules, set, slice_index, sym}
+use Rattle.std.proofs.Common.{List, ap, arith, inl, inr, length, refl, rules, slice_index, sym}
 use Rattle.std.proofs.Common.{true, ℕ, ◌%◌, ◌+◌, ◌-◌, ◌<◌, ◌^◌, ◌∙◌, ◌≡◌, ◌≤◌}
 use Rattle.std.proofs.{Math.Nat.add-mod_right, Math.Nat.mod-eq_of_lt, lemmas.Bool.Decides.eqb_tells}
 use Rattle.std.proofs.lemmas.List.{get_or-set_other, get_or-set_same, length-set, length-replicate}
-use Rattle.lk_locks.specs.Change.{less_one, plus_one, with_one_more}
+use Rattle.lk_locks.specs.Change.{plus_one, with_one_less, with_one_more}
 use Rattle.lk_locks.specs.Sequential.{nobody, is_allowed}
 use Rattle.lk_locks.specs.{State.start, invariants.Locks.AgreeAs, invariants.rw_simple.Count}
 use Rattle.lk_locks.proofs.Cases.{LockProof, Keeps, waits}
@@ -16,7 +16,8 @@ use Rattle.lk_locks.specs.Types.{RwSimple, Call, Step, Idle, LeaveRead, LeaveWri
 use Rattle.lk_locks.specs.Types.{TryRead, TryWrite, Acted, WriteLock}
 
 -- one more, and then one less, is the same count if the word does not wrap
-less : (bits count : ℕ) → count + 1 < 2 ^ bits → less_one bits (count + 1) ≡ count
+less : (bits count : ℕ) → count + 1 < 2 ^ bits
+    → (count + 1 + (2 ^ bits - 1)) % 2 ^ bits ≡ count
 less bits count in_word =
     let around : count + 1 + (2 ^ bits - 1) ≡ count + 2 ^ bits = omega arith in
     let below : count < 2 ^ bits = omega arith in
@@ -30,9 +31,10 @@ one_more bits ws n two_words in_word counted =
 
 -- one fewer is counted
 one_fewer : (bits : ℕ) (ws : List ℕ) (n : ℕ) → 2 ≤ length ws → n + 1 < 2 ^ bits
-    → Count ws (n + 1) → Count (set ws 0 (less_one bits (slice_index ws 0))) n
+    → Count ws (n + 1) → Count (with_one_less bits ws 0) n
 one_fewer bits ws n two_words in_word counted =
-    get_or-set_same ws 0 _ 0 (omega arith) ∙ ap (less_one bits) counted ∙ less bits n in_word
+    get_or-set_same ws 0 _ 0 (omega arith)
+    ∙ ap (λ count. (count + (2 ^ bits - 1)) % 2 ^ bits) counted ∙ less bits n in_word
 
 -- each move keeps the words and the holders in agreement, and its entries may come
 keeps : Keeps RwSimple

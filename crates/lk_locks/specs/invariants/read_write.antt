@@ -56,10 +56,10 @@ after_writes ws (Some first) None = set ws first.0 first.1
 after_writes ws None (Some other) = set ws other.0 other.1
 after_writes ws (Some first) (Some other) = set (set ws first.0 first.1) other.0 other.1
 
--- a section that finds these words makes this change
-abbrev pub IsSection : Section → List ℕ → Change → Type 0
-IsSection section ws change =
-    Makes (after_writes ws section.first section.other) (section.phase, section.outcome) change
+-- a section of thread t that finds these words makes this change
+abbrev pub IsSection : Section → List ℕ → ℕ → Change → Type 0
+IsSection section ws t change =
+    Makes (after_writes ws section.first section.other) t section.next change
 
 -- the FIFO lock has a third word
 abbrev pub third_word : Family → List ℕ → Option ℕ

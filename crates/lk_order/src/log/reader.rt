@@ -3,13 +3,14 @@
 ghost use Rattle.std.specs.Prelude.{◌≡◌, ◌<◌, ◌++◌, ◌∷◌, [], None, MatchOption, IfSome, OnOk};
 ghost use Rattle.std.specs.Prelude.{OnErr, IfErr, Ok, Err};
 ghost use Rattle.lk_order.specs.Logs.{after_header, cut_last, dropped_of, IsFaultOf};
+ghost use Rattle.lk_order.specs.declared.log.reader.LogFault.TheVariants.{OutOfMemory};
 ghost use Rattle.lk_order.specs.Logs.{line_read, log_header_of, log_read, Reading};
 
 use super::Log;
 use lk_lines::{is_skipped, number_of, whole_number};
 use lk_locks::Shape;
 use lk_trace::{MOST_OF_A_LINE, TraceLine, read_header, read_log_line};
-use std::alloc::Global;
+use std::alloc::{AllocError, AllocFailed, Global};
 use std::marker::Model;
 use thiserror::Error;
 
@@ -33,6 +34,22 @@ pub enum LogFault {
     TooLong,
     #[error("out of memory")]
     OutOfMemory,
+}
+
+impl From<AllocError> for LogFault {
+    ghost from_gives = { λ _ fault. fault ≡ OutOfMemory };
+
+    fn from(_error: AllocError) -> LogFault {
+        LogFault::OutOfMemory
+    }
+}
+
+impl<T: Drop> From<AllocFailed<T>> for LogFault {
+    ghost from_gives = { λ _ fault. fault ≡ OutOfMemory };
+
+    fn from(_error: AllocFailed<T>) -> LogFault {
+        LogFault::OutOfMemory
+    }
 }
 
 /// A log of which some lines were read.
@@ -97,7 +114,7 @@ impl Log {
         ensures err { IfErr result (λ fault. fault ≡ LogFault.OutOfMemory) }
         ensures same { OnErr result (self.new ≡ self.old) }
     {
-        self.lines.push(number).map_err(|_| LogFault::OutOfMemory)?;
+        self.lines.push(number)?;
         if self.moves.push(line).is_err() {
             self.lines.pop();
             return Err(LogFault::OutOfMemory);

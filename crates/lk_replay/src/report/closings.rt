@@ -65,17 +65,6 @@ pub fn put_last(place: &mut [u8], count: u32, refused: Option<(u32, Refusal)>) -
     text.len()
 }
 
-// The line of a fault that has a line.
-fn fault_line(number: u32, name: &[u8]) -> Text
-    requires { length name.now ≤ 16 }
-    ensures { result ≡ fault_line number name.now }
-{
-    let mut line = at_line(b"fault", number);
-    line.push(name);
-    line.push(b"\n");
-    line
-}
-
 /// The line of a text's fault, which is the whole report of the text.
 ///
 /// # Errors
@@ -88,18 +77,17 @@ pub fn fault_text(fault: ReadFault) -> Result<Text, AllocError>
     ensures no_memory { IfOk result (λ line. IsOfText fault) }
     ensures none { OnErr result (fault ≡ ReadFault.OutOfMemory) }
 {
-    Ok(match fault {
-        ReadFault::NoHeader(line) => fault_line(line, b"NoHeader"),
-        ReadFault::BadHeader(line) => fault_line(line, b"BadHeader"),
-        ReadFault::BadThreads(line) => fault_line(line, b"BadThreads"),
-        ReadFault::BadLine(line) => fault_line(line, b"BadLine"),
-        ReadFault::TooManyMoves(line) => fault_line(line, b"TooManyMoves"),
-        ReadFault::WordsTooNarrow(line) => fault_line(line, b"WordsTooNarrow"),
-        ReadFault::TooLong => {
-            let mut line = Text::new();
-            line.push(b"fault TooLong\n");
-            line
-        }
+    let (mut text, name) = match fault {
+        ReadFault::NoHeader(line) => (at_line(b"fault", line), "NoHeader"),
+        ReadFault::BadHeader(line) => (at_line(b"fault", line), "BadHeader"),
+        ReadFault::BadThreads(line) => (at_line(b"fault", line), "BadThreads"),
+        ReadFault::BadLine(line) => (at_line(b"fault", line), "BadLine"),
+        ReadFault::TooManyMoves(line) => (at_line(b"fault", line), "TooManyMoves"),
+        ReadFault::WordsTooNarrow(line) => (at_line(b"fault", line), "WordsTooNarrow"),
+        ReadFault::TooLong => (Text::new(), "fault TooLong"),
         ReadFault::OutOfMemory => return Err(AllocError),
-    })
+    };
+    text.push(name.as_bytes());
+    text.push(b"\n");
+    Ok(text)
 }

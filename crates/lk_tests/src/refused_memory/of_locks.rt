@@ -3,13 +3,16 @@
 use crate::holding::holds;
 use crate::refusing::{refuse, was_refused};
 use lk_locks::{
-    Entry, History, Keeper, LockKind, Move, Op, Outcome, PlayFault, Refusal, Shape, StepKind,
+    Entry, History, Holders, Keeper, LockKind, Move, Op, Outcome, PlayFault, Refusal, Shape,
+    StepKind,
 };
 use lk_words::WordArray;
 use std::alloc::Global;
 use std::process::Abort;
 
 const ACQUIRE: Move = Move::Call(Op::Acquire);
+
+const SECTION: Move = Move::Step(StepKind::Section);
 
 const ENTERS: [Move; 3] = [
     ACQUIRE,
@@ -64,30 +67,78 @@ fn no_request_in_a_refused_play(rt: HostRuntime) {
     assert!(rt; refuses(&mut keeper) && !was_refused(rt.alloc()));
 }
 
-// Whether the keeper answered so, and has as many entries as it should.
-fn is_due(keeper: &Keeper<WordArray>, answer: Result<Outcome, PlayFault>, refused: bool) -> bool {
-    let (due, entries) = if refused {
-        (Err(PlayFault::OutOfMemory), 62)
-    } else {
-        (Ok(Outcome::Called), 63)
-    };
-    answer == due && keeper.entries().len() == entries
+// An announced writer goes before a later reader. Then that reader leaves, so that the moves can be
+// made again: once they add 19 entries.
+const WRITER_FIRST: [(u8, Move, Outcome); 17] = [
+    (0, Move::Call(Op::ReadLock), Outcome::Called),
+    (0, SECTION, Outcome::Entered),
+    (1, Move::Call(Op::WriteLock), Outcome::Called),
+    (1, SECTION, Outcome::Moved),
+    (2, Move::Call(Op::ReadLock), Outcome::Called),
+    (2, SECTION, Outcome::Waits),
+    (1, SECTION, Outcome::Waits),
+    (0, Move::Call(Op::ReadUnlock), Outcome::Called),
+    (0, SECTION, Outcome::Left),
+    (2, SECTION, Outcome::Waits),
+    (1, SECTION, Outcome::Entered),
+    (1, Move::Call(Op::WriteUnlock), Outcome::Called),
+    (2, SECTION, Outcome::Waits),
+    (1, SECTION, Outcome::Left),
+    (2, SECTION, Outcome::Entered),
+    (2, Move::Call(Op::ReadUnlock), Outcome::Called),
+    (2, SECTION, Outcome::Left),
+];
+
+fn plays(keeper: &mut Keeper<WordArray>, moves: &[(u8, Move, Outcome)]) -> bool {
+    for (thread, action, outcome) in moves {
+        if keeper.play(*thread, *action) != Ok(*outcome) {
+            return false;
+        }
+    }
+    true
 }
 
-/// The move after a refused one is made.
+// A keeper with 62 entries: its next move asks for memory. Thread 0 reads, and thread 1 waits to
+// write.
+fn announced_keeper(alloc: Global) -> Option<Keeper<WordArray>> {
+    let mut keeper = Keeper::at_start(alloc, Shape::new(LockKind::RwFifo, 3, 64));
+    for _ in 0..3u8 {
+        if !plays(&mut keeper, &WRITER_FIRST) {
+            return None;
+        }
+    }
+    plays(&mut keeper, &WRITER_FIRST[..4]).then_some(keeper)
+}
+
+// Whether the holders, the queue and the entries are those before the move.
+fn is_kept(keeper: &Keeper<WordArray>, before: &Keeper<WordArray>) -> bool {
+    let Holders::Readers(readers) = keeper.holders() else {
+        return false;
+    };
+    readers.as_slice() == [0].as_slice()
+        && keeper.queue().as_slice() == [1].as_slice()
+        && keeper.entries() == before.entries()
+}
+
+/// A move for which there is no memory changes nothing, and when it is made again it has the
+/// outcome that it would have had, as have all after it.
 pub fn play(rt: &impl Abort, alloc: Global, number: usize) -> bool {
-    let Some(mut keeper) = full_keeper(alloc) else {
+    let (Some(mut keeper), Some(before)) = (announced_keeper(alloc), announced_keeper(alloc)) else {
         panic!(rt; "there is memory")
     };
+    holds(rt, before.entries().len() == 62, "the entries before");
     refuse(alloc, number);
-    let answer = keeper.play(60, ACQUIRE);
+    let (thread, action, outcome) = WRITER_FIRST[4];
+    let answer = keeper.play(thread, action);
     let refused = was_refused(alloc);
-    holds(rt, is_due(&keeper, answer, refused), "a keeper");
-    holds(
-        rt,
-        !refused || keeper.play(60, ACQUIRE).is_ok(),
-        "a second try",
-    );
+    if refused {
+        let is_due = answer == Err(PlayFault::OutOfMemory) && is_kept(&keeper, &before);
+        holds(rt, is_due, "a keeper without memory");
+        holds(rt, plays(&mut keeper, &WRITER_FIRST[4..]), "a second try");
+    } else {
+        let is_due = answer == Ok(outcome) && plays(&mut keeper, &WRITER_FIRST[5..]);
+        holds(rt, is_due, "a keeper");
+    }
     refused
 }
 

@@ -2,7 +2,9 @@
 
 ghost use Rattle.std.specs.Prelude.{None, Some};
 ghost use Rattle.lk_locks.specs.declared.kinds.Op.TheVariants.{Acquire, Release};
-ghost use Rattle.lk_locks.specs.laws.{after_take, after_look, after_read_serving, after_pass};
+ghost use Rattle.lk_locks.specs.declared.kinds.Phase.TheVariants.{AwaitTurn, PassOn};
+ghost use Rattle.lk_locks.specs.declared.kinds.Phase.TheVariants.{ReadServing, TakeTicket};
+ghost use Rattle.lk_locks.specs.laws.{after, Found, Nothing};
 ghost use Rattle.lk_workers.specs.declared.live.LivePhase.TheVariants.{Idle, Waiting, Inside};
 ghost use Rattle.lk_workers.specs.declared.live.LivePhase.TheVariants.{Leaving};
 ghost use Rattle.lk_workers.specs.SeatSteps.{take_step, look_step, read_step, pass_step};
@@ -17,20 +19,21 @@ pub fn rule_is_the_lock()
 
 /// `take` is the call of an acquire and its fetch-and-add on `next_ticket`.
 pub fn take_is_the_add()
-    ensures { IsEvent take_step Idle (Some Acquire) (λ r found. after_take found) }
+    ensures { IsEvent take_step Idle (Some Acquire) (λ i r m. after i TakeTicket (Found m)) }
 {}
 
 /// `look` is the read of `now_serving` by a thread that waits.
 pub fn look_is_the_read()
-    ensures { IsEvent look_step Waiting None (λ r found. after_look r.ticket found) }
+    ensures { IsEvent look_step Waiting None (λ i r m. after i (AwaitTurn r.ticket) (Found m)) }
 {}
 
 /// `read_serving` is the call of a release and its read of `now_serving`.
 pub fn read_serving_is_the_read()
-    ensures { IsEvent read_step Inside (Some Release) (λ r found. after_read_serving found) }
+    ensures { IsEvent read_step Inside (Some Release)
+        (λ i r m. after i (ReadServing r.ticket) (Found m)) }
 {}
 
 /// `pass` is the write of `now_serving` that ends a release.
 pub fn pass_is_the_write()
-    ensures { IsEvent pass_step Leaving None (λ r found. after_pass) }
+    ensures { IsEvent pass_step Leaving None (λ i r m. after i (PassOn r.ticket) Nothing) }
 {}

@@ -16,3 +16,13 @@ returns-in_ok-operation-in-Mcs-clause-tells c =
     (effect_tells c.args.kind c.requires.threads c.args.words.now.1 c.args.words.now.0 c.args.thread
     c.args.phase c.in_ok-operation-in-Mcs.field-0 c.after-in-Mcs.result.1 (search rules)
     c.requires.thread c.requires.phase_fits c.requires.enough (search rules))
+
+pub returns-in_ok-step_due-in-RwSimple-clause-value :
+    goal.returns-in_ok-step_due-in-RwSimple-clause-value
+returns-in_ok-step_due-in-RwSimple-clause-value c =
+    search (rules, c.effect.ensures.value c.args.thread)
+
+pub returns-in_ok-step_due-in-RwSimple-clause-tells :
+    goal.returns-in_ok-step_due-in-RwSimple-clause-tells
+returns-in_ok-step_due-in-RwSimple-clause-tells c =
+    search (rules, c.effect.ensures.value c.args.thread, c.effect.ensures.tells c.args.thread)

@@ -1,6 +1,6 @@
 -- The sent bytes are the report, and it ends as the replay does.
 use Rattle.std.proofs.Common.{◌∙◌, rules, subst}
-use Rattle.std.proofs.lemmas.Result.{IfOk-weaker}
+use Rattle.std.proofs.lemmas.Result.{IfErr-weaker, IfOk-weaker}
 use Rattle.lk_replay.specs.Devices.{AppendsPrefix}
 use Rattle.lk_replay.proofs.LastLines.{ends_by_plan, ends_faulty, report_is}
 use Rattle.lk_replay.proofs.Passed.{at_error}
@@ -23,3 +23,7 @@ returns-in_ok-place-in-Ok-clause-prefix g c = λ is.
 pub returns-in_ok-send-in-Err-clause-ending : goal.returns-in_ok-send-in-Err-clause-ending
 returns-in_ok-send-in-Err-clause-ending g c =
     ends_faulty c.in-Err.fault c.args.text.now (search rules) c.in-Err.ensures
+
+pub returns-in_ok-place-in-Ok-clause-fault : goal.returns-in_ok-place-in-Ok-clause-fault
+returns-in_ok-place-in-Ok-clause-fault g c =
+    IfErr-weaker c.send_rest.result _ _ (λ e is read. absurd (cc)) c.send_rest.ensures.fault

@@ -1,4 +1,5 @@
-use Rattle.lk_locks.proofs.SharedLaws.{no_reader_beside}
+use Rattle.std.proofs.Common.{◌≡◌, ℕ, List, [], ◌∷◌, ap, arith, length, refl}
+use Rattle.lk_tests.specs.WorkedHistories.{left_once, reader_beside_writer}
 use Rattle.lk_tests.proofs.worked_histories.parts_of_the_theorem.Goals as goal
 
 pub returns-clause-legal : goal.returns-clause-legal
@@ -19,5 +20,12 @@ returns-clause-no_reader_beside c = λ kind n es promised. promised.no_reader_be
 pub returns-clause-no_reader : goal.returns-clause-no_reader
 returns-clause-no_reader c = λ kind n es promised. promised.no_reader_beside.no_reader
 
-pub returns-clause-alone : goal.returns-clause-alone
-returns-clause-alone c = λ kind es before after split. no_reader_beside kind before
+pub returns-clause-left_once : goal.returns-clause-left_once
+returns-clause-left_once c = λ alone.
+    let none : 0 ∷ [] ≡ [] = alone left_once [] refl 1 refl in
+    omega (arith, ap (λ (ts : List ℕ). length ts) none)
+
+pub returns-clause-reader : goal.returns-clause-reader
+returns-clause-reader c = λ alone.
+    let none : 1 ∷ [] ≡ [] = alone (reader_beside_writer 0 1) [] refl 0 refl in
+    omega (arith, ap (λ (ts : List ℕ). length ts) none)

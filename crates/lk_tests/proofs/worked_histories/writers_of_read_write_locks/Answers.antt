@@ -1,5 +1,6 @@
-use Rattle.std.proofs.Common.{◌≡◌, [], ◌∷◌, ◌++◌, refl, inl, inr, rules}
-use Rattle.lk_tests.specs.WorkedHistories.{writes, reads, unwrites}
+use Rattle.std.proofs.Common.{◌≡◌, ℕ, List, [], ◌∷◌, ◌++◌, ap, arith, length, refl, inl, inr}
+use Rattle.std.proofs.Common.{rules}
+use Rattle.lk_tests.specs.WorkedHistories.{writes, reads, unwrites, left_once}
 use Rattle.lk_tests.specs.WorkedHistories.{writers_in_turn, announced_entered}
 use Rattle.lk_locks.specs.Exclusion.{StopsWriting}
 use Rattle.lk_locks.proofs.SharedLaws.{never_two_writers, never_a_writer_beside_a_reader}
@@ -71,3 +72,8 @@ pub returns-clause-another : goal.returns-clause-another
 returns-clause-another c =
     not_of_two (StopsWriting 0) (Acted 1 WriteUnlock) (Acted 1 Downgrade)
     (λ s. elim s [ inl e ↦ cc | inr e ↦ cc ]) (λ s. elim s [ inl e ↦ cc | inr e ↦ cc ])
+
+pub returns-clause-reader_stays : goal.returns-clause-reader_stays
+returns-clause-reader_stays c = λ h.
+    let none : 0 ∷ [] ≡ [] = h.no_reader left_once [] refl 1 refl in
+    omega (arith, ap (λ (ts : List ℕ). length ts) none)

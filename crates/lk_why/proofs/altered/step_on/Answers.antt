@@ -17,9 +17,9 @@ returns-in-None c =
     let due =
     board_due c.args.shape c.args.words.now c.args.t c.args.phase c.restore.new.self
     c.next_step.result same c.requires.words.few c.requires.thread c.next_step.ensures in
-    waits_leaves c.args.shape.kind c.args.t c.args.words.now c.args.phase _ c.waits.result
+    waits_leaves c.args.words.now c.args.phase _ c.waits.result
     (no_step c.args.shape.kind c.args.shape.bits c.args.words.now c.args.t c.args.phase
-    (sym due ∙ c.in-None.is)).0
+    (sym due ∙ c.in-None.is))
     c.waits.ensures.words c.waits.ensures.phase c.waits.ensures.half c.waits.ensures.outcome
     c.waits.ensures.entries
 

@@ -86,3 +86,19 @@ returns-clause-batch c = λ workers files line few many some plain.
     (batch_found workers files some plain) in
     absurd (true≢false (sym (c.in-None.ensures.found.1
     (first_of_pairs _ _ (out-ArgMatches c.in-Ok.matches).subcommand _ _ found))))
+
+pub returns-in-Some-clause-unfit : goal.returns-in-Some-clause-unfit
+returns-in-Some-clause-unfit c = λ workers files line unfit some plain.
+    let found =
+    found_in _ _ _ _ subcommand_of _ c.in-Ok.ensures.matches c.in_ok-command.ensures line
+    (batch_found workers files some plain) in
+    c.batch_given.ensures.unfit workers files
+    (same_Some _ _ (sym c.in-Some.ensures.rows ∙ ap (option_map (λ p. p.1)) found)) unfit
+
+pub returns-clause-unfit : goal.returns-clause-unfit
+returns-clause-unfit c = λ workers files line unfit some plain.
+    let found =
+    found_in _ _ _ _ subcommand_of _ c.in-Ok.ensures.matches c.in_ok-command.ensures line
+    (batch_found workers files some plain) in
+    absurd (true≢false (sym (c.in-None.ensures.found.1
+    (first_of_pairs _ _ (out-ArgMatches c.in-Ok.matches).subcommand _ _ found))))

@@ -8,5 +8,5 @@ use Rattle.lockreplay.proofs.sending.send_reports.Given as goal
 abbrev pub invariant-loop-place : goal.invariant-loop-place
 invariant-loop-place g l =
     IsUnderWay (batch_text_of (bytes_of l.reports))
-    (numbered_from (l.place + 1) (bytes_of (drop l.place l.reports))) l.waiting
+    (numbered_from (l.place + 1) (bytes_of (drop l.place l.reports))) l.waiting.items
     (g.W.Write.contents l.initial.output) (g.W.Write.contents l.output)

@@ -1,5 +1,5 @@
-use Rattle.std.proofs.Common.{rules, ap}
-use Rattle.lk_locks.specs.laws.{after_read_serving}
+use Rattle.std.proofs.Common.{rules, ap, refl}
+use Rattle.lk_locks.specs.declared.kinds.Phase.TheVariants.{PassOn}
 use Rattle.lk_workers.proofs.SeatMoves.{read, view_of_seat}
 use Rattle.lk_workers.proofs.live.LiveTicket.read_serving.Goals as goal
 
@@ -15,4 +15,4 @@ invariant_of-seat c =
 pub returns-clause-event : goal.returns-clause-event
 returns-clause-event c =
     let t = c.load-serving.ensures.2 _ (ap (λ m. m.0) c.seat.invariant.0) in
-    ap after_read_serving t.1
+    λ i ws. (ap PassOn t.1, refl)
