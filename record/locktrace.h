@@ -2,7 +2,8 @@
    SPDX-License-Identifier: Apache-2.0 OR MIT
 
    Link with liblk_trace_c.a, whose calls allocate no memory, or compile locktrace.c, which keeps as
-   much as its longest text needed. The text and the records are the caller's.
+   much as its longest text needed. The text and the records are the caller's. Threads may check
+   texts side by side. In liblk_trace_c.a calls share nothing; in locktrace.c one waits for another.
    A text is opened once, which checks all of it, and then stepped through, a call for each move
    that was made:
 
@@ -66,7 +67,8 @@ enum {
     /* end */
 };
 
-/* Faults of locktrace.c alone: more moves than it checks, and memory that the system refused. */
+/* Faults of locktrace.c alone. LT_TOO_LONG: the first 65,536 moves are right, and no further one
+   was checked. LT_NO_MEMORY: the system refused memory. */
 enum { LT_TOO_LONG = 21, LT_NO_MEMORY = 22 };
 
 /* A move that was made. `word` is its word's number in docs/LOCKS.md (mcs: 0 tail, 1 + 2j next of

@@ -4,7 +4,8 @@
    do the same, and note it. In three places its steps are not the machine's:
      `next`     is set by a plain store: noted at the fence after it
      `locked`   is set before the swap: noted after it, if there is a predecessor. Nobody looks
-                at it before the link
+                at it before the link. Both notes say what the word holds, and not what it should:
+                else they would stand for a store that is missing
      the tail   is loaded before the compare-and-swap. If that finds another record, there is no
                 compare-and-swap: the load is noted as one that failed. Else it is not noted
 
@@ -62,13 +63,13 @@ static unsigned thread_of(const void *field)
 static uint64_t value_of(const void *node) { return LR_RECORD(records, (const record *)node); }
 
 /* The swap that follows orders the stores before it, as the fence would. */
-static void noted_fence(void) { LR_WRITE(next, 0); }
+static void noted_fence(void) { LR_WRITE(next, value_of(records[lr_thread()].node.next)); }
 
 static void *noted_swap(void *word, void *node)
 {
     void *found = __atomic_exchange_n((void **)word, node, __ATOMIC_SEQ_CST);
     LR_SWAP(tail, value_of(found));
-    if (found) LR_WRITE(locked, 1);
+    if (found) LR_WRITE(locked, ((const ck_spinlock_mcs_context_t *)node)->locked);
     return found;
 }
 

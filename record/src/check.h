@@ -76,6 +76,10 @@ static inline int lr_check_steps(lr_run *run, size_t ordered, const lr_text *tex
     char why[LR_SAID];
     uint32_t fault = lr_compile_record_locktrace_c_too(text, steps, ordered + 1, &answer, why);
     if (!fault) return lr_is_beside(run, ordered, steps, was_stopped);
+    if (fault == LT_TOO_LONG) {
+        run->checked_first = (size_t)answer.moves;
+        return 0;
+    }
     if (fault == LT_NO_MEMORY)
         lr_tell_no_check(run);
     else
@@ -106,5 +110,22 @@ static inline int lr_check(lr_run *run)
     free(text.bytes);
     if (ended_by[0]) lr_tell(run->said, "%s%s", is_wrong ? "; " : "", ended_by);
     return is_wrong;
+}
+
+/* Says that a run was checked up to a move, which is no fault of it. */
+static inline void lr_say_unchecked(const lr_run *run)
+{
+    if (!run->checked_first) return;
+    lr_say("a run was checked up to its move %zu, and accepted until then: `locktrace check` "
+           "checks all of its moves",
+           run->checked_first);
+}
+
+/* Says that nothing was noted in a run, or in all runs of a search: then the check says nothing of
+   the lock. */
+static inline void lr_say_empty(void)
+{
+    lr_say("nothing was noted, so nothing was checked: build each file of the lock with the "
+           "LR_MODE of its driver, and note the lock's calls and steps");
 }
 #endif

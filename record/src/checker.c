@@ -1,5 +1,6 @@
 /* lt_check by the machine above: it plays the schedule of a trace, and this compares what each move
-   touched with what the trace says of it. A machine plays at most 65,536 moves. */
+   touched with what the trace says of it. A machine plays at most 65,536 moves: of a longer trace
+   the first ones are checked. */
 
 enum { LT_LINE = 96, LT_RECORD = 56, LT_STATE = 2304, LT_WORDS = 10 };
 enum { LT_THREAD = 192, LT_THREAD_SIZE = 16, LT_DUE = 1 }; /* of a state */
@@ -156,9 +157,10 @@ static int lt_read_move(struct lt_words *words, struct lt_seen *seen)
 }
 
 /* The schedule of a text, with each of its lines in its place: `length` bytes, up to a line that is
-   no move of a trace. */
+   no move of a trace, or one for which the machine has no room. */
 struct lt_schedule {
-    uint64_t length, lines, bad; /* bad: the line that is no move, or 0 */
+    uint64_t length, lines, moves;
+    uint64_t bad, beyond; /* the line that is no move, or for which there is no room; or 0 */
     int has_header;
 };
 
@@ -182,6 +184,7 @@ static int lt_keeps(struct lt_schedule *schedule, const uint8_t *line, size_t le
         if (length > LT_LINE) *kept = 1; /* one byte is a bad header too */
     } else {
         if (!lt_cut(&words, line, length) || !lt_read_move(&words, &seen)) return 0;
+        if (schedule->moves++ == LT_MOST) schedule->beyond = schedule->lines;
         *kept = strlen(words.word[0]) + 1 + strlen(words.word[1]);
     }
     return 1;
@@ -198,6 +201,7 @@ static void lt_schedule_of(struct lt_schedule *schedule, const uint8_t *text, si
             schedule->bad = schedule->lines;
             return;
         }
+        if (schedule->beyond) return;
         memcpy(to + schedule->length, text + at, kept);
         schedule->length += kept;
         to[schedule->length++] = '\n';
@@ -306,9 +310,12 @@ static void lt_end(const struct lt_played *played, const struct lt_schedule *sch
         answer->line = lt_number_at(state + 8, 4);
         if (answer->fault > LT_BAD_LINE) answer->fault = LT_TOO_LONG;
         if (answer->fault == LT_NO_HEADER) answer->line = schedule->lines + 1;
+    } else if (schedule->bad) {
+        answer->fault = LT_BAD_LINE;
+        answer->line = schedule->bad;
     } else {
-        answer->fault = schedule->bad ? (uint32_t)LT_BAD_LINE : (uint32_t)LT_ACCEPTED;
-        answer->line = schedule->bad ? schedule->bad : schedule->lines;
+        answer->fault = schedule->beyond ? (uint32_t)LT_TOO_LONG : (uint32_t)LT_ACCEPTED;
+        answer->line = schedule->lines;
     }
 }
 
@@ -339,15 +346,17 @@ static void lt_write_due(struct lt_played *played, struct lt_schedule *schedule,
     lt_read_record(&steps[answer->moves], lt_at(played->records + answer->moves * LT_RECORD));
 }
 
-uint32_t lt_check(const uint8_t *text, size_t length, struct lt_step *steps, size_t room,
-                  struct lt_answer *answer)
+/* Checks a text by the machine, which no other thread has meanwhile. */
+static void lt_check_alone(const uint8_t *text, size_t length, struct lt_step *steps, size_t room,
+                           struct lt_answer *answer)
 {
     struct lt_schedule schedule;
     struct lt_played played;
     memset(answer, 0, sizeof *answer);
     played.most = length / 4 < LT_MOST ? length / 4 : LT_MOST; /* a move has four bytes at least */
     played.state = lt_make_room(LT_STATE + played.most * LT_RECORD + length + 1 + LT_LONGER);
-    if (!played.state) return answer->fault = LT_NO_MEMORY;
+    if (!played.state) answer->fault = LT_NO_MEMORY;
+    if (!played.state) return;
     played.records = played.state + LT_STATE;
     played.text = played.records + played.most * LT_RECORD;
     lt_schedule_of(&schedule, text, length, lt_at(played.text));
@@ -358,36 +367,13 @@ uint32_t lt_check(const uint8_t *text, size_t length, struct lt_step *steps, siz
     }
     if (!answer->fault) lt_end(&played, &schedule, answer);
     lt_write_due(&played, &schedule, steps, room, answer);
-    return answer->fault;
 }
 
-size_t lt_fault_text(uint32_t fault, uint8_t *text, size_t room)
+uint32_t lt_check(const uint8_t *text, size_t length, struct lt_step *steps, size_t room,
+                  struct lt_answer *answer)
 {
-    static const char *const texts[] = {
-        /* generated: texts of faults */
-        /* clang-format off */
-        "accepted", "NoSuchThread: no such thread",
-        "WrongLock: the lock has no such operation or step", "Busy: the thread has a pending call",
-        "NotHolder: the thread does not hold the lock in that mode",
-        "AlreadyHolds: the thread holds the lock already",
-        "NoCall: the thread has no pending call",
-        "WrongStep: the thread's next step is a different one",
-        "OtherWord: the lock's step is on another word",
-        "FoundOther: the lock has another value in the word",
-        "LeftOther: the lock leaves another value in the word",
-        "WroteOther: the lock's compare-and-swap ends otherwise",
-        "CountNotAbove: the section's count is not above those before it",
-        "OtherOutcome: something else comes of the lock's step", "", "",
-        "NoHeader: there is no header", "BadHeader: not a header",
-        "BadThreads: not a number of threads", "WordsTooNarrow: words too narrow for the threads",
-        "BadLine: not a move",
-        /* clang-format on */
-        /* end */
-    };
-    const char *said = "no fault has this number";
-    if (fault < sizeof texts / sizeof texts[0] && texts[fault][0]) said = texts[fault];
-    if (fault == LT_NO_MEMORY) said = "NoMemory: no memory for the check";
-    if (fault == LT_TOO_LONG) said = "TooLong: more moves than are checked here: locktrace does";
-    memcpy(text, said, strlen(said) < room ? strlen(said) : room);
-    return strlen(said);
+    while (!LT_TAKES()) (void)LT_YIELD();
+    lt_check_alone(text, length, steps, room, answer);
+    LT_GIVE_BACK();
+    return answer->fault;
 }

@@ -5,8 +5,8 @@
    edited. Its machine is the proved one of crates/lk_page, compiled to WebAssembly, and that to C
    by wasm2c of the WebAssembly Binary Toolkit (Apache-2.0); what `play` does not call is left out.
    What reads a trace and compares it with the machine is written by hand, and compared with the
-   proved library liblk_trace_c.a by tests. One thread may call it at a time. A trace may have
-   65,536 moves: `locktrace check` and the library check longer ones. */
+   proved library liblk_trace_c.a by tests. Threads may call it side by side: one is served at
+   a time. Of a trace it checks 65,536 moves: `locktrace check` and the library check all. */
 #if defined __clang__
 #pragma clang diagnostic ignored "-Wunused-function"
 #endif
@@ -33,3 +33,5 @@
 #include "memory.h"
 
 #include "checker.c"
+
+#include "fault_text.c"

@@ -9,9 +9,10 @@
 
    THREADS, ROUNDS, RUNS (1,000,000) and SECONDS are at least 1. With one thread at a time a run is
    checked if the program can do it. SECONDS (60) is the longest time without a move. Status: 0 all
-   is well; 1 a run is refused or hangs, or a schedule was not followed; 2 usage; 3 the system
-   refused memory, a thread or a file, a log was full, there is no schedule or a file is none of this
-   lock, or it is no trace of a run that can be made again. */
+   is well; 1 a run is refused or hangs, nothing was noted in the runs that were checked, or a
+   schedule was not followed; 2 usage; 3 the system refused memory, a thread or a file, a log was full, there
+   is no schedule or a file is none of this lock, or it is no trace of a run that can be made
+   again. */
 
 /* The room of a log, in moves a round. */
 enum { LR_ROUND = 128 };
@@ -68,6 +69,20 @@ static inline void lr_say_few(const lr_driver *driver, unsigned threads,
     lr_say("most mistakes of a read-write lock need three threads");
 }
 
+static inline const char *lr_verdict(const lr_explored *explored)
+{
+    if (explored->is_refused) return "the last one is refused";
+    if (!explored->has_noted) return "and nothing was noted in them";
+    return explored->is_complete ? "all of them accepted"
+                                 : "all of them accepted, and there are more";
+}
+
+/* Whether runs were made, and accepted since nothing was noted in them. */
+static inline int lr_is_empty(const lr_explored *explored)
+{
+    return explored->runs && !explored->is_refused && !explored->has_noted;
+}
+
 static inline int lr_main(const lr_driver *driver, int count, char **words)
 {
     lr_explored explored;
@@ -86,17 +101,15 @@ static inline int lr_main(const lr_driver *driver, int count, char **words)
     if (!read.is_again && explored.runs)
         printf("%lu run%s with up to %u preemption%s, %s\n", explored.runs,
                explored.runs == 1 ? "" : "s", explored.preemptions,
-               explored.preemptions == 1 ? "" : "s",
-               explored.is_refused    ? "the last one is refused"
-               : explored.is_complete ? "all of them accepted"
-                                      : "all of them accepted, and there are more");
+               explored.preemptions == 1 ? "" : "s", lr_verdict(&explored));
     if (explored.is_refused) printf("%s\n", explored.said);
     if (explored.is_refused && !read.is_again)
         printf("again: %s %u %u again %s/run.trace\n", words[0], threads, rounds, words[4]);
     lr_say_unseen(&explored);
     if (explored.runs && !read.is_again) lr_say_few(driver, threads, &explored);
+    if (lr_is_empty(&explored)) lr_say_empty();
     fflush(stdout);
-    _Exit(fault ? 3 : explored.is_refused);
+    _Exit(fault ? 3 : explored.is_refused || lr_is_empty(&explored));
 }
 #elif LR_FOLLOWS
 static inline int lr_main(const lr_driver *driver, int count, char **words)
@@ -125,6 +138,11 @@ static inline int lr_main_run(const lr_driver *driver, unsigned threads, unsigne
     int is_refused = missing != 0;
 #if LR_CHECKS
     is_refused = lr_check(run) || is_refused;
+    lr_say_unchecked(run);
+    if (!is_refused && !run->ordered) {
+        lr_say_empty();
+        is_refused = 1;
+    }
 #endif
     if (run->said[0]) lr_say("%s", run->said);
     if (lr_save(run) || run->lacks) return 3;

@@ -1,4 +1,23 @@
-/* The memory of the machine: its own data, and from their end on what is lent to it. */
+/* The memory of the machine: its own data, and from their end on what is lent to it. All threads
+   share the one machine, so a check waits for another thread's. A flag needs no library of threads,
+   and a check takes milliseconds. */
+
+#if defined __unix__ || defined __APPLE__
+#include <sched.h>
+#define LT_YIELD() sched_yield()
+#else
+#define LT_YIELD() 0
+#endif
+#if defined __GNUC__
+static char lt_is_taken;
+#define LT_TAKES() (!__atomic_test_and_set(&lt_is_taken, __ATOMIC_ACQUIRE))
+#define LT_GIVE_BACK() __atomic_clear(&lt_is_taken, __ATOMIC_RELEASE)
+#else
+#include <stdatomic.h>
+static atomic_flag lt_is_taken = ATOMIC_FLAG_INIT;
+#define LT_TAKES() (!atomic_flag_test_and_set_explicit(&lt_is_taken, memory_order_acquire))
+#define LT_GIVE_BACK() atomic_flag_clear_explicit(&lt_is_taken, memory_order_release)
+#endif
 
 static w2c_lockreplay lt_module;
 

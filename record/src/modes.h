@@ -41,6 +41,9 @@
 #if defined LR_STEPS && !defined LR_PCT
 #error "LR_STEPS is for LR_PCT: about how many turns a run has"
 #endif
+#if defined LR_STEPS && LR_STEPS + 0 < 1
+#error "LR_STEPS is about how many turns a run has: LR_STEPS=1 and so on"
+#endif
 #if defined LR_SPURIOUS && !(LR_SEEDED || LR_EXPLORES)
 #error "LR_SPURIOUS is for SEED and EXPLORE: threads are woken for nothing, or with 0 are not"
 #endif

@@ -139,7 +139,7 @@ static inline void lr_before_note(lr_log *log, unsigned word)
 #if LR_FOLLOWS
     lr_stop_at_end(log);
 #endif
-    if (word != LR_STEP_section) lr_pass_if_due(log);
+    if (word != LR_STEP_section && !log->turn.in_monitor) lr_pass_if_due(log);
 }
 
 /* A run that went on without one of its moves could not be checked. */
@@ -165,7 +165,7 @@ static inline void lr_after_note(lr_log *log, unsigned word, int polls)
 #if LR_FOLLOWS
     lr_made(log, word);
 #endif
-    if (word == LR_STEP_section)
+    if (word == LR_STEP_section || log->turn.in_monitor)
         log->turn.is_due = 1;
     else if (!joined)
         lr_pass(log);

@@ -160,10 +160,11 @@ typedef struct lr_run {
     int hangs;
     unsigned char *order; /* whose each move is, up to the first that was dropped */
     size_t ordered;
-    int is_cut;        /* a move was dropped */
-    unsigned spurious; /* one turn in this many has a spurious wakeup */
-    size_t *changes;   /* with LR_PCT: at which turns the thread that runs becomes the last */
-    lr_line *lines;    /* of the schedule that is followed */
+    size_t checked_first; /* the moves that were checked of a run with more of them, or 0 */
+    int is_cut;           /* a move was dropped */
+    unsigned spurious;    /* one turn in this many has a spurious wakeup */
+    size_t *changes;      /* with LR_PCT: at which turns the thread that runs becomes the last */
+    lr_line *lines;       /* of the schedule that is followed */
     size_t lines_count, at;
     int is_at_end;            /* every line was made: each thread may come to its end */
     const unsigned char *way; /* what to choose first */

@@ -1,5 +1,5 @@
 /* Threads that use the recording header wrongly, or wait for one another. BODY calls what a test
-   tries; test_words.py has the bodies and the messages that are due. */
+   tries; test_command_lines_and_turns.py has the bodies and the messages that are due. */
 #include <signal.h>
 #include <sys/select.h>
 

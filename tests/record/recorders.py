@@ -19,6 +19,9 @@ STANDARDS = ["14", "17", "20"]  # of C++
 CHECKED = ["FOLLOW", "EXPLORE", "PCT"]  # modes in which a program checks its runs
 # A schedule in which the first of two threads takes an MCS lock.
 HEAD, IN = "lock mcs threads 2\n", "0 acquire\n0 write\n0 swap\n"
+# What a program says after runs in which nothing was noted.
+NOTHING = ("lockreplay_record: nothing was noted, so nothing was checked: build each file of the "
+           "lock with the LR_MODE of its driver, and note the lock's calls and steps\n")
 # What a program says after a crash, before the folder of its logs.
 KEPT = ("lockreplay_record: the program ended before its run was saved: "
         "its moves until then are in the folder ")

@@ -4,7 +4,7 @@ import signal
 
 import pytest
 
-from recorders import HERE, compile_c, refusal
+from recorders import HERE, NOTHING, compile_c, refusal
 from tree import TOP, answer, ran
 
 pytestmark = pytest.mark.slow
@@ -67,7 +67,10 @@ def test_operations_without_notes(noting, tmp_path, mode, most, less, status):
               "do atomic_store(&word, left); while (--left)")
     done = ran(noting("ticket", stores, mode=mode), 1, 1, 0, tmp_path / "logs")
     said = "the run hangs: thread 0 has noted nothing\n"
-    assert (said in done.stdout + done.stderr, done.returncode) == (status == 1, status)
+    assert (said in done.stdout + done.stderr) == (status == 1)
+    # A search in which nothing is noted is no success either.
+    assert (done.stderr == NOTHING, done.returncode) == (
+        (not status, 1) if mode == "EXPLORE" else (False, status))
 
 
 # A search that ends after two runs, one that ends with a refusal, and a run that is made again.
@@ -101,7 +104,8 @@ def test_memory_of_a_search(built, tmp_path, flags):
 def test_notes_of_an_earlier_run(noting, tmp_path, mode):
     """Notes that a killed run left would become logs in place of the later run's."""
     (tmp_path / "run.notes").write_text("of an earlier run\n")
-    assert ran(noting("ticket", "(void)0", mode=mode), 1, 1, 1, tmp_path).returncode == 0
+    done = ran(noting("ticket", "(void)0", mode=mode), 1, 1, 1, tmp_path)
+    assert (done.stderr, done.returncode) == ((NOTHING, 1) if mode == "EXPLORE" else ("", 0))
     assert not (tmp_path / "run.notes").exists()
 
 

@@ -12,7 +12,7 @@ import pytest
 import worked_rows
 from locktrace import Answer, Step
 from random_runs import random_run
-from recorders import WARNINGS, once
+from recorders import HERE, WARNINGS, once
 from transcripts import text_of, transcripts
 from tree import TOP, output, ran
 
@@ -70,6 +70,40 @@ def test_worked_texts(both):
     assert {name for name, (due, found) in answers.items() if due != found} == long
     assert {answers[name][1][0] for name in long} == {TOO_LONG}
     assert {due[0] for due, _ in answers.values()} == {*range(21)} - {14, 15}
+
+
+# A thread takes a ticket lock, and another one polls until the source has no room for a move. One
+# row has twice as many moves, in more bytes than a machine takes.
+POLLS = ["1 read now_serving found 0"] * (MOST - 4)
+LONG = ["lock ticket threads 2", "0 acquire", "0 add", "1 acquire", "1 add", *POLLS]
+
+
+@pytest.mark.parametrize("line, text, due", [
+    (MOST + 2, "1 read now_serving found 0", (TOO_LONG, MOST + 2, MOST)),
+    (MOST + 2, "1 read now_serving found 1", (TOO_LONG, MOST + 2, MOST)),
+    (MOST + 2, "1 wrote", (20, MOST + 2, MOST)), (MOST + 2, "# a comment", (0, MOST + 2, MOST)),
+    (MOST + 1, "1 read now_serving found 1", (9, MOST + 1, MOST - 1)),
+    (MOST + 2, "\n".join(POLLS), (TOO_LONG, MOST + 2, MOST)),
+    (9, "1 read now_serving found 1", (9, 9, 7)), (9, "1 write", (7, 9, 7)),
+    (9, "1 read now_serving found 72057594037927936", (9, 9, 7)), (9, "1 wrote", (20, 9, 7))])
+def test_long_text(both, line, text, due):
+    """The source checks as many moves as it has room for. Only a mistake after them it passes."""
+    lines = [*LONG, "1 read"]
+    lines[line - 1] = text
+    fault, at, moves, *_ = answer_of(both[1], "\n".join(lines).encode())
+    assert (fault, at, moves) == due
+    if fault != TOO_LONG:
+        assert answer_of(both[0], "\n".join(lines).encode())[:3] == due
+
+
+def test_side_by_side(tmp_path):
+    """Threads that check texts at the same time get their own answers, and have no data race."""
+    said = output("gcc", "-std=c11", *WARNINGS, "-O1", "-g", "-fsanitize=thread", "-pthread",
+                  "-o", tmp_path / "it", HERE / "side_by_side.c", TOP / "record" / "locktrace.c")
+    if "tsan" in said:
+        pytest.skip("ThreadSanitizer is not installed")
+    assert said == ""
+    assert output(tmp_path / "it") == ""
 
 
 def changed_line(dice, line):

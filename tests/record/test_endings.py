@@ -49,6 +49,14 @@ def test_slow_run(ended, pause, rounds, more):
     assert answer(program, 3, rounds, 1, logs, *more)[1:] == ("", 0)
 
 
+def test_slow_run_that_makes_moves(ended):
+    """The limit is of the time without a move, and begins anew with each move."""
+    program, logs = ended("SEED", "for (int i = 0; i < 8; i++) { struct timespec time = {0, "
+                          "600000000}; nanosleep(&time, NULL); release(); acquire(); }",
+                          "-D_GNU_SOURCE")
+    assert answer(program, 2, 5, 1, logs, 3)[1:] == ("", 0)
+
+
 def test_all_threads_end_without_a_record(ended):
     """In the mode OFF too the program waits for its last thread."""
     program, logs = ended("OFF", "struct timespec ms = {0, 300000000}; nanosleep(&ms, NULL); "

@@ -12,7 +12,7 @@ import pytest
 
 from explored_runs import runs_of
 from mistakes import IN_C, IN_RUST
-from recorders import HERE, RECORDERS, SOURCES, copied, refusal, words_of
+from recorders import HERE, NOTHING, RECORDERS, SOURCES, copied, refusal, words_of
 from tree import answer, ran
 
 pytestmark = pytest.mark.slow
@@ -274,7 +274,8 @@ def test_who_is_woken(noting, tmp_path):
     preemption."""
     done = ran(noting("rw-fifo", WOKEN), 3, 1, 0, tmp_path / "logs")
     *woken, last = done.stdout.splitlines()
-    assert last == "12 runs with up to 0 preemptions, all of them accepted"
+    assert last == "12 runs with up to 0 preemptions, and nothing was noted in them"
+    assert (done.stderr, done.returncode) == (NOTHING, 1)
     assert sorted(woken) == sorted(4 * [f"woken: {thread}" for thread in range(3)])
 
 
@@ -296,7 +297,7 @@ SEARCHED = [
     ("rw-fifo", "static int of[2]; lr_self->run->inside == 3 && "
      "lr_thread_at(lr_self, (uintptr_t)&of[!thread]) != LR_UNKNOWN ? _Exit(9) : "
      "lr_set_record(&of[thread], sizeof of[0])", (2, 1, 0),
-     "2 runs with up to 0 preemptions, all of them accepted\n"),
+     "2 runs with up to 0 preemptions, and nothing was noted in them\n"),
     # Thread 0 has another record after its step. The one preemption is tried after which thread 1
     # finds that the first is still its own.
     ("mcs", f"static int words[2], of[2]; if (thread) {{ {LOOK}; "
@@ -310,7 +311,7 @@ SEARCHED = [
 def test_search_of_notes(noting, tmp_path, lock, notes, counts, said):
     done = ran(noting(lock, notes, "-DRESET=(void)0"), *counts, tmp_path / "logs")
     assert said in done.stdout
-    assert done.returncode == (0 if said.endswith("all of them accepted\n") else 1)
+    assert done.returncode == 1
 
 
 @pytest.mark.parametrize("lock, name, threads, warned", [

@@ -28,6 +28,9 @@ WORDS = [
         ("-DLR_PCT=0", "SEED", "LR_PCT is the depth of a mistake: LR_PCT=1 and so on"),
         ("-DLR_STEPS=9", "OFF VALUES SEED FOLLOW EXPLORE",
          "LR_STEPS is for LR_PCT: about how many turns a run has"),
+        *((f"-DLR_PCT=3 -DLR_STEPS={steps}", "SEED",
+           "LR_STEPS is about how many turns a run has: LR_STEPS=1 and so on")
+          for steps in (0, -1)),
         ("-DLR_SPURIOUS=9", "OFF VALUES FOLLOW", "LR_SPURIOUS is for SEED and EXPLORE: threads are "
          "woken for nothing, or with 0 are not"),
         ("-DLR_CHECK", "OFF VALUES", "LR_CHECK is for SEED, FOLLOW and EXPLORE: `locktrace order` "

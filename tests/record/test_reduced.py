@@ -139,6 +139,37 @@ def test_words_beside_one_another(noting, tmp_path, operation):
         assert (said_by(done)[0] == 2) == is_enough, (apart, done.stdout)
 
 
+# A thread that has looked so often takes the lock, though nobody gave it to the thread.
+COUNTED = f"""#include "{TOP}/tests/record/ticket.h"
+#include "{TOP}/tests/record/main.h"
+static void acquire_soon(void)
+{{
+    int looks = 0;
+    LR_CALL(acquire);
+    unsigned char ticket = lr_fetch_add(&next_ticket, 1, LR_NEXT_TICKET);
+    while (lr_load(&now_serving, LR_NOW_SERVING) != ticket && ++looks < LOOKS) sched_yield();
+}}
+static void reset(void) {{ next_ticket = now_serving = 0; }}
+static void one_round(unsigned thread, unsigned round)
+{{
+    (void)thread, (void)round, (void)acquire;
+    acquire_soon();
+    release();
+}}
+MAIN("ticket", 8, reset)
+"""
+
+
+@pytest.mark.slow
+@pytest.mark.parametrize("looks", [1, 2, 3])
+def test_lock_that_counts_its_looks(built, tmp_path, looks):
+    """Without reduction each look is tried, as the document says of such locks."""
+    (tmp_path / "it.c").write_text(COUNTED)
+    program = built(tmp_path / "it.c", "EXPLORE", f"-DLOOKS={looks}", "-DLR_REDUCE=0")
+    done = ran(program, 2, 1, 2, tmp_path / "logs")
+    assert ", the last one is refused\n" in done.stdout and done.returncode == 1
+
+
 def without_later_waits(trace):
     """The trace with two waits in a row of a thread at most. A later one changes nothing, so it is
     not looked for: within its preemptions a search may have it in another place, or not at all."""

@@ -145,11 +145,17 @@ impl<A: Plain> Atomic<A> {
         found
     }
 
-    /// A load that is no step of the lock: it is not noted, and no thread is switched. For an
-    /// assertion, for `Debug`, or for a look that the published algorithm does not make.
+    /// A load that is no step of the lock, so it is not noted. Another thread may have its turn
+    /// before it, as before each operation: a lock may decide by what it finds. In an
+    /// [`operation`](crate::operation) it is a part of that. For an assertion, or for a look that
+    /// the published algorithm does not make.
+    #[track_caller]
     pub fn peek(&self, order: Ordering) -> A::Value {
+        let _turn = current::turn(false);
         current::touch(self.address(), false);
-        self.plain.load(order)
+        let found = self.plain.load(order);
+        current::looked(self.address());
+        found
     }
 
     /// A store.

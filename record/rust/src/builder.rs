@@ -74,8 +74,9 @@ impl RunBuilder {
     }
 
     /// Whether [explored](RunBuilder::explore) runs leave out orders of steps that touch different
-    /// words, or load the same one; they do by default. An operation without an atomic, a mutex or
-    /// a note of this crate is not seen.
+    /// words, or load the same one; they do by default. Then a thread that found the same twice in
+    /// a row looks again only when the word was changed: not for a lock that counts its looks. An
+    /// operation without an atomic, a mutex or a note of this crate is not seen.
     pub fn reduced(self, reduces: bool) -> RunBuilder {
         RunBuilder { reduces, ..self }
     }

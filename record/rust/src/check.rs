@@ -3,15 +3,11 @@
 //! It is the check of `locktrace`, as `record/locktrace.h` declares it for C.
 // SPDX-License-Identifier: Apache-2.0 OR MIT
 
-use std::sync::{Mutex, PoisonError};
-
 use crate::error::Error;
+use crate::mode::Mode;
 use crate::published::{self, Made};
 use crate::run::{Run, Shared};
 use crate::tape::Tape;
-
-/// One thread may call the check at a time, and tests run side by side.
-static ALONE: Mutex<()> = Mutex::new(());
 
 /// A move that was made, as the check writes it.
 #[repr(C)]
@@ -41,6 +37,8 @@ pub(crate) const WAITS: u32 = 2;
 /// The outcomes with which a call is over.
 const ENTERED: u32 = 3;
 const LEFT: u32 = 4;
+/// The fault of a trace with more moves than are checked: those that were are right.
+const TOO_LONG: u32 = 21;
 /// More than the text of any fault has.
 const MOST_BYTES: usize = 256;
 
@@ -56,9 +54,10 @@ extern "C" {
 }
 
 impl Run {
-    /// Checks the run's trace as `locktrace check` does, in this process: up to 65,536 moves. The
-    /// run is refused too if a thread was stopped inside a call that the lock's machine has
-    /// completed, or if a thread has ended inside a call.
+    /// Checks the run's trace as `locktrace check` does, in this process. The run is refused too if
+    /// a thread was stopped inside a call that the lock's machine has completed, or if a thread has
+    /// ended inside a call. Of a run with more than 65,536 moves these are checked, and a message
+    /// on standard error says so.
     ///
     /// With the feature `check` alone, for which the build needs a C compiler.
     ///
@@ -78,15 +77,34 @@ impl Run {
     ///
     /// # Errors
     ///
-    /// The trace is refused, a thread goes on with a call that is over or has ended inside one, or
-    /// the threads ran as they like: then `locktrace order` finds their order.
+    /// The trace is refused, a thread goes on with a call that is over or has ended inside one,
+    /// nothing was noted by threads that have all ended, though no schedule said so, or the threads
+    /// ran as they like: then `locktrace order` finds their order.
     pub fn check(&self) -> Result<(), Error> {
+        let is_empty = self.check_moves()? == 0 && self.0.turns.stage().missing().is_empty();
+        if is_empty && !matches!(self.0.mode, Mode::Follow(_)) {
+            return Err(Error::Empty);
+        }
+        Ok(())
+    }
+
+    /// Checks the run, also one in which nothing was noted. Returns how many moves it has.
+    pub(crate) fn check_moves(&self) -> Result<usize, Error> {
         if !self.0.mode.has_order() {
             return Err(Error::NoOrder);
         }
         // One more, for the step of the published lock in place of a move that is refused.
         let mut steps = vec![Step::default(); self.0.turns.stage().order().len() + 1];
         let answer = answer_to(&self.trace()?, &mut steps);
+        let moves = steps.len() - 1;
+        if answer.fault == TOO_LONG {
+            eprintln!(
+                "lockreplay_record: a run was checked up to its move {}, and accepted until then: \
+                 `locktrace check` checks all of its moves",
+                answer.moves
+            );
+            return Ok(moves);
+        }
         if answer.fault != 0 {
             let moves = moves_of(&self.0);
             let published = published::told(self.0.header.lock, &moves, &steps, &answer);
@@ -95,7 +113,7 @@ impl Run {
             return Err(Error::Refused { line: answer.line, made, reason });
         }
         steps.pop();
-        beside(&self.0, &steps).map_or(Ok(()), Err)
+        beside(&self.0, &steps).map_or(Ok(moves), Err)
     }
 
     /// The moves of the run in their order, each with its line in the trace and its place in the
@@ -141,7 +159,6 @@ fn move_at(moves: &[Made], index: u64) -> String {
 #[allow(unsafe_code)]
 fn answer_to(text: &str, steps: &mut [Step]) -> Answer {
     let mut answer = Answer::default();
-    let _alone = ALONE.lock().unwrap_or_else(PoisonError::into_inner);
     // SAFETY: the check reads the bytes of the text, and writes at most `steps.len()` records and
     // the answer, which have the layouts of record/locktrace.h. It keeps no pointer.
     unsafe { lt_check(text.as_ptr(), text.len(), steps.as_mut_ptr(), steps.len(), &mut answer) };

@@ -264,6 +264,13 @@ pub(crate) fn unnoted(address: usize, changed: bool) {
     with(|recorder| recorder.shared.turns.unnoted(recorder.thread, address, changed));
 }
 
+/// A look was made at an address, which in an [`operation`] is a part of that.
+pub(crate) fn looked(address: usize) {
+    if with(|recorder| recorder.depth) == Some(1) {
+        unnoted(address, false);
+    }
+}
+
 /// Writes a step that the atomics cannot know of. The note belongs right after its operation, and
 /// both belong into one [`operation`].
 ///

@@ -70,6 +70,8 @@ pub enum Error {
         /// The fault, and the step of the published lock there.
         reason: String,
     },
+    /// A run was to be checked in which nothing was noted.
+    Empty,
     /// A thread was stopped inside a call that the lock's machine has completed.
     GoesOn {
         /// The thread.
@@ -148,6 +150,10 @@ impl Error {
             Error::OtherRun { run } => write!(out, "the schedule is not of this run: {run}"),
             Error::NoSeed => out.write_str("wakes for nothing are drawn by the seed of a mode"),
             Error::NoOrder => out.write_str("of free threads `locktrace order` finds the order"),
+            Error::Empty => out.write_str(
+                "nothing was noted, so nothing was checked: does the lock say its calls, and are \
+                 its atomics `noted`?",
+            ),
             Error::Refused { line, made, reason } => {
                 write!(out, "refused at line {line} of the trace, {made}: {reason}")
             }

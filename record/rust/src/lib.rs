@@ -96,7 +96,8 @@
 //! - A release that stores its ticket plus one, without a load: a [`note`] of the read and the
 //!   store, in one [`operation`].
 //! - Both counters in one word: an atomic that is not noted, and [`note`]s in one [`operation`].
-//! - A look that the algorithm does not make: [`peek`](Atomic::peek).
+//! - A look that the algorithm does not make: [`peek`](Atomic::peek). It is no step, and other
+//!   threads may have their turns around it.
 //! - A record on the stack, on the heap or from a pool: [`own_record`] in each acquire.
 //! - A monitor of other parts: a [`Mutex`] around its state, and a [`Condvar`].
 //!

@@ -151,6 +151,9 @@ pub(crate) fn touch(_address: usize, _writes: bool) {}
 pub(crate) fn unnoted(_address: usize, _changed: bool) {}
 
 #[inline]
+pub(crate) fn looked(_address: usize) {}
+
+#[inline]
 pub(crate) fn section(_sections: &mut Sections, _outcome: Outcome) {}
 
 #[inline]

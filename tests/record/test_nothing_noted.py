@@ -1,0 +1,72 @@
+"""Runs in which nothing was noted, and runs of more moves than the check has room for.
+
+The first show nothing of a lock, so they are no success. The second are checked up to a move.
+"""
+import re
+
+import pytest
+
+from recorders import NOTHING, SOURCES, compile_c, copied
+from tree import TOP, answer, ran
+
+pytestmark = pytest.mark.slow
+
+
+@pytest.mark.parametrize("compiler", ["gcc", "g++"])
+@pytest.mark.parametrize("mode, notes, said", [
+    ("EXPLORE", "(void)0", "2 runs with up to 0 preemptions, and nothing was noted in them\n"),
+    ("SEED", "(void)0", "")])
+def test_driver_that_notes_nothing(noting, tmp_path, compiler, mode, notes, said):
+    checks = ["-DLR_CHECK"] if mode == "SEED" else []
+    program = noting("ticket", notes, *checks, mode=mode, compiler=compiler)
+    assert answer(program, 2, 1, 1, tmp_path / "logs") == (said, NOTHING, 1)
+
+
+@pytest.mark.parametrize("flags", [[], ["-DLR_MODE=OFF"]], ids=str)
+def test_lock_that_is_built_without_the_mode(library, tmp_path, flags):
+    """The driver of a search is in another file than its lock."""
+    (tmp_path / "lock.c").write_text(
+        f'#include "{TOP}/tests/record/ticket.h"\n'
+        "void take(void);\nvoid take(void) { acquire(); release(); }\n")
+    (tmp_path / "main.c").write_text(
+        f'#include "{TOP}/tests/record/main.h"\nvoid take(void);\n'
+        "static void one_round(unsigned t, unsigned r) { (void)t, (void)r; take(); }\n"
+        'MAIN("ticket", 8, NULL)\n')
+    said = ran("gcc", "-std=c11", "-c", *flags, tmp_path / "lock.c", "-o", tmp_path / "lock.o")
+    assert said.stderr == ""
+    assert compile_c("gcc", tmp_path / "main.c", tmp_path / "it", "-DLR_MODE=EXPLORE",
+                     tmp_path / "lock.o", library=library) == ""
+    done = ran(tmp_path / "it", 2, 1, 1, tmp_path / "logs")
+    assert done.stdout.endswith(", and nothing was noted in them\n")
+    assert (done.stderr, done.returncode) == (NOTHING, 1)
+
+
+def test_search_in_which_one_thread_notes(noting, tmp_path):
+    """A thread that takes no lock may note nothing."""
+    round_of_one = ("if (thread) { LR_CALL(acquire); LR_ADD(next_ticket, 0); "
+                    "LR_READ(now_serving, 0); }")
+    done = ran(noting("ticket", round_of_one, "-DLR_ATOMICS=0"), 2, 1, 1, tmp_path / "logs")
+    assert done.stdout.endswith(", all of them accepted\n") and done.returncode == 0
+
+
+CHECKED = ("lockreplay_record: a run was checked up to its move 65536, and accepted until then: "
+           "`locktrace check` checks all of its moves\n")
+
+
+def test_long_run(tmp_path):
+    """A right run is accepted, also if it has more moves than locktrace.c checks."""
+    program, logs = tmp_path / "it", tmp_path / "logs"
+    assert compile_c("gcc", SOURCES / "ticket.c", program, "-DLR_MODE=SEED", "-DLR_CHECK",
+                     library=TOP / "record" / "locktrace.c") == ""
+    assert answer(program, 3, 4000, 1, logs) == ("", CHECKED, 0)
+    text = (logs / "run.trace").read_text()
+    assert len(re.findall(r"^\d", text, re.MULTILINE)) > 65536 and "refused" not in text
+
+
+def test_long_run_with_a_mistake(tmp_path):
+    """A mistake in the moves that are checked is found."""
+    source = copied(tmp_path, "ticket", "serves-the-next-ticket")
+    assert compile_c("gcc", source, tmp_path / "it", "-DLR_MODE=SEED", "-DLR_CHECK",
+                     library=TOP / "record" / "locktrace.c") == ""
+    done = ran(tmp_path / "it", 3, 4000, 1, tmp_path / "logs")
+    assert "refused at line " in done.stderr and done.returncode == 1
