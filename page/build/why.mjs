@@ -18,7 +18,7 @@ const HEADER = /^changed lock (?<lock>[\w-]+) threads \d+$/;
 const AFTER = /^# (?:(?<wrote>[^;]+); )?(?<object>.+)$/;
 const WROTE = /^(?<name>.+) = (?<value>\d+)$/;
 const WORD = /^\| (?<at>\d+)(?<each> \+ 2i)? \| `(?<name>\w+)`/gm;
-const STUCK = 'to where a call can never end: ';
+const STUCK = 'to where no run can come to rest within the rounds: ';
 const MOVE = /^(?<thread>\d) (?<name>\w+)(?:\((?<number>\d+)\))?(?:, its (?<half>\w+) half)?$/;
 // The one change with a half in which the lock as it is has no turn.
 const SPLIT = 'it is a load and then a store';

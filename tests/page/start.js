@@ -1,6 +1,9 @@
 // The start: its cards, and where it leads.
 
 const lessonNow = () => port.state().lesson;
+// The last lesson of each lock, on the cards of the start.
+const lastLessons = () => all('.lock-card')
+  .map((one) => all('[data-lesson]', one).at(-1).dataset.lesson);
 
 const cards = () => all('#lessons .lock-card').map((card) => ({
   lock: card.dataset.lock, live: all('.live svg text', card).length,

@@ -76,7 +76,8 @@ def test_the_mark_that_is_explained(page):
     explained, drawn = page.open("#lesson=mcs-late-link&move=0").call("sheet").js("blanks")
     assert len(explained) == len(drawn) == 1 and explained == drawn, (explained, drawn)
     assert page.js("texts", "#paper .legend > span > span") == [
-        "to fill in", "called", "moved: the call goes on", "waits: failed poll", "entered", "left"]
+        "to fill in", "called", "moved: the call goes on", "waits: failed poll", "entered", "left",
+        "cas fails"]
 
 
 @pytest.mark.parametrize("name, move", [

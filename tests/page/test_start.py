@@ -159,6 +159,22 @@ def test_the_end_of_a_lesson(page):
     assert page.js("stored", "lockreplay.done") == '["ticket-hand-over"]'
 
 
+@cases("language, said", {
+    "en": ("en", "This was the last lesson. Go on with Play, with the quiz, or with why a line is "
+                 "there."),
+    "de": ("de", "Das war die letzte Lektion. Weiter geht es mit Spielen, mit dem Quiz, oder "
+                 "damit, warum eine Zeile da ist.")})
+def test_the_end_of_the_last_lesson(page, language, said):
+    """After the last lesson of the last lock no lesson is next, and no text that is refused."""
+    last = page.open(f"#lang={language}").js("lastLessons")
+    assert len(last) == 4
+    for name in last:
+        assert page.lesson(name).go(None).press("a").js("count", "#now .last") == 1, name
+        assert page.js("texts", "#now .all-done") == [said] * (name == last[-1]), name
+        assert page.js("count", "#now [data-next]") == (name != last[-1]), name
+    assert page.press("ArrowRight", "Enter").js("lessonNow") == last[-1]
+
+
 def test_the_end_of_a_schedule_of_ones_own(page):
     """No lesson follows, and one more step says so."""
     page.open("#lesson=ticket-hand-over&move=10").show("lock ticket threads 1\n0 acquire\n")

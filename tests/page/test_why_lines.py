@@ -41,9 +41,9 @@ HARMLESS = {
 
 
 def check_harm(lock, change):
-    """The harm is at the last move, or after it if a call can never end. The reader can play a run
-    with the changed step, and the dialog says why a harmless change is harmless."""
-    stuck = "can never end" in change["verdict"]
+    """The harm is at the last move, or after it if no run can come to rest. The reader can play a
+    run with the changed step, and the dialog says why a harmless change is harmless."""
+    stuck = "can come to rest" in change["verdict"]
     harmless = change["verdict"].startswith("Harmless: ")
     assert change["harmed"] == ([] if stuck or harmless else [len(change["moves"])]), change
     assert change["plays"] == [True] * bool(change["changed"]), change
@@ -173,8 +173,8 @@ def test_a_run_is_played(page):
         "0 acquire"]
     assert page.go(6).text("#now .own-say") == "Changed here: CasTail, if its write is left out."
     assert page.press("End").text("#now .own-say") == (
-        "The changed lock has gone wrong: 7 moves to where a call can never end: 0 ClearNext, "
-        "1 Idle.")
+        "The changed lock has gone wrong: 7 moves to where no run can come to rest within "
+        "the rounds: 0 ClearNext, 1 Idle.")
     assert page.press("y").js("stop")["lines"] == [12] and page.js("isAtPlayed", 0)
     page.press("Escape").click(".code-line[data-phase=SetLocked]")
     assert page.js("stop")["lines"] == [5], "a click chooses its own line"
@@ -262,7 +262,8 @@ def test_in_german(page):
     assert one["place"] == "Zeile 12 von 14"
     assert one["changes"][1]["verdict"] == (
         "13 Züge, und Thread 0 tritt ein, während die Schlange 1 ist.")
-    assert one["changes"][0]["said"] == ["✕ Von hier an endet ein Aufruf nicht, was immer folgt."]
+    assert one["changes"][0]["said"] == [
+        "✕ Von hier an ist immer ein Thread in einem Aufruf oder drinnen, was immer folgt."]
     page.click("[data-play='1']").go(6)
     assert page.text("#now .own-say").startswith("Hier geändert: CasTail, wenn er ein Lesen")
 

@@ -105,7 +105,7 @@ def check_steps(change, run):
         assert len(step["ends"]) == is_last, (change, step)
         if is_last:
             verdict = change["verdict"]
-            assert step["ends"][0] == (STUCK if "can never end" in verdict else
+            assert step["ends"][0] == (STUCK if "can come to rest" in verdict else
                                        FORBIDDEN + verdict.split(" moves, and ")[1] + ".")
 
 

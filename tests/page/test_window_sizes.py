@@ -189,6 +189,17 @@ def test_the_answer_on_a_phone(page, width, height, language):
         assert page.js("hidden", name, moves) == [], name
 
 
+@pytest.mark.parametrize("width, height", [(683, 384), (844, 390)])
+def test_the_answer_in_a_low_window(page, width, height):
+    """At 200 % zoom and on a phone on its side, key A brings the answer into view, and the next
+    move is seen from its beginning."""
+    page.resize(width, height).open("#lesson=mcs-late-link&move=9")
+    unseen = {name: page.js("answersOutOfView", name, moves) for name, moves in ASKED_IN.items()}
+    assert not any(unseen.values()), unseen
+    page.lesson("mcs-late-link", 9).press("a").go(10)
+    assert page.js("isSeen", "#now .head", "#now")
+
+
 @pytest.mark.parametrize("language", ["en", "de"])
 def test_the_answer_fits(page, language):
     """On a small projector the move, its question and the answer need no scrolling."""

@@ -10,7 +10,7 @@ from tree import TOP
 DOCUMENT = (TOP / "docs" / "LOCKS.md").read_text()
 LINE = re.compile(r"(?P<code>.*?)\s*(?:-- (?P<kind>\w+) (?P<phase>\w+).*)?")
 CHANGE = re.compile(r"(?P<step>\w+), if (?P<how>[^:]+): (?P<verdict>.+)")
-STUCK = "✕ From here on a call does not end, whatever moves follow."
+STUCK = "✕ From here on a thread is always in a call or inside, whatever moves follow."
 
 
 def listing(lock):

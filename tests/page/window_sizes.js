@@ -51,6 +51,15 @@ function hidden(name, moves) {
   });
 }
 
+// The moves of a lesson at which the first line of the answer is out of view once it is shown.
+function answersOutOfView(name, moves) {
+  return movesOf(name, moves, () => {
+    key('a');
+    const [{ top, height }, now] = ['#now .question [open] > p', '#now'].map(rect);
+    return height === 0 || top < now.top - 1.5 || top + 12 > now.bottom;
+  });
+}
+
 // The moves of a lesson at which the part with the move is scrolled once the answer is shown.
 function scrolledWithAnswer(name, moves) {
   return movesOf(name, moves, () => {

@@ -1,6 +1,7 @@
 // The page as a whole: what is shown, and at which move. What the controls do is in the parts
 // that it is made of, each with the page at hand.
 
+import { closeDialogs } from '../lib/elements.js';
 import { LOCK_NAMES } from '../machine/codes.js';
 import { noteDone } from '../model/done_lessons.js';
 import { looks, toggleHall } from '../model/looks.js';
@@ -78,10 +79,12 @@ export class Page {
   get mode() { return this.modes.mode; }
   get title() { return titleOf(this.session); }
 
-  // The lesson after this one, of the same lock or of the next.
+  // The lesson after this one, of the same lock or of the next. What is refused has a list of its
+  // own, in which none is next.
   get nextLesson() {
-    const at = this.lessons.findIndex(({ name }) => name === this.session.lesson);
-    return at < 0 ? null : this.lessons[at + 1] ?? null;
+    const lessons = this.lessons.filter(({ group }) => LOCK_NAMES.includes(group));
+    const at = lessons.findIndex(({ name }) => name === this.session.lesson);
+    return at < 0 ? null : lessons[at + 1] ?? null;
   }
 
   // Whether the moves to come are hidden, since they are asked for.
@@ -135,9 +138,15 @@ export class Page {
     this.modes.set('own');
   }
 
+  // A dialog is about what is shown below it.
+  closeDialogs() {
+    closeLessons();
+    closeDialogs();
+  }
+
   // Another schedule in place of this one, which Undo and Back bring back.
   open(text, lesson, move, run) {
-    closeLessons();
+    this.closeDialogs();
     this.stepping.pause();
     this.playing.remember('open');
     this.address.leave(lesson);
@@ -148,6 +157,7 @@ export class Page {
 
   // A schedule that was made from this one.
   derive(text, move) {
+    this.closeDialogs();
     if (this.session.lesson || this.address.damaged) this.address.leave(null);
     this.quiz.clear();
     this.session.derive(text, null, move);
@@ -156,6 +166,7 @@ export class Page {
 
   // A schedule that was shown before.
   restore(before) {
+    this.closeDialogs();
     const isAnother = before.keptName !== this.address.keptName
       || before.lesson !== this.session.lesson;
     if (isAnother) this.address.leave(before.lesson);

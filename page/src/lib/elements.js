@@ -60,6 +60,13 @@ export function focusIn(node, selector) {
   if (hasData(found)) found.focus();
 }
 
+// Closes each dialog that is open.
+export function closeDialogs() {
+  /** @type {NodeListOf<HTMLDialogElement>} */
+  const open = document.querySelectorAll('dialog[open]');
+  open.forEach((dialog) => { dialog.close(); });
+}
+
 /**
  * A click beside a dialog closes it. In Firefox the button that closes it would keep the focus, and
  * so the keys.

@@ -22,6 +22,7 @@ export const lessons = {
   size: (moves, minutes) => `${moves} moves, about ${minutes} min`,
   done: 'done', refusals: 'What is refused: wrong moves, and texts that are no schedules',
   ended: 'End. What to keep:', next: (title) => `Next: ${title}`, noMore: 'That was the last move.',
+  allDone: 'This was the last lesson. Go on with Play, with the quiz, or with why a line is there.',
   groups: {
     refused: 'Refused moves', fault: 'Texts that are not schedules',
   },

@@ -19,7 +19,7 @@ export const why = {
   goesOn: (move) => `The changed lock goes on with “${move}”.`,
   wrong: (verdict) => `The changed lock has gone wrong: ${verdict}.`,
   harm: 'goes wrong here', mark: 'changed',
-  stuck: 'From here on a call does not end, whatever moves follow.',
+  stuck: 'From here on a thread is always in a call or inside, whatever moves follow.',
   play: 'Play the lock as it is in these turns',
   later: 'The changed step comes later.',
   step: (count, of) => `Move ${count} of ${of}:`, memory: 'Memory:',

@@ -223,6 +223,8 @@ export const german = {
       refusals: 'Was abgelehnt wird: falsche Züge, und Texte, die keine Abläufe sind',
       ended: 'Ende. Zum Merken:', next: (title) => `Weiter: ${title}`,
       noMore: 'Das war der letzte Zug.',
+      allDone: 'Das war die letzte Lektion. Weiter geht es mit Spielen, mit dem Quiz, oder damit, '
+        + 'warum eine Zeile da ist.',
       groups: { refused: 'Abgelehnte Züge', fault: 'Texte, die keine Abläufe sind' },
       kept: (most) => `In diesem Browser aufgehoben, höchstens die letzten ${most}`,
       keptMove: (place) => `bei Zug ${place}`,
@@ -331,6 +333,7 @@ export const german = {
       task: 'Zeichne jedes Zeichen nach seinem Ergebnis, und fülle die Tabelle aus: das Ergebnis '
         + '(called, moved, waits, entered oder left), wer die Sperre hält, und wer in der '
         + 'Schlange ist, der Älteste zuerst.',
+      taskFails: 'Ein cas, das scheitert, hat ein eigenes Zeichen, und das Ergebnis moved.',
     },
     refused: {
       NoSuchThread: 'Es gibt keinen {thread}: Die Sperre hat {threads}, von 0 bis {last}.',

@@ -19,7 +19,7 @@ export const germanWhy = {
   goesOn: (move) => `Die geänderte Sperre geht weiter mit „${move}“.`,
   wrong: (verdict) => `Die geänderte Sperre ist schiefgegangen: ${verdict}.`,
   harm: 'geht hier schief', mark: 'geändert',
-  stuck: 'Von hier an endet ein Aufruf nicht, was immer folgt.',
+  stuck: 'Von hier an ist immer ein Thread in einem Aufruf oder drinnen, was immer folgt.',
   play: 'Die Sperre, wie sie ist, in dieser Zugfolge spielen',
   later: 'Der geänderte Schritt kommt später.',
   step: (count, of) => `Zug ${count} von ${of}:`, memory: 'Speicher:',
@@ -44,10 +44,10 @@ export const germanChanges = {
   'the step after it comes first': 'der Schritt nach ihm zuerst kommt',
   'the release returns in its place': 'das release an seiner Stelle endet',
   'harmless: all {0} states were searched': 'harmlos: Alle {0} Zustände wurden durchsucht',
-  '{0} moves to where a call can never end: {1}': '{0} Züge bis dahin, wo ein Aufruf nie enden '
-    + 'kann: {1}',
-  '{0} move to where a call can never end: {1}': '{0} Zug bis dahin, wo ein Aufruf nie enden kann: '
-    + '{1}',
+  '{0} moves to where no run can come to rest within the rounds: {1}': '{0} Züge bis dahin, wo '
+    + 'innerhalb der Runden kein Lauf zur Ruhe kommen kann: {1}',
+  '{0} move to where no run can come to rest within the rounds: {1}': '{0} Zug bis dahin, wo '
+    + 'innerhalb der Runden kein Lauf zur Ruhe kommen kann: {1}',
   '{0} moves, and thread {1} enters while the queue is {2}': '{0} Züge, und Thread {1} tritt ein, '
     + 'während die Schlange {2} ist',
   '{0} moves, and thread {1} enters as a reader while thread {2} writes': '{0} Züge, und Thread '

@@ -303,6 +303,7 @@ const english = {
     memoryAfter: (move) => `Memory after move ${move}`,
     task: 'Draw each mark as its outcome is, and fill in the table: the outcome (called, moved, '
       + 'waits, entered or left), who holds, and who is in the queue, the oldest first.',
+    taskFails: 'A cas that fails has a mark of its own, and the outcome moved.',
   },
 
   refused: {

@@ -7,7 +7,8 @@ import { LOCKS } from '../locks/locks.js';
 
 /** @typedef {import('../model/run.js').Run} Run */
 
-const HALL = { share: 0.025, smallest: 14.5 };
+// In a narrow window the letters are as large as leave this width, but never smaller than usual.
+const HALL = { share: 0.025, smallest: 14.5, width: 600 };
 const PROJECTOR = { width: 1700, height: 900, zoom: 1.25 };
 const SIDE = 330;
 // Least widths: three parts in a row, and two beside each other.
@@ -33,7 +34,9 @@ const LANES_LEAST = 100;
 const LANES_LOW = 82;
 
 function zoomNow() {
-  if (looks.hall) return innerHeight * HALL.share / HALL.smallest;
+  if (looks.hall) {
+    return Math.min(innerHeight * HALL.share / HALL.smallest, Math.max(1, innerWidth / HALL.width));
+  }
   return innerWidth >= PROJECTOR.width && innerHeight >= PROJECTOR.height ? PROJECTOR.zoom : 1;
 }
 
@@ -88,7 +91,7 @@ export function arrange({ mode, session, comparing: { isOn } }) {
   const zoom = zoomNow();
   const { body } = document;
   const whole = innerWidth / zoom;
-  const hasSide = mode !== 'lessons' && (looks.hall || whole >= TWO);
+  const hasSide = mode !== 'lessons' && whole >= (looks.hall ? PHONE : TWO);
   const width = whole - (hasSide ? SIDE : 0);
   const parts = partsNow(isOn, width);
   const isPlain = mode === 'lessons' && !looks.hall && !isOn;

@@ -6,7 +6,7 @@ import { looks } from '../model/looks.js';
 import { arrange } from './arrange.js';
 import { choicesView, nextKindsView } from './choices_view.js';
 import { drawPictures, measured } from './draw_pictures.js';
-import { drawHead, drawTexts } from './draw_texts.js';
+import { drawHead, drawTexts, emptyTexts } from './draw_texts.js';
 import { paper } from './paper.js';
 import { faultsOnPaper } from './paper_faults.js';
 import { adviceOf, nothingView, verdictView } from './verdict_view.js';
@@ -32,14 +32,18 @@ export function drawPage(page, reveals) {
   const view = session.view(wanted);
   const state = run.hasLock && run.state(view.move);
   if (run.hasLock) drawTexts(page, view, state);
+  else emptyTexts();
   return drawPictures({ page, view, state, reveals }, sizes);
 }
 
+// What can happen next is searched for while its list is open. Of a text without a lock there is
+// none.
 function drawChoices({ session, playing, answered }) {
   show(byId('choices'), choicesView(session, playing.every, answered));
   inputOf('every').checked = playing.every;
-  if (!elementOf('next-kinds', HTMLDetailsElement).open) return;
-  show(byId('next-kinds-list'), nextKindsView(playing.nextKinds.after(session)));
+  const { open } = elementOf('next-kinds', HTMLDetailsElement);
+  show(byId('next-kinds-list'), html`${open && session.run.hasLock
+    && nextKindsView(playing.nextKinds.after(session))}`);
 }
 
 function drawSide(page) {
@@ -53,8 +57,7 @@ function drawSide(page) {
   };
   for (const [id, is] of Object.entries(pressed)) byId(id).setAttribute('aria-pressed', String(is));
   // The choices take room, so they come before the text, whose line is brought into view.
-  if (!session.run.hasLock) show(byId('choices'), choicesView(session, false, false));
-  else if (mode === 'play') drawChoices(page);
+  if (mode === 'play' || !session.run.hasLock) drawChoices(page);
   for (const id of ['undo', 'undo-own']) buttonOf(id).disabled = !page.playing.undone.length;
   const advice = adviceOf(session);
   const verdict = verdictView(session, advice);

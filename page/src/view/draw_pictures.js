@@ -244,7 +244,7 @@ function revealIn(box, selector) {
   box.scrollTop = edge ? Math.round(middle / line) * line : middle;
 }
 
-// Called last: the lane, the line of code, and what moves in memory are in view.
+// Called last: the lane, the line of code, what moves in memory and the answer are in view.
 /** @param {Layout} layout */
 function reveal(page, layout) {
   const lanes = byId('lanes');
@@ -252,7 +252,14 @@ function reveal(page, layout) {
   revealIn(byId('code-lines'), '.here');
   revealIn(byId('memory-picture'), '[data-moving]');
   if (page.mode === 'play') revealIn(byId('choices'), '[data-here]');
+  revealAnswer(page.answered);
   revealOnPage();
+}
+
+// In a low window an answer is below what has room. Another move is read from its beginning.
+function revealAnswer(answered) {
+  if (answered) revealIn(byId('now'), '.question [open] > p');
+  else if (byId('now').scrollTop) byId('now').scrollTop = 0;
 }
 
 // In a window too low for the page, its scrolling stops above the foot.

@@ -33,6 +33,12 @@ export function drawTexts(page, view, state) {
   drawBar(page, view, state, lines);
 }
 
+// A text without a lock has nothing for these parts.
+export function emptyTexts() {
+  for (const id of ['memory-says', 'code-lines', 'now', 'current']) show(byId(id), html``);
+  write(byId('spoken'), '');
+}
+
 /** @param {View} view @param {State} state */
 function drawCaption(page, view, state) {
   const lock = lockOf(view.run);

@@ -4,7 +4,8 @@
 import { html } from '../lib/markup.js';
 import { MOVES } from '../machine/codes.js';
 import { texts } from '../texts/texts.js';
-import { blankMemory } from './blank_memory.js';
+import { lockOf } from '../locks/locks.js';
+import { memoryOnPaper } from './blank_memory.js';
 import { codeView } from './code_view.js';
 import { blankLegend } from './legend.js';
 
@@ -42,25 +43,34 @@ function questions({ remarks: { ask } }, { from, to }) {
 function picturedMoves({ remarks: { hide } }, { from, to }) {
   const all = [...hide].filter(([move, parts]) => parts.includes('memory') && move >= from
     && move <= to).map(([move]) => move).sort((one, other) => one - other);
-  if (all.length <= PICTURES) return all.length ? all : [null];
+  if (all.length <= PICTURES) return all;
   return [all[Math.floor(all.length / 3)], all[Math.floor(2 * all.length / 3)]];
+}
+
+// Memory after these moves: blank on a sheet that is to be filled in, else with what belongs there.
+// If none is asked for, a blank is for a move of the reader's choice.
+/** @param {View} view */
+export function memories(view, plan) {
+  const asked = picturedMoves(view, plan);
+  const moves = asked.length || !view.blank ? asked : [null];
+  return moves.map((move) => {
+    const drawn = memoryOnPaper(view, ROOM, view.blank ? null : view.run.state(move));
+    return drawn && html`<div><h3>${T.memoryAfter(move ?? '____')}</h3>${drawn}</div>`;
+  });
 }
 
 /** @param {View} view */
 function figure(view, lines, plan) {
   const start = { ...view, move: 0, marked: 0, whole: true };
-  const blanks = picturedMoves(view, plan).map((move) => {
-    const drawn = blankMemory(view, ROOM);
-    return drawn && html`<div><h3>${T.memoryAfter(move ?? '____')}</h3>${drawn}</div>`;
-  });
-  return html`<div class="figure blanks">${blanks}
+  return html`<div class="figure blanks">${memories(view, plan)}
     <div class="code"><h3>${T.code}</h3>${codeView(start, view.run.state(0), lines)}</div></div>`;
 }
 
 /** @param {View} view */
 export function exercise(view, lines, plan, strips) {
+  const task = lockOf(view.run).signs.includes('fails') ? `${T.task} ${T.taskFails}` : T.task;
   return html`<p class="name-line"><span>${T.name}</span><span>${T.date}</span></p>
-    <p class="task">${T.task}</p>${strips}
-    <div class="legend"><span>${blankLegend()}</span></div>${figure(view, lines, plan)}
+    <p class="task">${task}</p>${strips}
+    <div class="legend"><span>${blankLegend(view.run)}</span></div>${figure(view, lines, plan)}
     <div class="answers">${table(view, plan)}${questions(view, plan)}</div>`;
 }

@@ -37,9 +37,11 @@ const BLANK = html`<rect class="step blank" x="2" y="1" width="18" height="16" r
 
 const COMMON = ['call', 'moves', 'vain', 'enters', 'leaves'];
 
-// Of a sheet that is to be filled in: what there is, and what to draw.
-export const blankLegend = () => html`${sign(24, BLANK, T.blank)}${
-  COMMON.map((name) => sign(20, SHAPES[name], T[name]))}`;
+// Of a sheet that is to be filled in: what there is, and each mark that is to be drawn.
+/** @param {Run} run */
+export const blankLegend = (run) => html`${sign(24, BLANK, T.blank)}${
+  [...COMMON, ...lockOf(run).signs].filter((name) => SHAPES[name])
+    .map((name) => sign(20, SHAPES[name], T[name]))}`;
 
 // {drawn, label, width} of each sign.
 /** @param {Run} run */

@@ -182,12 +182,14 @@ export function moveView(view, state) {
 
 // After the last move of a lesson: what was shown, and which one is next.
 /** @param {View} view */
-function lastView({ remarks: { learn }, place, run, next, answered, move, remarks, loop }) {
+function lastView({ remarks, lesson, place, run, next, answered, move, loop }) {
+  const { learn } = remarks;
   const due = remarks.ask.has(move) && remarks.answer.has(move) && !answered;
   if (place < run.last || !learn || due) return null;
   return html`<div class="last"><p>${!loop && html`<b>${texts.lessons.ended}</b> `}${learn}</p>
     ${next && html`<button type="button" class="strong" data-next="${next.name}">${
-  texts.lessons.next(next.title)}<kbd>Enter</kbd></button>`}</div>`;
+  texts.lessons.next(next.title)}<kbd>Enter</kbd></button>`}${
+  lesson && !next && html`<p class="all-done">${texts.lessons.allDone}</p>`}</div>`;
 }
 
 function spokenMove({ run: { records }, names }, move) {

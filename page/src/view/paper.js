@@ -8,7 +8,7 @@ import { holdersText, queueText } from '../model/report.js';
 import { lockOf } from '../locks/locks.js';
 import { sentence } from '../locks/sentences.js';
 import { codeView } from './code_view.js';
-import { exercise } from './exercise_sheet.js';
+import { exercise, memories } from './exercise_sheet.js';
 import { lanesPicture, numbersPicture } from './lanes.js';
 import { legend } from './legend.js';
 import { doneText, sourceView } from './recorded_view.js';
@@ -108,7 +108,9 @@ export function paper(whole, lines, sheet) {
   const { from, to } = plan;
   const part = to - from + 1 < run.count && html`<p>${T.part(from, to, run.count)}</p>`;
   if (view.blank) return html`${part}${exercise(view, lines, plan, strips(view, plan))}`;
+  const asked = memories(view, plan).filter(Boolean);
   return html`${part}${strips(view, plan)}
     <div class="legend"><span>${legend(run)}</span></div>
+    ${asked.length > 0 && html`<div class="solved">${asked}</div>`}
     ${figure(view, lines)}${questions(view)}${run.count > 0 && table(view, from, to)}`;
 }

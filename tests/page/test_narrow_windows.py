@@ -1,0 +1,37 @@
+"""Nothing runs off sideways in a narrow window: on phones, at 200 % zoom and on tablets, in a hall,
+in a lecture, and when its hall is left."""
+import pytest
+
+from tree import cases
+
+LESSON = "#lesson=mcs-late-link&move=9&lang="
+WINDOWS = [(320, 568), (390, 844), (683, 384), (683, 900), (820, 1180)]
+
+
+@pytest.mark.parametrize("width, height", WINDOWS)
+def test_a_hall(page, width, height):
+    """By itself, and beside the choices, the text and the quiz."""
+    page.resize(width, height).open(f"{LESSON}en").press("h")
+    for key in ["", "g", "e", "e", "q"]:
+        assert page.press(*key).js("offSideways") == [], key
+
+
+@pytest.mark.parametrize("language", ["en", "de"])
+@pytest.mark.parametrize("width, height", WINDOWS)
+def test_a_lecture(page, width, height, language):
+    """In its hall and without it, each part of its bar is on the screen."""
+    page.resize(width, height).open(f"{LESSON}{language}").press("n")
+    page.call("click", "#plans [data-plan=mcs][data-step='0']")
+    for keys in ["", "nnn", "a", "h"]:
+        assert page.press(*keys).js("offSideways") == [], keys
+    assert page.js("count", "#lecture > *") == 5
+
+
+# By hand, for letters of 14.5 pixels: 2.5 % of 768 are 19.2, and 2.5 % of 384 are 9.6. A tablet is
+# as wide as 600 of the page's pixels. A phone is narrower, and has letters of the usual size.
+@cases("width, height, zoom", {
+    "phone": (390, 844, 1), "projector": (1024, 768, 1.32), "tablet": (820, 1180, 1.37),
+    "low": (683, 384, 0.66)})
+def test_letters_of_a_hall(page, width, height, zoom):
+    """They are 2.5 % of the height of a window that is wide enough for that."""
+    assert page.resize(width, height).open(f"{LESSON}en&hall").js("zoom") == zoom
