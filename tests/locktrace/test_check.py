@@ -1,5 +1,5 @@
 """`locktrace check`, and what all commands share: arguments, texts, formats, unreadable files,
-inputs without end, devices that take nothing, little memory, several threads, and a terminal.
+inputs without end, devices that take nothing, little memory, and a terminal.
 
 Expected texts are written by hand from packaging/man/locktrace.1 and docs/FORMATS.md.
 """
@@ -12,9 +12,9 @@ import threading
 import pytest
 
 from devices import Terminal, closing, left_pipe, little_memory
-from traces import (ACTION, FAULTY, FAULTY_LINE, GOOD, MISSPELT, OTHER, OTHER_LINE, ROUND,
-                    SCHEDULE, WRONG, WRONG_LINE, has)
-from tree import ROWS, VERSION, cases, ran
+from traces import (ABSENT, ACTION, EMPTY, FAULTY, FAULTY_LINE, GOOD, MISSPELT, ROUND, SCHEDULE,
+                    WRONG, WRONG_LINE, has)
+from tree import ROWS, VERSION, cases, environment, ran
 
 CANNOT = "locktrace: cannot write: "
 SHOWN = "2: not a move (BadLine)\n"
@@ -68,7 +68,6 @@ WITH_CR = "lock mcs threads 2\r\n0 acquire\r\n"
 THREADS = "1: not a number of threads (BadThreads)\n"
 ESCAPE = "lock mcs threads 2\n0 \x1b[31mswap\n"
 ESCAPED = f"column 3: '\\x1b[31mswap', expected {ACTION}\n"
-ABSENT = "absent: No such file or directory (os error 2)\n"
 FOLDER = ".: Is a directory (os error 21)\n"
 TOO_LONG = "no header and no move has more than 96 bytes"
 MOVES = "".join(f"0 {word}\n" for word in ROUND) * 20_000
@@ -119,12 +118,14 @@ MOVES = "".join(f"0 {word}\n" for word in ROUND) * 20_000
         f"{ACTION}\n", "", 4)),
     # A file that cannot be read is reported with its name and the system's reason.
     **{f"{command} {name}": (f"{command} {name}", "", ("", said, 3))
-       for command in ("explain", "schedule", "cover", "find")
+       for command in ("explain", "schedule", "find")
        for name, said in (("absent", ABSENT), (".", FOLDER))},
-    "check absent": ("check absent", "", (ABSENT, "", 3)),
-    "check .": ("check .", "", (FOLDER, "", 3)),
+    **{f"{command} {name}": (f"{command} {name}", "", ("", said, 3))
+       for command in ("check", "check -q", "check --color always", "check -j 2 good", "cover")
+       for name, said in (("absent", ABSENT), (".", EMPTY.format(".")))},
+    "check -q as JSON": ("check -q --format json absent", "", ("", ABSENT, 3)),
     "the greatest status wins": ("check wrong absent faulty good", "", (
-        WRONG_LINE.format("wrong") + ABSENT + FAULTY_LINE.format("faulty"), "", 4)),
+        WRONG_LINE.format("wrong") + FAULTY_LINE.format("faulty"), ABSENT, 4)),
     "no header": ("check", "", (f"-:1: no header (NoHeader)\n-:1: {BEGIN}\n", "", 4)),
     "schedule of no header": ("schedule", "# nothing\n",
                               ("\n", f"-:2: no header (NoHeader)\n-:2: {BEGIN}\n", 4)),
@@ -146,9 +147,7 @@ def test_summary(tracer):
     polls = "lock ticket threads 2\n0 acquire\n0 add\n0 read\n1 acquire\n1 add\n1 read\n1 read\n"
     output = tracer.output("check", "--summary", stdin=polls)
     assert " 2 waits" in output and "warning" not in output
-    output, *more = tracer.run("check", "--summary", "absent")
-    assert more == ["", 3]
-    assert output.startswith("absent: ") and output.count("\n") == 1
+    assert tracer.run("check", "--summary", "absent") == ("", ABSENT, 3)
 
 
 END, BLANK = "the end of the line", "nothing after a blank"
@@ -237,13 +236,6 @@ def test_cover_all_the_same(tracer):
     assert output.startswith("mcs: 5 of 16 kinds of transition, in 7 moves\n")
 
 
-@pytest.mark.parametrize("jobs", [2, 3, 8, 64])
-def test_jobs_keep_the_order(tracer, jobs):
-    names = (["good", "wrong", "absent", "other", "faulty", "."] * 9)[:50]
-    alone = tracer.run("check", "--summary", *names)
-    assert tracer.run("check", "--summary", "-j", jobs, *names) == alone
-
-
 @pytest.mark.parametrize("words", ["check wrong", "explain good", "schedule good", "--help",
                                    "check -j 2 wrong wrong"])
 def test_full_device(tracer, words):
@@ -302,27 +294,6 @@ def test_last_thread_hangs(tracer, times):
         "now_serving is 0\nrun: note: held by 0; queue 0,63\n", "", 1)
 
 
-@pytest.mark.parametrize("name", ["runs", "runs/"])
-def test_folder(tracer, name):
-    """A folder stands for its traces and schedules, by their names, and for no other file."""
-    (tracer.folder / "runs").mkdir()
-    tracer.write(**{"runs/b.trace": OTHER, "runs/a.schedule": SCHEDULE,
-                    "runs/notes.txt": "no trace\n", "runs/c.trace": FAULTY})
-    assert tracer.run("check", name) == (
-        OTHER_LINE.format("runs/b.trace") + FAULTY_LINE.format("runs/c.trace"), "", 4)
-    output, *more = tracer.run("check", "--format", "tap", "good", name, "good")
-    assert more == ["", 4]
-    assert has(output, "TAP version 13\n1..5\nok 1 - good\nok 2 - runs/a.schedule\n"
-               "not ok 3 - runs/b.trace\n", "not ok 4 - runs/c.trace\n", "ok 5 - good\n")
-
-
-def test_empty_folder(tracer):
-    (tracer.folder / "empty").mkdir()
-    said = "empty: Is a directory (os error 21)\n"
-    assert tracer.run("check", "empty") == (said, "", 3)
-    assert tracer.run("cover", "empty") == ("", said, 3)
-
-
 @cases("names, status, said", {
     "all is well": (["good", "good"], 0, "All tests successful."),
     "not all": (["good", "wrong", "faulty"], 1, "Failed tests:  2-3"),
@@ -344,6 +315,18 @@ def test_colors(tracer, when, on_terminal, has_colors):
     text = shown if on_terminal else text
     assert (status, "\x1b[" in text) == (1, has_colors)
     assert re.sub("\x1b\\[[0-9;]*m", "", text) == WRONG_LINE.format("wrong")
+
+
+@pytest.mark.parametrize("variables, when, has_colors", [
+    ({}, "auto", True), ({"NO_COLOR": "1"}, "auto", False), ({"NO_COLOR": ""}, "auto", True),
+    ({"NO_COLOR": b"\xff"}, "auto", False), ({"TERM": "dumb"}, "auto", False),
+    ({"TERM": "dumber"}, "auto", True), ({"NO_COLOR": "1", "TERM": "dumb"}, "always", True)])
+def test_terminal_without_colors(tracer, variables, when, has_colors):
+    """https://no-color.org"""
+    variables = {**environment(NO_COLOR="", TERM="xterm"), **variables}
+    with Terminal() as terminal:
+        tracer.run("check", "--color", when, "wrong", stdout=terminal.writer, env=variables)
+        assert (b"\x1b[" in terminal.written()) == has_colors
 
 
 def test_little_memory(tracer):

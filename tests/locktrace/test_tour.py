@@ -111,12 +111,13 @@ def test_files_of_an_earlier_tour(tracer):
 
 def test_file_beside_an_earlier_tour(tracer):
     """A tour of three schedules finds the place of the second one taken. Nothing is written, and
-    the earlier tour is gone, with its list."""
+    the earlier tour is as it was, with its list."""
     tracer.run("tour", "ticket", "1", "-o", "own")
     tracer.write(**{"own/0002.schedule": "own\n"})
+    before = files_in(tracer.folder / "own")
     assert tracer.run("tour", "rw-simple", "1", "-o", "own") == (
         "", "locktrace: own/0002.schedule is not of an earlier tour\n", 3)
-    assert files_in(tracer.folder / "own") == {"0002.schedule": "own\n"}
+    assert files_in(tracer.folder / "own") == before
 
 
 @cases("words, status, said", {
@@ -126,7 +127,7 @@ def test_file_beside_an_earlier_tour(tracer):
     "a folder in a file": ("ticket 1 -o good/tour", 3,
                            CANNOT.format(" good/tour: Not a directory (os error 20)")),
     "a folder that takes nothing": ("ticket 1 -o /proc", 3, CANNOT.format(
-        " /proc/0001.schedule.new: No such file or directory (os error 2)")),
+        " /proc/tour.list.new: No such file or directory (os error 2)")),
 })
 def test_failure(tracer, words, status, said):
     output, error, found = tracer.run("tour", *words.split())

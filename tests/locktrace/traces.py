@@ -44,6 +44,8 @@ FAULTY = "lock ticket threads 2\n0 aquire\n"
 ACTION = "a call (acquire, rlock ..) or a step (read, write, swap, cas, add, section)"
 MISSPELT = f"column 3: 'aquire', expected {ACTION}; did you mean 'acquire'?"
 FAULTY_LINE = f"{{0}}:2: not a move (BadLine)\n{{0}}:2: note: {MISSPELT}\n"
+ABSENT = "absent: No such file or directory (os error 2)\n"
+EMPTY = "locktrace: {}: no .trace and no .schedule in it (its folders are not searched)\n"
 TEXTS = {"good": GOOD, "other": OTHER, "wrong": WRONG, "faulty": FAULTY}
 LOGS = {
     "thread-0.log": "lock ticket threads 2 thread 0\nacquire\nadd next_ticket found 0\n"

@@ -1,11 +1,11 @@
 //! The job of checking files, by several threads if that is asked for. The reports come in the
-//! order of the files.
+//! order of the files. A file that cannot be read is named among the errors.
 
-ghost use Rattle.lk_text.specs.Verdicts.{AreChecked, EndsInput};
+ghost use Rattle.lk_text.specs.Verdicts.{EndsInput};
 ghost use Rattle.lk_checks.specs.invariants.{Adds};
 ghost use Rattle.lk_text.specs.Sources.{left_in};
 ghost use Rattle.std.specs.List.{All};
-ghost use Rattle.std.specs.Prelude.{◌≡◌, ◌++◌, ◌∷◌, [], IfOk, OnOk, length, vec_len};
+ghost use Rattle.std.specs.Prelude.{◌≡◌, ◌<◌, ◌++◌, ◌∷◌, [], IfOk, OnOk, length};
 
 use lk_text::follow::{follow_file, follow_input, unread};
 use lk_text::formats::{COLORED, Format, PLAIN, put_counts, put_json, put_plan, put_tap, put_text};
@@ -16,15 +16,19 @@ use lk_trace::{Event, TraceReader};
 use std::alloc::{AllocError, Global};
 use std::io::{Read, Write};
 use std::rt::Runtime;
-use std::thread::{Threads, map_vec};
+use std::thread::{Threads, for_each_mut};
 use std::{fs, io};
+
+// The files of a round, which are open at once: most systems let a process have 1,024. To begin a
+// thread takes as long as to check a few short files, so each has many.
+const ROUND: usize = 480;
 
 /// A check that was asked for. A file `-` is standard input.
 #[derive(Drop)]
 pub struct CheckJob {
     pub format: Format,
     pub summary: bool,
-    /// Whether nothing is written.
+    /// Whether nothing is written, but which files cannot be read.
     pub quiet: bool,
     /// Whether the text has the colors of a terminal.
     pub colored: bool,
@@ -36,10 +40,12 @@ pub struct CheckJob {
 // Writes the report of a job's input of this number, from 1, and this name. There is no summary of
 // one that could not be read.
 fn put_report(text: &mut Text, job: &CheckJob, number: usize, name: &str, report: &Report) {
-    let counted = job.summary && report.ending != Ending::Unread;
+    let is_unread = report.ending == Ending::Unread;
+    let counted = job.summary && !is_unread;
     let colors = if job.colored { COLORED } else { PLAIN };
     match job.format {
         _ if job.quiet => {}
+        Format::Text if is_unread => {}
         Format::Text => {
             put_text(text, name, report, colors);
             if counted {
@@ -57,19 +63,27 @@ struct Reports<'a> {
     job: &'a CheckJob,
     // what waits to be written
     text: Text,
+    // which files cannot be read, where the reports do not say so
+    errors: Text,
     endings: Vec<Ending>,
 }
 
 impl<'a> Reports<'a> {
     fn new(alloc: Global, job: &'a CheckJob) -> Reports<'a>
-        ensures { result.endings.items ≡ [] }
+        ensures job { result.job.now ≡ job.now }
+        ensures empty { result.endings.items ≡ [] }
     {
         let mut text = Text::new(alloc);
         if job.format == Format::Tap && !job.quiet {
             put_plan(&mut text, job.files.len());
         }
-        let endings = Vec::new(alloc);
-        Reports { job, text, endings }
+        let (errors, endings) = (Text::new(alloc), Vec::new(alloc));
+        Reports {
+            job,
+            text,
+            errors,
+            endings,
+        }
     }
 
     // Writes the report of the next file, of this name.
@@ -80,6 +94,10 @@ impl<'a> Reports<'a> {
         let number = self.endings.len().saturating_add(1);
         put_report(&mut self.text, self.job, number, name, report);
         self.text.write_to(output)?;
+        let is_silent = self.job.quiet || self.job.format == Format::Text;
+        if is_silent && report.ending == Ending::Unread {
+            put_text(&mut self.errors, name, report, PLAIN);
+        }
         self.endings.push(report.ending)?;
         Ok(())
     }
@@ -115,20 +133,30 @@ fn check_opened<I: Read + Drop>(alloc: Global, input: io::Result<I>) -> Checked
     }
 }
 
-// Checks files side by side, each by a thread of its own.
+// A file that was opened, or could not be, until it is checked.
+type Place<I> = (Option<io::Result<I>>, Checked);
+
+// Checks files by this number of threads, each in its place.
 fn check_side_by_side<R: Threads + Sync, I: Read + Send + Drop>(
     rt: &R,
     alloc: Global,
-    inputs: Vec<io::Result<I>>,
-) -> Result<Vec<Checked>, AllocError>
-    ensures one_each { IfOk result (λ reports. vec_len reports ≡ vec_len inputs) }
-    ensures each { IfOk result (λ reports. AreChecked I.remaining reports.items) }
+    places: &mut [Place<I>],
+    workers: usize,
+)
+    requires { 0 < workers }
+    ensures each { All (λ place. IfOk place.1 (λ report. EndsInput I.remaining report.ending))
+        places.new }
+    ensures same { length places.new ≡ length places.old }
 {
-    map_vec(
-        rt,
-        inputs,
-        &|input: io::Result<I>| check_opened(alloc, input),
-    )
+    let check = |_: usize, place: &mut Place<I>|
+        ensures { IfOk place.exit.now.1 (λ report. EndsInput I.remaining report.ending) }
+    {
+        place.1 = match place.0.take() {
+            Some(input) => check_opened(alloc, input),
+            None => Err(AllocError),
+        };
+    };
+    for_each_mut(rt, places, workers, &check);
 }
 
 // Opens the files of these names.
@@ -136,12 +164,12 @@ fn open_each<R: Runtime>(
     rt: &R,
     alloc: Global,
     names: &[String],
-) -> Result<Vec<io::Result<R::File>>, AllocError> {
-    let mut inputs = Vec::new(alloc);
+) -> Result<Vec<Place<R::File>>, AllocError> {
+    let mut places = Vec::new(alloc);
     for name in names {
-        inputs.push(fs::open(rt, name.as_str()))?;
+        places.push((Some(fs::open(rt, name.as_str())), Err(AllocError)))?;
     }
-    Ok(inputs)
+    Ok(places)
 }
 
 // Checks the files of a round side by side, and writes their reports.
@@ -149,24 +177,27 @@ fn check_round<R: Runtime + Threads + Sync, O: Write>(
     rt: &R,
     alloc: Global,
     names: &[String],
+    workers: usize,
     reports: &mut Reports<'_>,
     output: &mut O,
 ) -> Result<(), Failure>
 where
     R::File: Send,
+    requires { 0 < workers }
     ensures { OnOk result (Adds (left_in R.File.remaining R.Reader.remaining) (length names.now)
         reports.old.endings.items reports.new.endings.items) }
 {
-    let inputs = open_each(rt, alloc, names)?;
-    let mut checked = check_side_by_side(rt, alloc, inputs)?.into_iter();
+    let mut places = open_each(rt, alloc, names)?;
+    check_side_by_side(rt, alloc, &mut places, workers);
+    let mut checked = places.into_iter();
     for name in names {
-        let report = checked.next().unwrap_or(Err(AllocError))?;
-        reports.put(output, name, &report)?;
+        let (_, report) = checked.next().unwrap_or((None, Err(AllocError)));
+        reports.put(output, name, &report?)?;
     }
     Ok(())
 }
 
-// Checks the files by rounds of as many as there are workers.
+// Checks the files by rounds, in which each of the workers has as many.
 fn check_rounds<R: Runtime + Threads + Sync, O: Write>(
     rt: &R,
     alloc: Global,
@@ -179,10 +210,11 @@ where
     ensures { OnOk result (Adds (left_in R.File.remaining R.Reader.remaining)
         (length job.now.files.items) reports.old.endings.items reports.new.endings.items) }
 {
+    let workers = (job.workers as usize).max(1);
     let mut rest = job.files.as_slice();
     while rest.len() > 0 {
-        let (names, others) = rest.split_at((job.workers as usize).max(1).min(rest.len()));
-        check_round(rt, alloc, names, reports, output)?;
+        let (names, others) = rest.split_at(ROUND.min(rest.len()));
+        check_round(rt, alloc, names, workers, reports, output)?;
         rest = others;
     }
     Ok(())
@@ -214,6 +246,28 @@ fn is_shared(job: &CheckJob) -> bool {
     job.workers > 1 && job.files.len() > 1 && !is_given
 }
 
+// Checks the files of a job.
+fn check_all<R: Runtime + Threads + Sync, O: Write>(
+    rt: &R,
+    alloc: Global,
+    told: bool,
+    reports: &mut Reports<'_>,
+    output: &mut O,
+) -> Result<(), Failure>
+where
+    R::File: Send,
+    ensures { OnOk result (Adds (left_in R.File.remaining R.Reader.remaining)
+        (length reports.old.job.now.files.items)
+        reports.old.endings.items reports.new.endings.items) }
+{
+    let job = reports.job;
+    if is_shared(job) {
+        check_rounds(rt, alloc, job, reports, output)
+    } else {
+        check_each(rt, alloc, &job.files, told, reports, output)
+    }
+}
+
 /// Checks the files, writes their reports, and gives their endings, in the order of the files.
 /// `told` if a terminal is told how far it is.
 ///
@@ -227,6 +281,7 @@ pub fn check_files<R: Runtime + Threads + Sync, O: Write>(
     job: &CheckJob,
     told: bool,
     output: &mut O,
+    errors: &mut Text,
 ) -> Result<Vec<Ending>, Failure>
 where
     R::File: Send,
@@ -236,11 +291,9 @@ where
         (λ endings. All (EndsInput (left_in R.File.remaining R.Reader.remaining)) endings.items) }
 {
     let mut reports = Reports::new(alloc, job);
-    if is_shared(job) {
-        check_rounds(rt, alloc, job, &mut reports, output)?;
-    } else {
-        check_each(rt, alloc, &job.files, told, &mut reports, output)?;
-    }
+    let checked = check_all(rt, alloc, told, &mut reports, output);
+    errors.put(reports.errors.as_str()?);
+    checked?;
     output.flush()?;
     Ok(reports.endings)
 }

@@ -26,7 +26,7 @@ pub enum CoverFormat {
     Json,
 }
 
-/// Which traces are counted, and what they have to have.
+/// How the counts are written, and what the traces have to have.
 #[derive(Drop)]
 pub struct CoverJob {
     pub format: CoverFormat,
@@ -34,8 +34,6 @@ pub struct CoverJob {
     pub all: bool,
     /// The names of the kinds that are required.
     pub required: Vec<String>,
-    /// A file `-` is standard input.
-    pub files: Vec<String>,
 }
 
 // A count of nothing, for each lock.
@@ -247,19 +245,21 @@ fn take_files<R: Runtime>(
     Ok(endings)
 }
 
-/// Counts which kinds of transition the traces took. The status is the greatest of those of the
-/// traces' endings, and `Refused` if a kind that is required is missing.
+/// Counts which kinds of transition the traces in the files took; a file `-` is standard input. The
+/// status is the greatest of those of the traces' endings, and `Refused` if a kind that is required
+/// is missing.
 pub fn cover_traces<R: Runtime>(
     rt: &R,
     job: &CoverJob,
+    files: &[String],
     said: &mut Outputs,
 ) -> Result<u8, AllocError>
     ensures { IfOk result (λ status. IsCovered (left_in R.File.remaining R.Reader.remaining)
-        (length job.now.files.items) status) }
+        (length files.now) status) }
 {
     let (alloc, errors) = (said.alloc, &mut said.errors);
     let mut coverages = nothing_counted(alloc)?;
-    let endings = take_files(rt, alloc, &job.files, coverages.as_mut_slice(), errors)?;
+    let endings = take_files(rt, alloc, files, coverages.as_mut_slice(), errors)?;
     put_coverage(&mut said.text, alloc, job.format, &coverages);
     let missing = put_missing(errors, &coverages, job.all, &job.required);
     let least = if missing {

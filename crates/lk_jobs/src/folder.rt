@@ -1,5 +1,11 @@
-//! The files that a command leaves in a folder. A list there names them, so that the command's next
-//! run removes these. It touches no other file but their drafts, `NAME.new`, and follows no link.
+//! The files that a command leaves in a folder. A list there names them, and its next run knows
+//! them by it.
+//!
+//! Each file is a draft at first, `NAME.new`, and all get their names when all drafts are whole.
+//! The list is the first of the drafts and gets its name last, so at each time the list and its
+//! draft together name each file that is left: the next run goes on from there, wherever one was
+//! ended. Until the first draft gets its name the files of an earlier run are as they were. No
+//! other file is touched, and no link is followed.
 
 ghost use Rattle.std.specs.Prelude.{◌≡◌, true};
 ghost use Rattle.std.specs.Char.{is_ascii_digit};
@@ -9,8 +15,9 @@ ghost use Rattle.lk_jobs.specs.FileNames.{IsOwnName, IsScheduleName};
 use lk_text::Failure;
 use std::alloc::{AllocError, Global};
 use std::fmt::Write as _;
-use std::fs::OpenOptions;
+use std::fs::{Metadata, OpenOptions};
 use std::io::{ErrorKind, Write};
+use std::os::unix::fs::MetadataExt;
 use std::rt::Files;
 use std::{fs, io};
 
@@ -61,6 +68,18 @@ fn is_own_name(name: &[u8]) -> bool
     }
 }
 
+// What the system knows a file by, under all of its names: its device and its number there.
+type FileId = (u64, u64);
+
+// Adds a file that was found. One that a model of files made has no number.
+fn put_id(ids: &mut Vec<FileId>, found: io::Result<Metadata>) -> Result<(), AllocError> {
+    match found {
+        Ok(found) if found.ino() > 0 => ids.push((found.dev(), found.ino()))?,
+        _ => {}
+    }
+    Ok(())
+}
+
 /// A folder, and the command that writes into it.
 #[derive(Drop)]
 pub struct Folder<'a, R> {
@@ -86,6 +105,10 @@ impl<R: Files> Folder<'_, R> {
         format!(in self.alloc; "{command}.list")
     }
 
+    fn list_draft(&self) -> Result<String, AllocError> {
+        self.draft_of(self.list_name()?.as_str())
+    }
+
     // Removes a file, if it is there; of a link, the link.
     fn remove(&self, path: &str) -> Result<(), Failure> {
         match fs::remove_file(self.rt, path) {
@@ -94,25 +117,34 @@ impl<R: Files> Folder<'_, R> {
         }
     }
 
-    // Removes what the list of an earlier run names, and the list.
-    fn remove_earlier(&self) -> Result<(), Failure> {
-        let path = self.path_of(self.list_name()?.as_str())?;
-        let list = match fs::open(self.rt, path.as_str()) {
-            Err(error) if error.kind() == ErrorKind::NotFound => return Ok(()),
+    // The files that a list of this path names, in the order of their names. None if it is missing.
+    fn names_in(&self, path: &str) -> Result<Vec<String>, Failure> {
+        let list = match fs::open(self.rt, path) {
+            Err(error) if error.kind() == ErrorKind::NotFound => return Ok(Vec::new(self.alloc)),
             file => file.and_then(|file| io::read_to_string(self.alloc, file)),
         };
-        let list = Failure::unless(self.alloc, READ, path.as_str(), list)?;
+        let list = Failure::unless(self.alloc, READ, path, list)?;
+        let mut names = Vec::new(self.alloc);
         for name in list.lines() {
             if is_own_name(name.as_bytes()) {
-                self.remove(self.path_of(name)?.as_str())?;
+                names.push(String::from_str(self.alloc, name)?)?;
             }
         }
-        self.remove(path.as_str())
+        names.sort_unstable();
+        Ok(names)
     }
 
-    // Fails if the folder has something in the place of one of these files.
-    fn leave_others(&self, names: &[String]) -> Result<(), Failure> {
+    // Fails if the folder has something in the place of one of these files that no list names.
+    fn leave_others(
+        &self,
+        names: &[String],
+        earlier: &[String],
+        begun: &[String],
+    ) -> Result<(), Failure> {
         for name in names {
+            if earlier.binary_search(name).is_ok() || begun.binary_search(name).is_ok() {
+                continue;
+            }
             let path = self.path_of(name)?;
             match fs::symlink_metadata(self.rt, path.as_str()) {
                 Err(error) if error.kind() == ErrorKind::NotFound => {}
@@ -125,19 +157,92 @@ impl<R: Files> Folder<'_, R> {
         Ok(())
     }
 
-    /// Makes the folder if it is missing, and removes what the command left there.
+    // The files of these paths; of a link, the link and what it leads to.
+    fn ids_of(&self, paths: &[String]) -> Result<Vec<FileId>, AllocError> {
+        let mut ids = Vec::new(self.alloc);
+        for path in paths {
+            put_id(&mut ids, fs::symlink_metadata(self.rt, path.as_str()))?;
+            put_id(&mut ids, fs::metadata(self.rt, path.as_str()))?;
+        }
+        Ok(ids)
+    }
+
+    // Fails if the file of this path is one of these.
+    fn leave_input(&self, path: &str, inputs: &[FileId]) -> Result<(), Failure> {
+        match fs::symlink_metadata(self.rt, path) {
+            Ok(found) if inputs.contains(&(found.dev(), found.ino())) => {
+                Failure::is_read(self.alloc, path)
+            }
+            _ => Ok(()),
+        }
+    }
+
+    // Fails if one of these files, or its draft, is among these inputs.
+    fn leave_inputs(&self, names: &[String], inputs: &[FileId]) -> Result<(), Failure> {
+        if inputs.is_empty() {
+            return Ok(());
+        }
+        for name in names {
+            self.leave_input(self.path_of(name)?.as_str(), inputs)?;
+            self.leave_input(self.draft_of(name)?.as_str(), inputs)?;
+        }
+        Ok(())
+    }
+
+    // Removes the files of these names, but for those that are kept.
+    fn remove_others(&self, names: &[String], kept: &[String]) -> Result<(), Failure> {
+        for name in names {
+            if kept.binary_search(name).is_err() {
+                self.remove(self.path_of(name)?.as_str())?;
+            }
+        }
+        Ok(())
+    }
+
+    // Removes the drafts of these files, and that of the list last.
+    fn remove_drafts(&self, names: &[String]) -> Result<(), Failure> {
+        for name in names {
+            self.remove(self.draft_of(name)?.as_str())?;
+        }
+        self.remove(self.list_draft()?.as_str())
+    }
+
+    // Writes the draft of the list.
+    fn write_list(&self, names: &[String]) -> Result<(), Failure> {
+        let mut list = String::new(self.alloc);
+        for name in names {
+            writeln!(list, "{name}")?;
+        }
+        self.write(self.list_name()?.as_str(), list.as_str())
+    }
+
+    /// Begins to write files of these names, with the draft of their list, and makes the folder if
+    /// it is missing. Returns the names of an earlier run's files. What a run left that was ended
+    /// before its end is removed.
     ///
     /// # Errors
     ///
-    /// There is another file in the place of one of these; or a file cannot be read or removed.
-    pub fn clear(&self, names: &[String]) -> Result<(), Failure> {
+    /// A file that no list names has the place of one of these; one of the inputs, or a link to it,
+    /// would be replaced or removed; or a file cannot be read, written or removed. Then the files
+    /// of an earlier run are as they were.
+    pub fn begin(&self, names: &[String], inputs: &[String]) -> Result<Vec<String>, Failure> {
         let made = fs::create_dir_all(self.rt, self.path);
         Failure::unless(self.alloc, WRITE, self.path, made)?;
-        self.remove_earlier()?;
-        self.leave_others(names)
+        let earlier = self.names_in(self.path_of(self.list_name()?.as_str())?.as_str())?;
+        let begun = self.names_in(self.list_draft()?.as_str())?;
+        self.leave_others(names, &earlier, &begun)?;
+        let inputs = self.ids_of(inputs)?;
+        for touched in [names, &earlier, &begun] {
+            self.leave_inputs(touched, &inputs)?;
+        }
+        self.remove_others(&begun, &earlier)?;
+        self.remove_drafts(&begun)?;
+        let listed = self.write_list(names);
+        self.unless_failed(&[], listed)?;
+        Ok(earlier)
     }
 
-    /// A file that gets its name from `finish`.
+    /// The draft of a file.
     pub fn create(&self, name: &str) -> Result<R::File, Failure> {
         let draft = self.draft_of(name)?;
         self.remove(draft.as_str())?;
@@ -147,35 +252,55 @@ impl<R: Files> Folder<'_, R> {
         Failure::unless(self.alloc, WRITE, draft.as_str(), file)
     }
 
-    /// Gives a file its name if all of it was written, and else removes it.
-    pub fn finish(&self, name: &str, written: Result<(), Failure>) -> Result<(), Failure> {
-        let (draft, path) = (self.draft_of(name)?, self.path_of(name)?);
-        let done = match written {
-            Ok(()) => fs::rename(self.rt, draft.as_str(), path.as_str()),
-            Err(failure) => {
-                self.remove(draft.as_str())?;
-                match failure {
-                    Failure::Output(error) => Err(error),
-                    failure => return Err(failure),
-                }
+    /// What was written of a file, or why it could not be: a failure of the output is the file's.
+    pub fn written(&self, name: &str, written: Result<(), Failure>) -> Result<(), Failure> {
+        match written {
+            Err(Failure::Output(error)) => {
+                let path = self.path_of(name)?;
+                Failure::unless(self.alloc, WRITE, path.as_str(), Err(error))
             }
-        };
-        Failure::unless(self.alloc, WRITE, path.as_str(), done)
+            written => written,
+        }
     }
 
-    /// Writes a file.
+    /// Writes the draft of a file.
     pub fn write(&self, name: &str, text: &str) -> Result<(), Failure> {
         let mut file = self.create(name)?;
-        let written = file.write_all(text.as_bytes()).map_err(Failure::Output);
-        self.finish(name, written)
+        let written = file.write_all(text.as_bytes());
+        self.written(name, written.map_err(Failure::Output))
     }
 
-    /// Writes the list of the files that were written.
-    pub fn write_list(&self, names: &[String]) -> Result<(), Failure> {
-        let mut list = String::new(self.alloc);
-        for name in names {
-            writeln!(list, "{name}")?;
+    // Removes these drafts if one of them could not be written. Drafts that cannot be removed are
+    // named by that of the list, and the next run removes them.
+    fn unless_failed(&self, names: &[String], drafted: Result<(), Failure>) -> Result<(), Failure> {
+        if drafted.is_err() {
+            let _ = self.remove_drafts(names);
         }
-        self.write(self.list_name()?.as_str(), list.as_str())
+        drafted
+    }
+
+    // Gives a draft its name.
+    fn rename(&self, name: &str) -> Result<(), Failure> {
+        let (draft, path) = (self.draft_of(name)?, self.path_of(name)?);
+        let named = fs::rename(self.rt, draft.as_str(), path.as_str());
+        Failure::unless(self.alloc, WRITE, path.as_str(), named)
+    }
+
+    /// Ends what was begun: if all drafts of these files are whole they get their names, and the
+    /// other files of an earlier run are removed. If not, the drafts are removed, and the files of
+    /// an earlier run are as they were.
+    pub fn end(
+        &self,
+        names: &[String],
+        earlier: &[String],
+        drafted: Result<(), Failure>,
+    ) -> Result<(), Failure> {
+        self.unless_failed(names, drafted)?;
+        let kept = self.names_in(self.list_draft()?.as_str())?;
+        for name in names {
+            self.rename(name)?;
+        }
+        self.remove_others(earlier, &kept)?;
+        self.rename(self.list_name()?.as_str())
     }
 }

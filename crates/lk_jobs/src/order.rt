@@ -47,21 +47,21 @@ fn write_order<R: Files, O: Write>(
     rt: &R,
     alloc: Global,
     search: &Search,
-    folder: &str,
+    job: &OrderJob,
     report: &mut OrderReport,
     output: &mut O,
 ) -> Result<(), Failure> {
     let (order, hung) = (&search.found.order, search.hung.as_ref());
-    if folder == STANDARD {
+    if job.folder.as_str() == STANDARD {
         return write_trace(alloc, order, hung, output);
     }
     let folder = Folder {
         rt,
         alloc,
-        path: folder,
+        path: &job.folder,
         command: "order",
     };
-    let left_out = write_files(order, hung, &folder)?;
+    let left_out = write_files(order, hung, &folder, &job.logs)?;
     if left_out > 0 {
         let moves = Value::Count(left_out as u64, "move is", "moves are");
         report.warnings.say_in("", 0, TOO_LONG, &[("moves", moves)]);
@@ -112,7 +112,7 @@ fn order_into<R: Files + Eprint, O: Write>(
         return Ok(Err(BadLog::OtherLock));
     };
     progress.begin("writing", moves_of(search.found.order.logs()));
-    write_order(rt, alloc, &search, &job.folder, report, output)?;
+    write_order(rt, alloc, &search, job, report, output)?;
     put_ending(report, &search, &taken.names, &taken.open);
     Ok(Ok(search))
 }

@@ -1,9 +1,8 @@
 -- The place of a name is filled with the text of the value of that name.
-use Rattle.std.proofs.Common.{◌≡◌, ℕ, List, [], ◌∷◌, ◌++◌, ◌∙◌, Some, None, Option, refl, sym, ap}
-use Rattle.std.proofs.Common.{codes, Bool, true, false, inl, inr, Bor}
+use Rattle.std.proofs.Common.{◌≡◌, ℕ, List, [], ◌∷◌, ◌++◌, ◌∙◌, Some, None, Option, refl, ap}
+use Rattle.std.proofs.Common.{codes, Bool, true, false, Bor}
 use Rattle.std.specs.Prelude.{find, option_map, if◌then◌else◌}
 use Rattle.std.specs.Str.{bytes_eq}
-use Rattle.std.proofs.lemmas.Bool.{cond-true, cond-false, cases_Bool}
 use Rattle.std.proofs.lemmas.Option.{none-some, same_Some}
 use Rattle.lk_text.specs.Filled.{or_name, place_text, texts_of, value_named, value_text}
 use Rattle.lk_text.specs.declared.fills.Value.{Value}

@@ -2,9 +2,8 @@
 -- that ends it. And the status of the program by it.
 use Rattle.std.specs.Prelude.{◌≡◌, ◌≢◌, ◌↔◌, ◌+◌, ◌≤◌, ℕ, List, [], ◌∷◌}
 use Rattle.std.specs.Prelude.{length, fold, max}
-use Rattle.std.specs.Prelude.{Option, None, Some, IfSome, Result, IfOk, Bool, true, false}
+use Rattle.std.specs.Prelude.{Option, None, Some, IfSome, Bool, true, false}
 use Rattle.std.specs.List.{All}
-use Rattle.std.specs.declared.alloc.AllocError.{AllocError}
 use Rattle.lk_lines.specs.Lines.{lines_of}
 use Rattle.lk_trace.specs.Checks.{Checked}
 use Rattle.lk_trace.specs.Traces.{event_of, after_text_line}
@@ -121,12 +120,6 @@ EndsOne {I} remaining ending =
 -- the ending of such an input, unless that cannot be read
 abbrev pub EndsInput : {I : Type 0} → (I → Option (List ℕ)) → Ending → Type 0
 EndsInput remaining ending = ending ≢ Unread → EndsOne remaining ending
-
--- each report, unless memory was refused, has the ending of such an input
-abbrev pub AreChecked : {I : Type 0} → (I → Option (List ℕ)) → List (Result Report AllocError)
-    → Type 0
-AreChecked remaining reports =
-    All (λ r. IfOk r (λ report. EndsInput remaining report.ending)) reports
 
 -- the status is at least the greatest of so many endings of such inputs
 pub record IsCovered {I : Type 0} (remaining : I → Option (List ℕ)) (count status : ℕ) : Type 0

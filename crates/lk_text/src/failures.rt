@@ -45,6 +45,12 @@ impl Failure {
         Err(Failure::File(format!(in alloc; "{path} is not of an earlier {command}")?))
     }
 
+    /// Says that a file would be overwritten that is read.
+    pub fn is_read<T>(alloc: Global, path: &str) -> Result<T, Failure> {
+        let path = escaped(alloc, path)?;
+        Err(Failure::File(format!(in alloc; "cannot write {path}: it is one of the logs")?))
+    }
+
     /// The status of the program.
     pub fn status(&self) -> u8
         ensures { result ≡ 3 }

@@ -59,9 +59,6 @@ macro_rules! word {
 const FILES: Word = word!("files" Place, "FILE" Texts(0),
     "Traces or schedules, or folders of them; - is standard input, also if none is named");
 
-const TRACES: Word = word!("files" Place, "TRACE" Texts(0),
-    "Traces or schedules; - is standard input, also if none is named");
-
 const FILE: Word = word!("file" Place, "FILE" Text,
     "A trace or a schedule; - is standard input, also if none is named");
 
@@ -174,7 +171,7 @@ static COMMANDS: [Row; 9] = [
     (
         "cover",
         "Counts which kinds of transition traces took, and how to reach the others",
-        &[REQUIRED, COVER_FORMAT, TRACES],
+        &[REQUIRED, COVER_FORMAT, FILES],
     ),
     ("schedule", "Writes a trace without its values", &[FILE]),
 ];

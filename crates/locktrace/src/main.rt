@@ -30,7 +30,7 @@ use page::Page;
 use patient::Patient;
 use searches::{Aim, SearchJob};
 use std::alloc::{AllocError, Global};
-use std::env;
+use std::env::{self, VarError};
 use std::io::{ErrorKind, IsTerminal, Write};
 use std::process::ExitCode;
 use std::rt::Runtime;
@@ -54,10 +54,18 @@ fn job_given(rt: &HostRuntime) -> Result<Job, ParseFault> {
 }
 
 // Searches a lock's space, and gives the status that the program ends with.
-fn found_in<R: Runtime>(rt: &R, job: &SearchJob, said: &mut Outputs) -> Result<u8, Failure> {
+fn found_in<R: Runtime + Clone + Drop>(
+    rt: &R,
+    job: &SearchJob,
+    said: &mut Outputs,
+) -> Result<u8, Failure> {
     let (header, asked, aim) = match job {
         SearchJob::Find { source, asked } => return Ok(find_run(rt, source, *asked, said)? as u8),
-        SearchJob::Cover(job) => return Ok(cover_traces(rt, job, said)?),
+        SearchJob::Cover { job, files } => {
+            let named = files_named(rt, said.alloc, files, &mut said.errors)?;
+            let status = cover_traces(rt, job, &named.files, said)?;
+            return Ok(status.max(named.status as u8));
+        }
         SearchJob::Lock { header, asked, aim } => (header, *asked, aim),
     };
     let header = match lock_named(header, said)? {
@@ -72,28 +80,50 @@ fn found_in<R: Runtime>(rt: &R, job: &SearchJob, said: &mut Outputs) -> Result<u
     Ok(status as u8)
 }
 
-// Checks traces, with colors if the job asks for them or is on a terminal.
+// Whether a terminal is to have no colors: https://no-color.org, or one that can show none.
+fn is_plain<R: Runtime>(rt: &R) -> Result<bool, AllocError> {
+    match env::var(rt, "NO_COLOR") {
+        Ok(asked) if !asked.is_empty() => return Ok(true),
+        Err(VarError::NotUnicode) => return Ok(true),
+        Err(VarError::OutOfMemory) => return Err(AllocError),
+        _ => {}
+    }
+    match env::var(rt, "TERM") {
+        Ok(terminal) => Ok(terminal.as_str() == "dumb"),
+        Err(VarError::OutOfMemory) => Err(AllocError),
+        Err(_) => Ok(false),
+    }
+}
+
+// Checks traces, with colors if the job asks for them or is on a terminal that shows them.
 fn check<R: Runtime + Threads + Sync + Clone + Drop, O: Write + IsTerminal>(
     rt: &R,
-    alloc: Global,
     job: &CheckJob,
     colored: Option<bool>,
     told: bool,
     output: &mut O,
+    said: &mut Outputs,
 ) -> Result<u8, Failure>
 where
     R::File: Send,
 {
+    let (alloc, errors) = (said.alloc, &mut said.errors);
+    let named = files_named(rt, alloc, &job.files, errors)?;
+    let colored = match colored {
+        Some(colored) => colored,
+        None => output.is_terminal() && !is_plain(rt)?,
+    };
     let job = CheckJob {
         format: job.format,
         summary: job.summary,
         quiet: job.quiet,
-        colored: colored.unwrap_or_else(|| output.is_terminal()),
+        colored,
         workers: job.workers,
-        files: files_named(rt, alloc, &job.files)?,
+        files: named.files,
     };
     let told = told && !job.quiet;
-    Ok(worst(&check_files(rt, alloc, &job, told, output)?))
+    let endings = check_files(rt, alloc, &job, told, output, errors)?;
+    Ok(worst(&endings).max(named.status as u8))
 }
 
 // Does a job, and gives the status that the program ends with. `told` if standard error is a
@@ -110,12 +140,12 @@ where
 {
     let (alloc, errors) = (said.alloc, &mut said.errors);
     let ending = match job {
-        Job::Check(job, colored, None) => return check(rt, alloc, job, *colored, told, output),
+        Job::Check(job, colored, None) => return check(rt, job, *colored, told, output, said),
         Job::Check(job, colored, Some(asked)) => {
             let Some(page) = Page::new(rt, alloc, asked, &job.files, errors)? else {
                 return Ok(Status::Misused as u8);
             };
-            let status = check(rt, alloc, job, *colored, told, output)?;
+            let status = check(rt, job, *colored, told, output, said)?;
             if status <= Status::Refused as u8 {
                 page.write(rt, alloc)?;
             }

@@ -18,7 +18,10 @@ pub enum SearchJob {
         source: SketchSource,
         asked: Asked,
     },
-    Cover(CoverJob),
+    Cover {
+        job: CoverJob,
+        files: Vec<String>,
+    },
     /// A search of all runs of the lock that a header names.
     Lock {
         header: Vec<String>,
@@ -156,10 +159,11 @@ pub fn cover_given(alloc: Global, matches: &ArgMatches<'_>) -> Result<SearchJob,
         Some(text) if text == "all" => (true, Vec::new(alloc)),
         Some(text) => (false, kinds_given(alloc, text)?),
     };
-    Ok(SearchJob::Cover(CoverJob {
+    let files = copied(alloc, matches.get_strs("files").unwrap_or(&[STANDARD]))?;
+    let job = CoverJob {
         format,
         all,
         required,
-        files: copied(alloc, matches.get_strs("files").unwrap_or(&[STANDARD]))?,
-    }))
+    };
+    Ok(SearchJob::Cover { job, files })
 }

@@ -71,8 +71,8 @@ fn names_of(alloc: Global, order: &Order) -> Result<(Vec<String>, usize), AllocE
     Ok((names, pieces.left_out()))
 }
 
-// Writes the schedules of an order under these names.
-fn write_schedules<R: Files>(
+// Writes the drafts of an order's schedules under these names.
+fn draft_schedules<R: Files>(
     order: &Order,
     folder: &Folder<'_, R>,
     names: &[String],
@@ -88,19 +88,30 @@ fn write_schedules<R: Files>(
     Ok(())
 }
 
+// Writes the drafts of an order's files, of which the first is the trace.
+fn draft_files<R: Files>(
+    order: &Order,
+    hung: Option<&Course>,
+    folder: &Folder<'_, R>,
+    names: &[String],
+) -> Result<(), Failure> {
+    let mut file = folder.create(TRACE)?;
+    let written = write_trace(folder.alloc, order, hung, &mut file);
+    folder.written(TRACE, written)?;
+    draft_schedules(order, folder, names.get(1..).unwrap_or(&[]))
+}
+
 /// Writes the trace and the schedules of an order into a folder, in place of an earlier order, and
-/// gives how many moves are in no schedule.
+/// gives how many moves are in no schedule. None of the inputs is overwritten.
 pub fn write_files<R: Files>(
     order: &Order,
     hung: Option<&Course>,
     folder: &Folder<'_, R>,
+    inputs: &[String],
 ) -> Result<usize, Failure> {
     let (names, left_out) = names_of(folder.alloc, order)?;
-    folder.clear(&names)?;
-    let mut file = folder.create(TRACE)?;
-    let written = write_trace(folder.alloc, order, hung, &mut file);
-    folder.finish(TRACE, written)?;
-    write_schedules(order, folder, names.get(1..).unwrap_or(&[]))?;
-    folder.write_list(&names)?;
+    let earlier = folder.begin(&names, inputs)?;
+    let drafted = draft_files(order, hung, folder, &names);
+    folder.end(&names, &earlier, drafted)?;
     Ok(left_out)
 }

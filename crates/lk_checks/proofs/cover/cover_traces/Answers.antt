@@ -8,6 +8,6 @@ returns g c = record {
   one_each = omega (arith, c.in_ok-endings.ensures.one_each);
   each = c.in_ok-endings.ensures.each (λ k d h. absurd (omega (arith, h)));
   worst =
-      rw (← c.deref-5.ensures.value)
+      rw (← c.deref-4.ensures.value)
       (rw (← c.worst.ensures) (omega (arith, c.max.ensures)));
 }
