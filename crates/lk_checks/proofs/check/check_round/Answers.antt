@@ -34,7 +34,7 @@ loop-name-preserved g c =
               c.loop-name.invariant.adds.one_each,
               ap length c.in_ok-put.ensures,
               length-append c.loop-name.reports.endings.items
-              (c.in_ok-report.field-0.ending ∷ []),
+                  (c.in_ok-report.field-0.ending ∷ []),
             );
         each = λ all.
             one_more (EndsInput (left_in g.R.File.Read.remaining g.R.Reader.Read.remaining)) _ _ _
