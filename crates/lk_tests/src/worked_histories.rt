@@ -137,12 +137,12 @@ pub fn acts_of_calls()
 
 /// Each part of the theorem is in it.
 ///
-/// Histories fail of one part alone: `two_inside` has two holders, `overtaking` no order,
-/// `two_writers` two writers, and `act_without_call` no call. None of them is legal, and every
-/// legal history has the other four parts (`lk_locks::theorems`). So no history tells the theorem
-/// from one with a part less, and each is taken out of it here. The last part of
-/// `IsNeverBesideReader` is of the acts alone, allowed or not, and fails of histories that are not
-/// legal: of `left_once`, and of a reader that comes beside a writer.
+/// `Legal` fails of `act_without_call` alone; besides it `two_inside` has two holders, `overtaking`
+/// no order, and `two_writers` two writers. Every legal history has these four other parts
+/// (`lk_locks::theorems`), so no history tells the theorem from one without one of them, and each
+/// is taken out of it here. The last part of `IsNeverBesideReader` is of the acts alone, allowed or
+/// not. It fails of histories that are not legal: of `left_once`, and of a reader that comes beside
+/// a writer.
 pub fn parts_of_the_theorem()
     ensures legal { OfEachPromised Legal }
     ensures one_holder { OfEachPromised (λ kind n. HasOneHolder) }
