@@ -16782,7 +16782,7 @@ static u64 w2c_lockreplay_rattle0x3A0x3Aexport0x20play(w2c_lockreplay* instance,
 #else
 #define LT_YIELD() 0
 #endif
-#if defined __GNUC__
+#if defined __GNUC__ && !defined LT_STD_ATOMICS
 static char lt_is_taken;
 #define LT_TAKES() (!__atomic_test_and_set(&lt_is_taken, __ATOMIC_ACQUIRE))
 #define LT_GIVE_BACK() __atomic_clear(&lt_is_taken, __ATOMIC_RELEASE)

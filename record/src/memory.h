@@ -8,7 +8,7 @@
 #else
 #define LT_YIELD() 0
 #endif
-#if defined __GNUC__
+#if defined __GNUC__ && !defined LT_STD_ATOMICS
 static char lt_is_taken;
 #define LT_TAKES() (!__atomic_test_and_set(&lt_is_taken, __ATOMIC_ACQUIRE))
 #define LT_GIVE_BACK() __atomic_clear(&lt_is_taken, __ATOMIC_RELEASE)

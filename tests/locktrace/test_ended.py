@@ -114,22 +114,23 @@ def test_killed_again_and_again(ending):
     ending.again()
 
 
-def test_log_in_the_place_of_a_trace(tracer):
-    """A log that an earlier list names is neither replaced nor removed."""
+@pytest.mark.parametrize("path", ["made/{}", "{here}/made/{}", "a link"])
+@pytest.mark.parametrize("name, listed", [
+    ("run.trace", "order.list"), ("run-0001.schedule", "order.list"), ("run.trace.new", None),
+    # An earlier run left it, and this one would not write it.
+    ("run-0002.schedule", "order.list"), ("run-0002.schedule", "order.list.new"),
+    ("run-0002.schedule.new", "order.list.new")])
+def test_log_in_the_place_of_a_file(tracer, name, listed, path):
+    """A log that an earlier run's list names is neither replaced nor removed."""
     first, second = LOGS
     made = tracer.folder / "made"
-    tracer.run("order", *LOGS, "-o", "made")
-    for name in ("run.trace", "run-0001.schedule", "run-0002.schedule", "run.trace.new"):
-        shutil.copy(tracer.folder / first, made / name)
-        before = files_in(made)
-        said = f"locktrace: cannot write made/{name}: it is one of the logs\n"
-        with open(made / "order.list", "a", encoding="utf-8") as names:
-            names.write("run-0002.schedule\n")
-        before = files_in(made)
-        for path in (f"made/{name}", tracer.folder / "made" / name, "a link"):
-            if path == "a link":
-                (tracer.folder / path).symlink_to(made / name)
-            assert tracer.run("order", path, second, "-o", "made") == ("", said, 3)
-            assert files_in(made) == before
-        (tracer.folder / "a link").unlink()
-        (made / name).unlink()
+    assert tracer.run("order", *LOGS, "-o", "made") == ("", "", 0)
+    shutil.copy(tracer.folder / first, made / name)
+    if listed:
+        with open(made / listed, "a", encoding="utf-8") as names:
+            names.write(name.removesuffix(".new") + "\n")
+    (tracer.folder / "a link").symlink_to(made / name)
+    before = files_in(made)
+    assert tracer.run("order", path.format(name, here=tracer.folder), second, "-o", "made") == (
+        "", f"locktrace: cannot write made/{name}: it is one of the logs\n", 3)
+    assert files_in(made) == before

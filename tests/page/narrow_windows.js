@@ -16,5 +16,11 @@ function offSideways() {
   return [...off, ...(scrollWidth > clientWidth + 1 ? ['the page'] : [])];
 }
 
+// How many pixels of what an element shows are beyond its edge.
+function cutSideways(selector) {
+  const { scrollWidth, clientWidth } = document.querySelector(selector);
+  return scrollWidth - clientWidth;
+}
+
 const zoom = () => (
   Math.round(Number(document.body.style.getPropertyValue('--zoom')) * 100) / 100);

@@ -27,6 +27,19 @@ def test_a_lecture(page, width, height, language):
     assert page.js("count", "#lecture > *") == 5
 
 
+@pytest.mark.parametrize("language", ["en", "de"])
+@pytest.mark.parametrize("width", [320, 360, 683])
+def test_a_dialog(page, width, language):
+    """Each is as wide as what it shows: the start with its refusals, the plans and the keys."""
+    page.resize(width, 640).open(f"{LESSON}{language}")
+    for key, opened in [("o", ".refusals summary"), ("n", None), ("?", None)]:
+        page.press(key).becomes(1, "count", "dialog[open]")
+        if opened:
+            page.call("click", opened)
+        assert page.js("cutSideways", "dialog[open]") <= 1, key
+        page.press("Escape").becomes(0, "count", "dialog[open]")
+
+
 # By hand, for letters of 14.5 pixels: 2.5 % of 768 are 19.2, and 2.5 % of 384 are 9.6. A tablet is
 # as wide as 600 of the page's pixels. A phone is narrower, and has letters of the usual size.
 @cases("width, height, zoom", {

@@ -96,9 +96,11 @@ def test_long_text(both, line, text, due):
         assert answer_of(both[0], "\n".join(lines).encode())[:3] == due
 
 
-def test_side_by_side(tmp_path):
-    """Threads that check texts at the same time get their own answers, and have no data race."""
-    said = output("gcc", "-std=c11", *WARNINGS, "-O1", "-g", "-fsanitize=thread", "-pthread",
+@pytest.mark.parametrize("flags", [[], ["-DLT_STD_ATOMICS"]], ids=str)
+def test_side_by_side(tmp_path, flags):
+    """Threads that check texts at the same time get their own answers, and have no data race: with
+    the atomics of gcc and clang, and with those of the standard."""
+    said = output("gcc", "-std=c11", *WARNINGS, *flags, "-O1", "-g", "-fsanitize=thread", "-pthread",
                   "-o", tmp_path / "it", HERE / "side_by_side.c", TOP / "record" / "locktrace.c")
     if "tsan" in said:
         pytest.skip("ThreadSanitizer is not installed")

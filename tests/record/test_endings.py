@@ -150,6 +150,8 @@ NO_MEMORY = "no memory for 5120000 moves of each of 2 threads: Cannot allocate m
 
 @pytest.mark.parametrize("mode, limit, words, said", [
     ("SEED", "trap '' XFSZ; ulimit -f 4", "3 400 1", "{}/thread-0.log: File too large"),
+    # The whole file is in a buffer until it is closed.
+    ("SEED", "trap '' XFSZ; ulimit -f 0", "2 2 1", "{}/thread-0.log: File too large"),
     # Free threads would have had their notes in the folder.
     *((mode, "ulimit -v 100000", "2 40000 1", NO_MEMORY) for mode in ("VALUES", "SEED"))])
 def test_no_room(ended, mode, limit, words, said):

@@ -115,6 +115,8 @@ class Names:
     def is_there(self, name, document):
         """Whether the name in backticks exists. Text that is no name always passes."""
         words = name.split()
+        if any(word.startswith("-D") for word in words):
+            return set(re.findall(r"(?:^|\s)-D(\w+)", name)) <= self.words
         if "make" in words[:2]:
             return self.is_command(words[words.index("make") + 1:])
         if "/" in words[0] and re.match(r"[\w./*-]+$", words[0]) or FILE.fullmatch(words[0]):
