@@ -244,6 +244,12 @@ def test_full_device(tracer, words):
     assert status == 3 and error.startswith(CANNOT)
 
 
+def test_full_device_beside_an_absent_file(tracer):
+    with open("/dev/full", "w") as full:
+        output, error, status = tracer.run("check", "absent", "wrong", stdout=full)
+    assert status == 3 and error.startswith(ABSENT + CANNOT)
+
+
 def test_closed_output(tracer):
     output, error, status = tracer.run("check", "wrong", preexec_fn=closing(1))
     assert (output, status) == ("", 3) and error.startswith(CANNOT)

@@ -48,8 +48,9 @@ def test_name_that_is_no_text(tracer, command):
         output, error, status = tracer.run(command, *jobs, "runs")
         assert (status, said in error) == (4, True)
         assert command == "cover" or (output, error.replace(said, "")) == alone[:2]
-    (folder / "b.trace").unlink()
-    assert tracer.run(command, "runs")[1:] == (said, 3)
+    for name in ("b.trace", "a.trace"):
+        (folder / name).unlink()
+        assert tracer.run(command, "runs")[1:] == (said, 3)
 
 
 def test_fifo_in_a_folder(tracer):

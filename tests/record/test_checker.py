@@ -21,6 +21,7 @@ pytestmark = pytest.mark.slow
 TEXTS = 10_000
 ROOM = 8  # fewer than most runs have moves
 MOST, TOO_LONG = 65536, 21  # the source alone has the fault TOO_LONG, for a trace with more moves
+NO_MEMORY = 22
 WORDS = """0 1 2 3 00 255 256 lock ticket mcs rw-simple rw-fifo threads bits acquire release rlock
     runlock wlock wunlock downgrade read write swap cas add section next_ticket now_serving tail
     next locked of found left done failed called moved waits entered
@@ -100,12 +101,35 @@ def test_long_text(both, line, text, due):
 def test_side_by_side(tmp_path, flags):
     """Threads that check texts at the same time get their own answers, and have no data race: with
     the atomics of gcc and clang, and with those of the standard."""
-    said = output("gcc", "-std=c11", *WARNINGS, *flags, "-O1", "-g", "-fsanitize=thread", "-pthread",
-                  "-o", tmp_path / "it", HERE / "side_by_side.c", TOP / "record" / "locktrace.c")
+    said = output("gcc", "-std=c11", *WARNINGS, *flags, "-O1", "-g", "-fsanitize=thread",
+                  "-pthread", "-o", tmp_path / "it", HERE / "side_by_side.c",
+                  TOP / "record" / "locktrace.c")
     if "tsan" in said:
         pytest.skip("ThreadSanitizer is not installed")
     assert said == ""
     assert output(tmp_path / "it") == ""
+
+
+def test_check_after_one_without_memory(tmp_path):
+    """A check for which memory is refused has its own fault, and the next one is made."""
+    (tmp_path / "it.c").write_text(f"""#include <stdlib.h>
+static int requests;
+static void *once(void *old, size_t size) {{ return requests++ ? realloc(old, size) : NULL; }}
+#define realloc once
+#include "{TOP}/record/locktrace.c"
+#include <stdio.h>
+int main(void)
+{{
+    static const uint8_t text[] = "lock ticket threads 1\\n0 acquire\\n";
+    struct lt_answer answer;
+    uint32_t first = lt_check(text, sizeof text - 1, NULL, 0, &answer);
+    uint32_t second = lt_check(text, sizeof text - 1, NULL, 0, &answer);
+    printf("%u %u", first, second);
+    return 0;
+}}
+""")
+    assert output("gcc", "-std=c11", *WARNINGS, "-o", tmp_path / "it", tmp_path / "it.c") == ""
+    assert output(tmp_path / "it", timeout=20) == f"{NO_MEMORY} 0"
 
 
 def changed_line(dice, line):

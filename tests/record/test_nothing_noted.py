@@ -63,6 +63,19 @@ def test_long_run(tmp_path):
     assert len(re.findall(r"^\d", text, re.MULTILINE)) > 65536 and "refused" not in text
 
 
+def test_long_schedule(tmp_path):
+    """FOLLOW says too how far a long run was checked. Of 10,923 rounds of six moves it is 65,536
+    moves; 16 values are enough for the tickets."""
+    program, tour = tmp_path / "it", tmp_path / "tour"
+    tour.mkdir()
+    rounds = "".join(f"0 {word}\n" for word in "acquire add read release read write".split())
+    (tour / "long.schedule").write_text(f"lock ticket threads 1 bits 4\n{rounds * 10_923}")
+    assert compile_c("gcc", SOURCES / "ticket.c", program, "-DLR_MODE=FOLLOW", "-DLR_CHECK",
+                     library=TOP / "record" / "locktrace.c") == ""
+    assert answer(program, tour, tmp_path / "logs") == (
+        "1 schedules of 65538 moves, 0 not followed\n", CHECKED, 0)
+
+
 def test_long_run_with_a_mistake(tmp_path):
     """A mistake in the moves that are checked is found."""
     source = copied(tmp_path, "ticket", "serves-the-next-ticket")

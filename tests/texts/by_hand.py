@@ -18,6 +18,7 @@ SAID = {
     "crates/locktrace/src/*.rt": [f'VERSION: &str = "{VERSION}";', f"LIMIT: u64 = {LIMIT:_};",
                                   f"{LIMIT:,} if it is not given"],
     f"{MAN}/locktrace.1": [f"Without it {LIMIT:,}."],
+    "docs/RECORDING.md": [f"the first {MOST['MOVES']:,} moves"],
     "SECURITY.md": [f"at most {MOST['MOVES']:,} moves and {MOST['BYTES']:,} bytes",
                     f"at most {MOST['OF_A_LINE'] + 1} bytes are kept"],
     # What README.md names as not proved.
