@@ -1,5 +1,5 @@
 # The commands of this repository: `make` lists them, from the lines that begin with ## beside them.
-# docs/CHECKING.md says how long the main ones take, and where the time goes.
+# tests/README.md says how long the main ones take, and where the time goes.
 
 # A recipe sees these variables of the caller, and no others. Language and time zone are fixed, and
 # neither git nor Python reads a user's settings. So a test does the same on each machine.
@@ -25,8 +25,6 @@ PROGRAM := crates/lockreplay/out/lockreplay
 TRACER  := crates/locktrace/out/locktrace
 MODULE  := crates/lk_page/out/lockreplay.wasm
 MODULE_SOURCES := $(call sources_of,lk_page $(call used_by,lk_page))
-# the check of a trace, for C
-LIBRARY := crates/lk_trace_c/out/liblk_trace_c.a
 # the crate with the tests, in some of which each request for memory is refused in turn
 TESTS := lk_tests
 TESTS_BUILT := crates/$(TESTS)/out/$(TESTS)_tests
@@ -50,22 +48,23 @@ SPREAD := -n $(LANES) --dist loadgroup
 # Targets that are no files: those with a line ##, and these
 .PHONY: $(shell sed -n 's/^## \([a-z-]*\).*/\1/p' Makefile packaging/targets.mk) \
 	help needs-rt test-needs test-parts test-programs page-built \
-	gate-and-page gate-built gate-module gate-library test-page-committed test-page-built by-root
+	page-module gate-and-page gate-built test-page-committed test-page-built by-root
 
 help:
 	@sed -n 's/^## //p' $(MAKEFILE_LIST) | awk -F ' [|] ' '{ printf "make %-43s%s\n", $$1, $$2 }'
 
-## demo | replays a schedule of two threads, in a minute: nothing is proved
-demo: needs-rt
-	@cd crates/lockreplay && { said=$$(rt try -- replay < stdin 2>&1 >&3) || \
-	    { echo "$$said" >&2; exit 1; }; } 3>&1
-	@echo 'Not proved: "make lockreplay" proves and builds this program.' >&2
+## demo | replays a schedule of two threads, in seconds, with a C compiler alone
+demo:
+	@c/demo.sh
 
 # $(call stop_unless_right,LINE) stops if this line of `rt version` is of another kit.
 stop_unless_right = $(if $(filter $(LOGIC),$(lastword $(1))),,$(error \
 	have $(or $(1),no rt on the path that works), need a Rattle kit of logic $(LOGIC)))
 needs-rt:
 	@$(call stop_unless_right,$(shell rt version 2> /dev/null | head -n 1))
+
+# Its logic if the right kit is on the path, else nothing; asked once.
+kit = $(eval kit := $(filter $(LOGIC),$(lastword $(shell rt version 2> /dev/null | head -n 1))))$(kit)
 
 test-needs: needs-rt
 	@tests/tools/needs.sh
@@ -95,15 +94,9 @@ gate: needs-rt
 gate-and-page:
 	+$(MAKE) --no-print-directory -j 2 gate test-page-committed
 
-# The static libraries, which `rt ci` proves and does not build, over the libraries that it leaves
+# The module, which `rt ci` proves and does not build, over the libraries that it leaves
 gate-built:
-	+$(MAKE) --no-print-directory -j 2 gate-module gate-library
-
-gate-module:
 	BUILT=1 page/build-module.sh
-
-gate-library:
-	tests/prover/static_library.py lk_trace_c x86_64-unknown-linux-gnu out/liblk_trace_c.a
 
 $(PROVED): $(SOURCES)
 	$(MAKE) --no-print-directory gate
@@ -134,35 +127,52 @@ check: needs-rt
 	cd crates/$(CRATE) && rt check && rt test
 	$(if $(filter $(CRATE),$(TESTS)),$(MAKE) --no-print-directory test-refused)
 else
-check: $(PROGRAM) $(TRACER) $(LIBRARY) test-needs
+check: $(PROGRAM) $(TRACER) test-needs
 	$(PYTEST) $(SPREAD) -m 'not (root or browser or planted or slow)' --quick --fuzz-seconds 5
 endif
 
+## check-without-kit | tests what needs no kit: the C programs, recorders, documents and layout
+check-without-kit:
+	tests/tools/needs.sh
+	tests/tools/without_kit.sh $(SPREAD)
+
 # Nothing is proved here.
-test-programs: $(PROGRAM) $(TRACER) $(LIBRARY) $(TESTS_BUILT) test-needs
+test-programs: $(PROGRAM) $(TRACER) $(TESTS_BUILT) test-needs
 	$(PYTEST) $(SPREAD) -m 'not (root or browser or planted)'
 
-## generate | fills in the words and numbers of the crates, and page/why if locktrace is built
+## generate | fills in the words and numbers of the crates, and built/why if locktrace is built
 generate:
 	tests/texts/generate.py
-	record/src/join.py
+	c/join.py
 
-## header | writes record/lockreplay_record.h and record/locktrace.c from their parts in record/src
+## header | writes the headers and C files of built from their parts in record/src and c
 header:
-	record/src/join.py
+	c/join.py
 
-## checker | makes the machine in record/locktrace.c of the page's module. Only root may do this
-checker: by-root $(MODULE)
+## c-files | makes built/locktrace.c and lockreplay.c of the page's module. Only root may do this
+c-files: by-root $(MODULE)
 	root=$$(mktemp -d) && trap 'rm -rf "$$root"' EXIT && tests/tools/root.sh trixie "$$root" wabt && \
-	    record/src/machine.py "$$root" $(MODULE)
+	    c/translate.py "$$root" $(MODULE)
 
-## page | builds the page's module and page/lockreplay.html
-page: $(MODULE)
-	node page/build.mjs $(MODULE)
+# The page's module: built, or without the kit the one that the page has.
+page_module = $(if $(kit),$(MODULE),out/lockreplay.wasm)
+
+## page | builds the page's module, if the kit is there, and built/lockreplay.html
+page: page-module
+	node page/build.mjs $(page_module)
+
+page-module:
+	$(if $(kit),$(MAKE) --no-print-directory $(MODULE))
+	$(if $(kit),,node page/build/module.mjs $(page_module))
+
+## pictures | takes the picture of the guide from the page
+pictures:
+	tests/page/screenshots.py
 
 ## test-page | the page is what its sources build to, and works in two browsers
-test-page: $(PROGRAM) page-built
-	$(PYTEST) $(SPREAD) -m 'not (timed or planted)' tests/page
+test-page: page-built
+	$(if $(kit),$(MAKE) --no-print-directory $(PROGRAM))
+	$(PYTEST) $(SPREAD) -m 'not (timed or planted$(if $(kit),, or program))' tests/page
 	$(PYTEST) -m timed tests/page
 
 # Nothing is built here, so these tests can run beside the proofs.
@@ -174,28 +184,30 @@ test-page-built: $(PROGRAM) page-built
 	$(PYTEST) -m timed tests/page
 
 # The page is what its sources build to.
-page-built: $(MODULE) test-needs
-	node page/build.mjs $(MODULE) --check
+page-built:
+	tests/tools/needs.sh
+	$(MAKE) --no-print-directory page-module
+	node page/build.mjs $(page_module) --check
 	@[ "$$(git status --porcelain 2> /dev/null)" != ' M $(PAGE)' ] || \
 	    { echo 'only $(PAGE) differs from what is committed: commit it too' >&2; exit 1; }
 
-## test-library | tests the static library for traces, from C and from Python
-test-library: $(LIBRARY) test-needs
-	$(PYTEST) tests/locktrace/test_library.py
+## test-c | tests the check of a trace and the replay in C, beside both programs
+test-c: $(PROGRAM) $(TRACER) test-needs
+	$(PYTEST) $(SPREAD) tests/c tests/lockreplay
 
 ## test-traces | tests locktrace on texts, random traces and logs, and recorded locks
-test-traces: $(TRACER) $(PROGRAM) $(LIBRARY) test-needs
+test-traces: $(TRACER) $(PROGRAM) test-needs
 	$(PYTEST) $(SPREAD) -m 'not planted' tests/locktrace tests/record
 
 ## test-planted | planted mistakes of recorded locks and of the page are noticed, right locks not
-test-planted: $(TRACER) $(PROGRAM) $(LIBRARY) $(MODULE) test-needs
+test-planted: $(TRACER) $(PROGRAM) $(MODULE) test-needs
 	$(PYTEST) $(SPREAD) -m planted tests/record tests/page
 
 LOCK    :=
 THREADS := 3
 ROUNDS  := 1
 ## conform [LOCK=NAME] [THREADS=3] [ROUNDS=1] | recorded locks follow tours of so many threads
-conform: $(LIBRARY) $(TRACER) test-needs
+conform: $(TRACER) test-needs
 	$(PYTEST) $(SPREAD) tests/record/test_conform.py -k '$(LOCK)' --threads $(THREADS) \
 	    --rounds $(ROUNDS)
 
@@ -212,9 +224,6 @@ lockreplay: $(PROGRAM)
 
 ## locktrace | proves and builds locktrace
 locktrace: $(TRACER)
-
-## library | builds the static library for traces
-library: $(LIBRARY)
 
 ## bench | measures lockreplay beside cat and a replayer written by hand
 bench: $(PROGRAM)
@@ -244,9 +253,6 @@ $(TRACER): $(SOURCES) | needs-rt
 $(MODULE): $(MODULE_SOURCES) page/build-module.sh $(addprefix tests/prover/,static_library.py rattle_words.py) \
 	| needs-rt
 	page/build-module.sh
-
-$(LIBRARY): $(SOURCES) | needs-rt
-	cd crates/lk_trace_c && rt lib
 
 $(TESTS_BUILT): $(TESTS_SOURCES) | needs-rt
 	cd crates/$(TESTS) && rt test

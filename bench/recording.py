@@ -1,7 +1,7 @@
 #!/usr/bin/env python3
 """Costs of recording: a note of the C header, 1,000 runs of a search, followed schedules.
 
-    recording.py LOCKTRACE LIBRARY [--before COMMIT] [--check]
+    recording.py LOCKTRACE [--before COMMIT] [--check]
 
 Builds `recording.c` without a mode and with VALUES, as it is in this tree and as it was at a
 commit, with the header of each, and lets them take turns; `file` has its notes in a file, in the
@@ -41,7 +41,7 @@ def ran(*words, **options):
 
 def tree_of(commit, folder):
     """The header as it was, one file or one with parts, and the program."""
-    for path in ran("git", "-C", TOP, "ls-tree", "-r", "--name-only", commit, "record",
+    for path in ran("git", "-C", TOP, "ls-tree", "-r", "--name-only", commit, "record", "built",
                     "bench/recording.c").split():
         file = folder / path
         file.parent.mkdir(parents=True, exist_ok=True)
@@ -51,8 +51,8 @@ def tree_of(commit, folder):
 
 def built(folder, name, tree, mode):
     program = folder / name
-    ran("gcc", *FLAGS, f"-DLR_MODE={mode}", "-I", tree / "record", "-o", program,
-        tree / "bench" / "recording.c")
+    ran("gcc", *FLAGS, f"-DLR_MODE={mode}", "-I", tree / "built", "-I", tree / "record", "-o",
+        program, tree / "bench" / "recording.c")
     return program
 
 
@@ -79,13 +79,13 @@ def notes(folder, before):
     return costs["now"] + costs["file"]
 
 
-def commands(folder, locktrace, library):
+def commands(folder, locktrace):
     """Commands, with how what they say begins and how long each may take."""
     ran("gcc", *FLAGS, "-DLR_MODE=EXPLORE", "-o", folder / "search",
-        TOP / "examples" / "recording" / "mcs.c", library)
-    flags = {"RUSTFLAGS": f"-L native={library.parent}", "CARGO_TARGET_DIR": str(folder)}
+        TOP / "examples" / "recording" / "mcs.c", TOP / "built" / "locktrace.c")
+    more = {"CARGO_TARGET_DIR": str(folder), "PATH": "/usr/bin:/bin"}
     ran("/usr/bin/cargo", "build", "--release", "--examples", "--offline", "--features", "check",
-        cwd=TOP / "record" / "rust", env={**os.environ, **flags, "PATH": "/usr/bin:/bin"})
+        cwd=TOP / "record" / "rust", env={**os.environ, **more})
     yield [folder / "search", 2, 2, 5, folder, RUNS], f"{RUNS} runs", SECONDS
     for example, lock in EXAMPLES.items():
         program, tour = folder / "release" / "examples" / example, folder / lock
@@ -111,15 +111,13 @@ def seconds(on, words, begin):
 def main():
     words = argparse.ArgumentParser(usage=__doc__)
     words.add_argument("locktrace", type=Path)
-    words.add_argument("library", type=Path)
     words.add_argument("--before")
     words.add_argument("--check", action="store_true")
     given = words.parse_args()
     cores = sorted(map(str, os.sched_getaffinity(0)), key=int)
     with tempfile.TemporaryDirectory() as name:
         is_well = max(notes(Path(name), given.before)) <= LIMIT
-        made = commands(Path(name), given.locktrace.resolve(), given.library.resolve())
-        for command, begin, most in made:
+        for command, begin, most in commands(Path(name), given.locktrace.resolve()):
             for on in (",".join(cores), cores[0]):
                 is_well = seconds(on, command, begin) <= most and is_well
     return 0 if is_well or not given.check else 1

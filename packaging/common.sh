@@ -16,7 +16,7 @@ fi
 SOURCE_DATE_EPOCH=$(date --date="$DAY" +%s)
 export SOURCE_DATE_EPOCH
 # what `rt` builds for, whatever machine packages it
-SYSTEM=linux MACHINE=x86_64 ARCHITECTURE=amd64 MULTIARCH=x86_64-linux-gnu
+SYSTEM=linux MACHINE=x86_64
 STAGE=$(mktemp -d)
 trap 'rm -rf "$STAGE"' EXIT
 

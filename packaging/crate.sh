@@ -6,5 +6,5 @@
 set -eu
 cd "$(dirname "$0")/.."
 mkdir -p "$1"
-cp -R record/rust/. record/locktrace.c LICENSE-APACHE LICENSE-MIT "$1"
+cp -R record/rust/. built/locktrace.c LICENSE-APACHE LICENSE-MIT "$1"
 rm -rf "$1/target"

@@ -4,29 +4,34 @@
 #   packaging/install.sh install FOLDER
 #   packaging/install.sh uninstall FOLDER
 #
-# FOLDER is DESTDIR and PREFIX together. LIB and ZSH are where below it libraries and zsh's
-# completions go. Nothing is installed if a part is missing. The folder of documents is taken away
-# whole; other folders stay, since others may use them.
+# FOLDER is DESTDIR and PREFIX together. ZSH is where below it zsh's completions go. Nothing is
+# installed if a part is missing. The folder of documents is taken away whole; other folders stay,
+# since others may use them.
 set -eu
 cd "$(dirname "$0")/.."
 umask 022
-LIB=${LIB:-lib} ZSH=${ZSH:-share/zsh/site-functions} DOC=share/doc/lockreplay
+ZSH=${ZSH:-share/zsh/site-functions} DOC=share/doc/lockreplay
 COMPLETIONS=packaging/completions
 PROGRAMS='crates/lockreplay/out/lockreplay crates/locktrace/out/locktrace'
-HEADERS='record/lockreplay_record.h record/locktrace.h'
-LIBRARY=crates/lk_trace_c/out/liblk_trace_c.a
+HEADERS='built/lockreplay_record.h built/locktrace.h'
 PAGES='packaging/man/lockreplay.1 packaging/man/locktrace.1 packaging/man/lockreplay-schedule.5
     packaging/man/locktrace-trace.5'
+# the crates that a program in Rattle uses
+LIBRARY='crates/lk_words crates/lk_locks crates/lk_lines crates/lk_replay crates/lk_workers
+    crates/surface/src crates/README.md crates/ADDING_A_LOCK.md
+    crates/lockreplay/README.md'
 SCRIPTS='examples/limits.sh examples/recording/conform.sh examples/bindings/locktrace.py'
 # What is copied into DOC with the folders that it is in, but for lists of modules that are empty
+# shellcheck disable=SC2086 # LIBRARY is a list of words
 DOCUMENTS="README.md CHANGELOG.md CONTRIBUTING.md SECURITY.md CODE_OF_CONDUCT.md CITATION.cff
-    VERSION LICENSE-APACHE LICENSE-MIT THIRD-PARTY page/lockreplay.html
-    $(find crates/*/specs docs/*.md docs/pictures examples/*.md examples/*.schedule \
+    VERSION LICENSE-APACHE LICENSE-MIT THIRD-PARTY HANDLES crates.txt
+    built/lockreplay.html page/lockreplay.html built/lockreplay.c built/locktrace.c $HEADERS
+    $(find crates/*/specs $LIBRARY docs/*.md docs/pictures examples/*.md examples/*.schedule \
     examples/*.report examples/*.json examples/recording/*.md examples/recording/*.[ch] \
-    record/*.[ch] \
+    examples/bindings/*.c \
     record/rust/Cargo.* record/rust/build.rs record/rust/README.md record/rust/src \
     record/rust/examples \
-    -type f -size +0 | sort)"
+    -name out -prune -o -name mutants.txt -o -type f -size +0 -print | sort --unique)"
 
 # put MODE PLACE FILE...: copies files to a place, or removes them there
 put() {
@@ -49,7 +54,7 @@ fill() {
 
 # A build that was cut off leaves an empty file, which counts as missing.
 look_at() {
-    for part in $PROGRAMS $HEADERS $LIBRARY $PAGES $SCRIPTS $DOCUMENTS; do
+    for part in $PROGRAMS $HEADERS $PAGES $SCRIPTS $DOCUMENTS; do
         [ -s "$part" ] || { echo "install.sh: there is no $part" >&2 && exit 1; }
     done
 }
@@ -58,8 +63,6 @@ look_at() {
 each_file() {
     put 755 bin $PROGRAMS
     put 644 include $HEADERS
-    put 644 "$LIB" $LIBRARY
-    fill packaging/pkgconfig/locktrace.pc "$LIB/pkgconfig/locktrace.pc"
     fill packaging/pkgconfig/lockreplay-record.pc share/pkgconfig/lockreplay-record.pc
     for page in $PAGES; do fill "$page" "share/man/man${page##*.}/${page##*/}"; done
     for program in lockreplay locktrace; do

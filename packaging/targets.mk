@@ -5,10 +5,10 @@ DESTDIR :=
 TREE     = $(DESTDIR)$(PREFIX)
 
 # What a build makes: an artifact has all of it, and none is older than what it is made of.
-PAGE  := page/lockreplay.html
-BUILT := $(PROGRAM) $(TRACER) $(LIBRARY) $(PAGE)
+PAGE  := built/lockreplay.html
+BUILT := $(PROGRAM) $(TRACER) $(PAGE)
 
-## install [PREFIX=] [DESTDIR=] | builds and installs programs, headers, library and documents
+## install [PREFIX=] [DESTDIR=] | builds and installs programs, headers, C files and documents
 install: $(BUILT)
 	packaging/install.sh install '$(TREE)'
 
@@ -48,7 +48,7 @@ site:
 	read=$$(mktemp -d) && trap 'rm -rf "$$read"' EXIT && \
 	    sphinx-build -q -W --keep-going -c packaging/site -d "$$read" . '$(SITE)'
 
-$(PAGE): $(MODULE) VERSION docs/LOCKS.md $(wildcard page/build.mjs page/build/* page/why/* \
+$(PAGE): $(MODULE) VERSION docs/LOCKS.md $(wildcard page/build.mjs page/build/* built/why/* \
 	page/src/*.* page/src/*/* examples/*.schedule examples/README.md)
 	node page/build.mjs $(MODULE)
 

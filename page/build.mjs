@@ -1,6 +1,6 @@
 #!/usr/bin/env node
-// Builds page/lockreplay.html, one file, from page/src, page/fonts, page/why, docs/LOCKS.md,
-// docs/GLOSSARY.md and examples/, from VERSION and the proved module:
+// Builds built/lockreplay.html, one file, from page/src, page/fonts, built/why, docs/LOCKS.md,
+// docs/GLOSSARY.md and examples/, from VERSION, THIRD-PARTY and the proved module:
 //
 //     node page/build.mjs MODULE.wasm            writes the page
 //     node page/build.mjs MODULE.wasm --check    fails if the page is not what this would write
@@ -17,6 +17,8 @@ import { bundle } from './build/bundle.mjs';
 import { facesOf } from './build/fonts.mjs';
 import { kindsOf } from './build/kinds.mjs';
 import { lessonsOf, storedOf } from './build/lessons.mjs';
+import { sourcesSum } from './build/module.mjs';
+import { noticesOf } from './build/notices.mjs';
 import { packed } from './build/packing.mjs';
 import { plansOf } from './build/plans.mjs';
 import { rangesOf } from './build/ranges.mjs';
@@ -25,7 +27,8 @@ import { whyOf } from './build/why.mjs';
 import { codeOf, linesOf, wordsOf } from './src/machine/locks_code.js';
 
 const HERE = dirname(fileURLToPath(import.meta.url));
-const PAGE = join(HERE, 'lockreplay.html');
+const BUILT = join(HERE, '..', 'built');
+const PAGE = join(BUILT, 'lockreplay.html');
 const SOURCES = join(HERE, 'src');
 
 const read = (...path) => readFileSync(join(HERE, ...path), 'utf8');
@@ -50,20 +53,24 @@ function build(module) {
   const lessons = lessonsOf(join(HERE, '..', 'examples'));
   const locks = read('..', 'docs', 'LOCKS.md');
   const [code, ranges] = [codeOf(locks), rangesOf(module)];
-  const stored = Buffer.from(JSON.stringify(storedOf(module, lessons, ranges, linesOf(code))));
+  const asPart = (value, name) => packed(Buffer.from(JSON.stringify(value)), PAGE, name);
   const data = {
     module: packed(module, PAGE, 'module'), code, words: wordsOf(locks), kinds: kindsOf(module),
-    lessons, stored: packed(stored, PAGE, 'stored'), ranges,
-    translations: { de: JSON.parse(read('..', 'examples', 'lessons.de.json')) },
+    lessons: asPart(lessons, 'lessons'), ranges,
+    stored: asPart(storedOf(module, lessons, ranges, linesOf(code)), 'stored'),
+    translations: asPart({ de: JSON.parse(read('..', 'examples', 'lessons.de.json')) },
+      'translations'),
     plans: plansOf(join(HERE, '..', 'examples', 'plans.json'), lessons),
     terms: termsOf(join(HERE, '..', 'docs', 'GLOSSARY.md')),
-    why: whyOf(module, join(HERE, 'why'), locks),
+    why: asPart(whyOf(module, join(BUILT, 'why'), locks), 'why'),
   };
   const script = `${bundle(SOURCES, 'control/main.js')}\nstart(${asScript(data)});`;
   // Functions, so that no `$` of a source is taken for a sign of the replacement.
   return read('src', 'index.html').replace('{{STYLE}}', style)
     .replaceAll('{{VERSION}}', () => read('..', 'VERSION').trim())
     .replace('{{FONTS}}', () => read('fonts', 'LICENSE').trim())
+    .replace('{{SUM}}', sourcesSum)
+    .replace('{{NOTICES}}', () => noticesOf(read('..', 'THIRD-PARTY')))
     .replace('{{POLICY}}', () => policy(`\n${script}\n`)).replace('{{SCRIPT}}', () => script);
 }
 
@@ -79,6 +86,6 @@ const built = build(readFileSync(modulePath));
 if (!option) {
   writeFileSync(PAGE, built);
 } else if (readFileSync(PAGE, 'utf8') !== built) {
-  console.error('page/lockreplay.html is not what its sources build to: run `make page`');
+  console.error('built/lockreplay.html is not what its sources build to: run `make page`');
   process.exit(1);
 }

@@ -4,7 +4,7 @@ import random
 import pytest
 from hypothesis import HealthCheck, settings
 
-from tree import Program, built
+from tree import TOP, Program, built, output
 
 # pytest rewrites the assertions of these modules too, so that a failure shows the values.
 pytest.register_assert_rewrite("dice", "installs", "recorders")
@@ -26,9 +26,11 @@ def locktrace():
 
 
 @pytest.fixture(scope="session")
-def library():
-    """The static library with which a program in C checks a trace."""
-    return built("library")
+def library(shared):
+    """The check of a trace, with which a program in C checks its runs, compiled once."""
+    from recorders import once
+    return once(shared / "locktrace.o", lambda: output(
+        "gcc", "-O2", "-c", "-o", shared / "locktrace.o", TOP / "built" / "locktrace.c"))
 
 
 @pytest.fixture(scope="session")

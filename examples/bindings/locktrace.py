@@ -3,10 +3,10 @@
 
     examples/bindings/locktrace.py LIBRARY TRACE
 
-LIBRARY is a shared library, made once from liblk_trace_c.a. In the folder of that file, which
-`pkg-config --variable=libdir locktrace` prints where it is installed:
+LIBRARY is the check as a shared library, with its folder, as ./liblocktrace.so. It is made once, at
+the top of the repository or of the installed documents:
 
-    cc -shared -o liblocktrace.so -Wl,--whole-archive liblk_trace_c.a -Wl,--no-whole-archive
+    cc -shared -fPIC -O2 -o liblocktrace.so built/locktrace.c
 
 Status: 0 an accepted trace; 1 a refused one, or a text that is no trace; 2 other words on the
 command line than these.
@@ -20,20 +20,20 @@ NO_WORD = 0xFFFFFFFF
 
 
 class Step(ctypes.Structure):
-    """A move that was made: `struct lt_step` of record/locktrace.h."""
+    """A move that was made: `struct lt_step` of built/locktrace.h, which says more."""
     _fields_ = [("line", ctypes.c_uint64), ("found", ctypes.c_uint64), ("left", ctypes.c_uint64),
                 ("thread", ctypes.c_uint32), ("action", ctypes.c_uint32),
                 ("outcome", ctypes.c_uint32), ("word", ctypes.c_uint32)]
 
 
 class Answer(ctypes.Structure):
-    """How a trace ended: `struct lt_answer`."""
+    """What a trace comes to: `struct lt_answer`."""
     _fields_ = [("line", ctypes.c_uint64), ("moves", ctypes.c_uint64),
                 ("fault", ctypes.c_uint32), ("threads", ctypes.c_uint32)]
 
 
 class LockTrace:
-    """The library, with the types of its two functions."""
+    """The library, with the types of its two functions. Threads may use it at the same time."""
 
     def __init__(self, path):
         self.library = ctypes.CDLL(path)
@@ -45,7 +45,7 @@ class LockTrace:
         self.library.lt_fault_text.argtypes = [ctypes.c_uint32, ctypes.c_char_p, ctypes.c_size_t]
 
     def check(self, text):
-        """The answer for a text, and the moves that were made."""
+        """Returns the answer for a text, and the moves that were made."""
         # the shortest move has six bytes with its line feed
         steps, answer = (Step * (len(text) // 6 + 1))(), Answer()
         self.library.lt_check(text, len(text), steps, len(steps), ctypes.byref(answer))

@@ -1,19 +1,19 @@
 #!/bin/sh
 # A recorded lock follows every schedule of a folder, and each trace is checked with all its values.
 #
-#     conform.sh LIBRARY LOCK FOLDER [FLAG...]
-#     conform.sh LOCKTRACE LOCK.rs FOLDER
+#     conform.sh LOCK FOLDER [FLAG...]
+#     conform.sh LOCK.rs FOLDER
 #
-# LOCK is a file of this folder, without `.c`, LIBRARY is liblk_trace_c.a, and the flags are the
-# compiler's. LOCK.rs is an example of record/rust, which cargo builds, and LOCKTRACE is the program
-# that checks its traces. `locktrace tour` writes a folder of schedules. Prints how many of them
-# were not followed; the status is 1 if one was not, or a trace is refused.
+# LOCK is a file of this folder, without `.c`, and the flags are the compiler's. LOCK.rs is an
+# example of record/rust, which cargo builds; the program LOCKTRACE of the environment, or locktrace
+# on the path, checks its traces. `locktrace tour` writes a folder of schedules. Prints how many of
+# them were not followed; the status is 1 if one was not, or a trace is refused.
 #
 # SPDX-License-Identifier: Apache-2.0 OR MIT
 set -eu
-[ $# -ge 3 ] || { sed -n 's/^# *\(conform.sh .*\)/usage: \1/p' "$0" >&2 && exit 2; }
-checks=$1 lock=$2 schedules=$3
-shift 3
+[ $# -ge 2 ] || { sed -n 's/^# *\(conform.sh .*\)/usage: \1/p' "$0" >&2 && exit 2; }
+lock=$1 schedules=$2
+shift 2
 here=$(dirname "$0")
 work=$(mktemp -d)
 trap 'rm -rf "$work"' EXIT
@@ -24,7 +24,8 @@ say() {
 }
 
 follow_in_c() {
-    cc -O2 -pthread -DLR_MODE=FOLLOW -DLR_CHECK "$@" "$here/$lock.c" "$checks" -o "$work/follow"
+    cc -O2 -pthread -DLR_MODE=FOLLOW -DLR_CHECK "$@" "$here/$lock.c" \
+        "$here/../../built/locktrace.c" -o "$work/follow"
     "$work/follow" "$schedules" "$work"
 }
 
@@ -32,7 +33,7 @@ follow_in_rust() {
     CARGO_TARGET_DIR=${CARGO_TARGET_DIR:-$work/target} cargo run --quiet --release \
         --manifest-path "$here/../../record/rust/Cargo.toml" --example "${lock%.rs}" -- \
         follow "$schedules" "$work/traces"
-    "$checks" check "$work"/traces/*.trace
+    "${LOCKTRACE:-locktrace}" check "$work"/traces/*.trace
 }
 
 find "$schedules" -name '*.schedule' 2> /dev/null | grep -q . ||

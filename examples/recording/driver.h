@@ -14,7 +14,7 @@
 #include <stdlib.h>
 #include <string.h>
 
-#include "../../record/lockreplay_record.h"
+#include "../../built/lockreplay_record.h"
 
 enum { MOST_THREADS = 64 };
 

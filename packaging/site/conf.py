@@ -1,16 +1,20 @@
 """Sphinx's settings for the site (`make site`): the documents of the repository, with the page at
 its root, usable from disk.
 
-The table of contents is the index by reader of docs/README.md: each document at its first place
-there, and all others at the end. A link to the page leads to the copy at the root, and the lessons
-of examples/README.md are such links. Theme, search and dark mode are Furo's.
+The table of contents is the index by reader at the end of README.md: each document at its first
+place there, and all others at the end. A link to the page leads to the copy at the root, and the
+lessons of examples/README.md are such links. Theme, search and dark mode are Furo's.
 """
 import re
+import sys
 from os.path import normpath
 from pathlib import Path
 from shutil import copyfile
 
 from pygments.lexers.special import TextLexer
+
+sys.path.insert(0, str(Path(__file__).parent))
+from api import calls_of  # noqa: E402
 
 TOP = Path(__file__).resolve().parents[2]
 PAGE = "lockreplay.html"
@@ -25,9 +29,9 @@ AS_THE_SYSTEM = """@media not print {
 project = "lockreplay"
 version = release = (TOP / "VERSION").read_text(encoding="utf-8").strip()
 root_doc = "README"
-include_patterns = ["*.md", "docs/*.md", "[a-z]*/README.md", "examples/recording/README.md",
-                    "page/MODULE.md"]
-exclude_patterns = ["crates", "dist", "out"]
+include_patterns = ["*.md", "docs/*.md", "[a-z]*/README.md", "crates/*.md", "crates/*/README.md",
+                    "examples/recording/README.md", "page/MODULE.md"]
+exclude_patterns = ["crates/*/*/**", "dist", "out"]
 extensions = ["myst_parser", "sphinx.ext.githubpages"]
 myst_heading_anchors = 4
 # A block of Rattle has clauses that Rust does not have.
@@ -35,7 +39,7 @@ suppress_warnings = ["misc.highlighting_failure"]
 
 html_theme = "furo"
 html_title = f"lockreplay {release}"
-html_extra_path = [str(TOP / "page" / PAGE)]
+html_extra_path = [str(TOP / "built" / PAGE)]
 html_copy_source = html_show_copyright = html_show_sphinx = html_use_index = False
 # A summary is fetched, and a page from disk may fetch nothing.
 html_show_search_summary = False
@@ -46,11 +50,11 @@ html_sidebars = {"**": [*(f"sidebar/{part}.html" for part in ("brand", "search",
 
 def contents(documents):
     """The table of contents: a list for each reader."""
-    rows = re.findall(r"^\| (?!You |-)(.+?) \| (.*) \|$",
-                      (TOP / "docs" / "README.md").read_text(encoding="utf-8"), re.MULTILINE)
+    index = (TOP / f"{root_doc}.md").read_text(encoding="utf-8").split("## All documents")[1]
+    rows = re.findall(r"^\| (?!You |-)(.+?) \| (.*) \|$", index, re.MULTILINE)
     left = sorted(documents - {root_doc})
-    for reader, links in [*rows, ("want all", "".join(f"](../{name}.md)" for name in left))]:
-        named = [normpath(f"docs/{it}") for it in re.findall(r"\]\(([\w./-]+)\.md\b", links)]
+    for reader, links in [*rows, ("want all", "".join(f"]({name}.md)" for name in left))]:
+        named = [normpath(it) for it in re.findall(r"\]\(([\w./-]+)\.md\b", links)]
         listed = [name for name in dict.fromkeys(named) if name in left]
         left = [name for name in left if name not in listed]
         yield "\n".join(["", "```{toctree}", ":hidden:", f":caption: You {reader}",
@@ -61,11 +65,13 @@ def read(app, document, source):
     """The text of a document as it is on the site."""
     text, up = source[0], "../" * document.count("/")
     if document == "examples/README":
-        text = re.sub(r"^\| (.+?) \| `([\w-]+)` \|", rf"| [\1](page/{PAGE}#lesson=\2) | `\2` |",
+        text = re.sub(r"^\| (.+?) \| `([\w-]+)` \|", rf"| [\1](built/{PAGE}#lesson=\2) | `\2` |",
                       text, flags=re.MULTILINE)
+    if crate := re.fullmatch(r"crates/(\w+)/README", document):
+        text += calls_of(crate[1])
     if document == root_doc:
         text += "".join(contents(app.env.found_docs))
-    source[0] = re.sub(rf"\[([^\]]+)\]\([./]*page/{PAGE}(#\S+)?\)",
+    source[0] = re.sub(rf"\[([^\]]+)\]\([./]*built/{PAGE}(#\S+)?\)",
                        lambda it: f'<a href="{up}{PAGE}{it[2] or ""}">{it[1]}</a>', text)
 
 

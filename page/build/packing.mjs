@@ -16,10 +16,13 @@ function packs(letters, wanted) {
   }
 }
 
-// `name` is that of the part among the page's data.
-export function packed(bytes, page, name) {
-  const part = new RegExp(`"${name}":"(?<letters>[^"]*)"`);
-  const there = existsSync(page) && readFileSync(page, 'utf8').match(part)?.groups.letters;
+// A part of a page's data by its name, as it is packed.
+export const partOf = (page, name) => (
+  page.match(new RegExp(`"${name}":"(?<letters>[^"]*)"`))?.groups.letters);
+
+// The bytes for the part of this name.
+export function packed(bytes, path, name) {
+  const there = existsSync(path) && partOf(readFileSync(path, 'utf8'), name);
   if (there && packs(there, bytes)) return there;
   return deflateSync(bytes, { level: 9 }).toString('base64');
 }

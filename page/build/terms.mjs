@@ -4,7 +4,8 @@ import { readFileSync } from 'node:fs';
 
 const TERMS = [
   'move', 'call', 'step', 'word', 'poll', 'failed poll', 'holder', 'queue', 'record', 'link',
-  'late link', 'section', 'announce', 'linearization point',
+  'late link', 'section', 'announce', 'linearization point', 'lock', 'thread', 'atomic', 'add',
+  'swap', 'compare-and-swap', 'nil', 'monitor',
 ];
 const ROW = /^\| (?<term>[^|]+?) \| (?<meaning>[^|]+?) \|$/gm;
 

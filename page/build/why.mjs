@@ -1,5 +1,5 @@
-// What becomes of each lock if one of its steps is changed. page/why has what `locktrace why LOCK
-// --runs` writes; docs/LOCKS.md has the same without the runs, and says why a change is harmless.
+// What becomes of each lock if one of its steps is changed. built/why has what `locktrace why LOCK
+// --runs` writes; docs/LOCKS.md says why a change is harmless.
 // No changed lock is played here: what comes of its moves is in the listing, and in the turns of a
 // run the module plays the lock as it is.
 
@@ -82,7 +82,7 @@ function wordsOfLock(document, lock, threads) {
 function writtenOf(wrote, words) {
   const all = wrote ? wrote.split(', ').map((one) => one.match(WROTE).groups) : [];
   return all.map(({ name, value }) => {
-    if (!words.includes(name)) throw new Error(`page/why: no word ${name}`);
+    if (!words.includes(name)) throw new Error(`built/why: no word ${name}`);
     return [words.indexOf(name), value];
   });
 }
@@ -92,7 +92,7 @@ function writtenOf(wrote, words) {
 function runOf(lines, lock, words) {
   const [, header, ...rest] = lines;
   if (lines.length && header?.match(HEADER)?.groups.lock !== lock) {
-    throw new Error(`page/why/${lock}.txt: no run of a changed lock: ${lines[0]}`);
+    throw new Error(`built/why/${lock}.txt: no run of a changed lock: ${lines[0]}`);
   }
   const run = rest.filter((_, at) => at % 2 === 0);
   const [wrote, objects] = [{}, {}];
@@ -122,14 +122,10 @@ function noteOf(document, lock) {
 }
 
 function lockOf(machine, lock, text, document) {
-  const inOneLine = document.replace(/\n(?=\S)/g, ' ');
   const [heading, ...parts] = text.trimEnd().split(/\n(?! )/);
   const { threads, rounds } = heading.replace(`${lock}, `, '').match(SIZE).groups;
   const words = wordsOfLock(document, lock, threads);
   const [asItIs, ...changes] = parts.map((part) => changeOf(part, lock, words));
-  const missing = parts.map((part) => part.split('\n')[0])
-    .find((line) => !inOneLine.includes(line));
-  if (missing) throw new Error(`page/why/${lock}.txt: not in docs/LOCKS.md: ${missing}`);
   const header = `lock ${lock} threads ${threads}\n`;
   const note = changes.some(({ run }) => !run.length) ? noteOf(document, lock) : '';
   return {

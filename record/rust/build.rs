@@ -6,9 +6,9 @@ use std::path::Path;
 use std::process::Command;
 
 /// In a package, and in the repository.
-const SOURCES: [&str; 2] = ["locktrace.c", "../locktrace.c"];
+const SOURCES: [&str; 2] = ["locktrace.c", "../../built/locktrace.c"];
 const MISSING: &str = "the feature `check` compiles locktrace.c, which is not here: copy \
-    record/locktrace.c of the repository beside the Cargo.toml of lockreplay-record, or take the \
+    built/locktrace.c of the repository beside the Cargo.toml of lockreplay-record, or take the \
     package that packaging/crate.sh writes";
 
 fn main() {

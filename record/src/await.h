@@ -38,7 +38,7 @@ static inline void lr_say_late(lr_run *run, unsigned seconds, int has_turns)
         lr_tell(run->said,
                 " has its turn and does not give it back: it blocks%s, or it has ended without "
                 "lr_end, or it polls without a note",
-                lr_lock_of(run->lock)->own ? ""
+                lt_lock_of(run->lock)->own ? ""
                                            : " (a monitor's operations go into LR_LOCK and "
                                              "LR_WAIT)");
     } else {

@@ -1,13 +1,12 @@
-/* Checks a run in the process, without a file, by the check that is compiled with the program:
-   locktrace.c, or liblk_trace_c.a. */
+/* Checks a run in the process, without a file, by locktrace.c, which is compiled with the program. */
 
 #if LR_CHECKS
 
 /* Checks a text: the fault, and what it is. Without locktrace.c the linker names this
    function. */
 static __attribute__((noinline, unused)) uint32_t
-lr_compile_record_locktrace_c_too(const lr_text *text, struct lt_step *steps, size_t room,
-                                  struct lt_answer *answer, char *why)
+lr_compile_built_locktrace_c_too(const lr_text *text, struct lt_step *steps, size_t room,
+                                 struct lt_answer *answer, char *why)
 {
     uint32_t fault = lt_check((const uint8_t *)text->bytes, text->length, steps, room, answer);
     size_t size = lt_fault_text(fault, (uint8_t *)why, LR_SAID - 1);
@@ -62,28 +61,15 @@ static inline int lr_is_beside(lr_run *run, size_t ordered, const struct lt_step
     return 0;
 }
 
-static inline void lr_tell_no_check(lr_run *run)
-{
-    run->lacks = ENOMEM;
-    lr_tell(run->said, "no memory for the check");
-}
-
 /* Appends to what is said why a run is refused. Returns 1 if it is, else 0. */
 static inline int lr_check_steps(lr_run *run, size_t ordered, const lr_text *text,
                                  struct lt_step *steps, int was_stopped)
 {
     struct lt_answer answer;
     char why[LR_SAID];
-    uint32_t fault = lr_compile_record_locktrace_c_too(text, steps, ordered + 1, &answer, why);
+    uint32_t fault = lr_compile_built_locktrace_c_too(text, steps, ordered + 1, &answer, why);
     if (!fault) return lr_is_beside(run, ordered, steps, was_stopped);
-    if (fault == LT_TOO_LONG) {
-        run->checked_first = (size_t)answer.moves;
-        return 0;
-    }
-    if (fault == LT_NO_MEMORY)
-        lr_tell_no_check(run);
-    else
-        lr_tell_fault(run, ordered, &answer, steps, why);
+    lr_tell_fault(run, ordered, &answer, steps, why);
     return 1;
 }
 
@@ -102,7 +88,8 @@ static inline int lr_check(lr_run *run)
     lr_print_moves(&text, run, ordered);
     run->said[0] = '\0';
     if (text.no_memory || !steps) {
-        lr_tell_no_check(run);
+        run->lacks = ENOMEM;
+        lr_tell(run->said, "no memory for the check");
     } else {
         is_wrong = lr_check_steps(run, ordered, &text, steps, ended_by[0] != 0);
     }
@@ -110,15 +97,6 @@ static inline int lr_check(lr_run *run)
     free(text.bytes);
     if (ended_by[0]) lr_tell(run->said, "%s%s", is_wrong ? "; " : "", ended_by);
     return is_wrong;
-}
-
-/* Says that a run was checked up to a move, which is no fault of it. */
-static inline void lr_say_unchecked(const lr_run *run)
-{
-    if (!run->checked_first) return;
-    lr_say("a run was checked up to its move %zu, and accepted until then: `locktrace check` "
-           "checks all of its moves",
-           run->checked_first);
 }
 
 /* Says that nothing was noted in a run, or in all runs of a search: then the check says nothing of

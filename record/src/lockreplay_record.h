@@ -55,8 +55,8 @@
      LR_MOVES=n      with EXPLORE: room for n moves of each thread (4,096)
      LR_REDUCE=0     with EXPLORE: runs are made that differ only in the order of steps on different
                      words, or in how often a thread looks at a word that nobody changes. A lock
-                     that counts its looks needs it. An operation without a point or a note is not
-                     seen as a step
+                     that counts its looks needs it if the line of a search says `repeated polls
+                     left out`. An operation without a point or a note is not seen as a step
 
    CALLS AND STEPS, each right after what it notes. A step on a word that no lock has it on is not
    compiled, and a counter's value takes the width of the counter.
@@ -135,7 +135,7 @@
 #include "monitor.h"
 #include "notes.h"
 #if LR_RECORDS
-#include "locks.h"
+#include "locktrace.h"
 #include "folder.h"
 #include "mapped.h"
 #include "watch.h"

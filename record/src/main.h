@@ -73,8 +73,9 @@ static inline const char *lr_verdict(const lr_explored *explored)
 {
     if (explored->is_refused) return "the last one is refused";
     if (!explored->has_noted) return "and nothing was noted in them";
-    return explored->is_complete ? "all of them accepted"
-                                 : "all of them accepted, and there are more";
+    if (!explored->is_complete) return "all of them accepted, and there are more";
+    return explored->leaves_out ? "repeated polls left out, all of them accepted"
+                                : "all of them accepted";
 }
 
 /* Whether runs were made, and accepted since nothing was noted in them. */
@@ -138,7 +139,6 @@ static inline int lr_main_run(const lr_driver *driver, unsigned threads, unsigne
     int is_refused = missing != 0;
 #if LR_CHECKS
     is_refused = lr_check(run) || is_refused;
-    lr_say_unchecked(run);
     if (!is_refused && !run->ordered) {
         lr_say_empty();
         is_refused = 1;

@@ -8,7 +8,7 @@ static inline int lr_is_wrong(const char *lock, unsigned threads, unsigned bits,
     static const char locks[] = "ticket, mcs, rw-simple or rw-fifo";
     /* clang-format on */
     /* end */
-    if (!lr_lock_of(lock))
+    if (!lt_lock_of(lock))
         lr_say("there is no lock '%s': %s", lock ? lock : "", locks);
     else if (threads < 1 || threads > LR_THREADS)
         lr_say("%u threads: a run has 1 to %d", threads, LR_THREADS);

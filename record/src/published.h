@@ -2,32 +2,6 @@
 
 #if LR_CHECKS
 
-#include "../locktrace.h"
-
-/* Whether two moves of two threads are on the same word. */
-static inline int lr_is_on_word(const lr_move *move, unsigned thread, const lr_move *other,
-                                unsigned by)
-{
-    unsigned place = lr_move_place(move), own = lr_move_owner(move), others = lr_move_owner(other);
-    if (place != lr_move_place(other) || !place) return 0;
-    if (place != LR_PLACE_next && place != LR_PLACE_locked) return 1;
-    return (own == LR_OWN ? thread : own) == (others == LR_OWN ? by : others);
-}
-
-/* The published lock's value in the word of a move, after the moves before place `at`. */
-static inline uint64_t lr_left_before(const lr_run *run, const struct lt_step *steps, size_t at,
-                                      const lr_move *move)
-{
-    size_t next[LR_THREADS] = {0};
-    uint64_t left = 0;
-    for (size_t i = 0; i < at; i++) {
-        unsigned by = run->order[i];
-        const lr_move *other = &run->logs[by].moves[next[by]++];
-        if (lr_is_on_word(move, run->order[at], other, by)) left = steps[i].left;
-    }
-    return left;
-}
-
 /* The move at a place in the order. */
 static inline const lr_move *lr_move_at(const lr_run *run, size_t at)
 {
@@ -53,34 +27,20 @@ enum { LR_WORD_TEXT = 24 };
    that is the thread. */
 static inline const char *lr_name_of(char *name, const lr_run *run, uint32_t word, uint32_t thread)
 {
-    const struct lr_lock *lock = lr_lock_of(run->lock);
-    if (word < lock->own) return lock->words[word];
-    const char *place = lock->words[lock->own + (word - lock->own) % lock->of_record];
-    uint32_t owner = (word - lock->own) / lock->of_record;
-    if (owner == thread) return place;
-    snprintf(name, LR_WORD_TEXT, "%s of %" PRIu32, place, owner);
+    uint32_t owner;
+    const char *text = lt_word_text(lt_lock_of(run->lock), word, &owner);
+    if (owner == thread || owner == LT_NO_WORD) return text;
+    snprintf(name, LR_WORD_TEXT, "%s of %" PRIu32, text, owner);
     return name;
-}
-
-static inline const char *lr_outcome(uint32_t outcome)
-{
-    static const char *const outcomes[] = {
-        /* generated: outcomes by number */
-        /* clang-format off */
-        "called", "moved", "waits", "entered", "left",
-        /* clang-format on */
-        /* end */
-    };
-    return outcomes[outcome];
 }
 
 /* Writes the published lock's step, as a trace has it, into at most LR_LINE bytes. */
 static inline const char *lr_text_of_step(char *line, const lr_run *run, const struct lt_step *step)
 {
-    const char *kind = lr_word(step->action - LT_READ + LR_STEP_read);
+    const char *kind = lt_move_text(step->action);
     char owned[LR_WORD_TEXT];
     if (step->action == LT_SECTION) {
-        snprintf(line, LR_LINE, "%s %s", kind, lr_outcome(step->outcome));
+        snprintf(line, LR_LINE, "%s %s", kind, lt_outcome_text(step->outcome));
         return line;
     }
     const char *name = lr_name_of(owned, run, step->word, step->thread);
@@ -109,7 +69,7 @@ static inline void lr_tell_step(lr_run *run, uint32_t fault, const struct lt_ste
         lr_tell(said, "'s compare-and-swap %s, it finds %" PRIu64,
                 step->found != step->left ? "is done" : "fails", step->found);
     else if (fault == LT_OTHER_OUTCOME)
-        lr_tell(said, " answers '%s' here", lr_outcome(step->outcome));
+        lr_tell(said, " answers '%s' here", lt_outcome_text(step->outcome));
     else
         lr_tell(said, "'s next step is '%s'", lr_text_of_step(text, run, step));
 }
@@ -151,7 +111,7 @@ static inline void lr_tell_record(lr_run *run, const lr_move *move)
 {
     unsigned place = lr_move_place(move);
     int is_pointer = place == LR_PLACE_tail || place == LR_PLACE_next;
-    if (!lr_lock_of(run->lock)->of_record) return;
+    if (!lt_lock_of(run->lock)->of_record) return;
     if (lr_move_owner(move) == LR_UNKNOWN || (is_pointer && move->value == LR_UNKNOWN + 1))
         lr_tell(run->said, ": no thread has this record (lr_own_record says whose it is)");
     else if (is_pointer && move->value > LR_THREADS)
@@ -167,8 +127,5 @@ static inline void lr_tell_published(lr_run *run, const struct lt_step *steps, s
         lr_tell_count(run, at);
     else if (steps[at].line)
         lr_tell_step(run, fault, &steps[at]);
-    else if (fault == LT_FOUND_OTHER)
-        lr_tell(run->said, ": the published lock has %" PRIu64,
-                lr_left_before(run, steps, at, lr_move_at(run, at)));
 }
 #endif

@@ -160,11 +160,10 @@ typedef struct lr_run {
     int hangs;
     unsigned char *order; /* whose each move is, up to the first that was dropped */
     size_t ordered;
-    size_t checked_first; /* the moves that were checked of a run with more of them, or 0 */
-    int is_cut;           /* a move was dropped */
-    unsigned spurious;    /* one turn in this many has a spurious wakeup */
-    size_t *changes;      /* with LR_PCT: at which turns the thread that runs becomes the last */
-    lr_line *lines;       /* of the schedule that is followed */
+    int is_cut;        /* a move was dropped */
+    unsigned spurious; /* one turn in this many has a spurious wakeup */
+    size_t *changes;   /* with LR_PCT: at which turns the thread that runs becomes the last */
+    lr_line *lines;    /* of the schedule that is followed */
     size_t lines_count, at;
     int is_at_end;            /* every line was made: each thread may come to its end */
     const unsigned char *way; /* what to choose first */
@@ -177,6 +176,7 @@ typedef struct lr_run {
     lr_step *steps;
     size_t stepped, steps_room;
     uint64_t preempted; /* those that made no step since they lost their turn */
+    int leaves_out;     /* a thread that had polled in vain could have polled again */
     lr_place unseen;    /* of the first note of a step whose operation had no point */
 } lr_run;
 

@@ -167,7 +167,6 @@ static inline int lr_call_one(const lr_driver *driver, const char *path, const c
     int is_wrong = run->said[0] != 0, fault = 0;
 #if LR_CHECKS
     is_wrong = lr_check(run) || is_wrong;
-    if (!is_wrong) lr_say_unchecked(run);
 #endif
     called->schedules++;
     called->refused += (unsigned)is_wrong;

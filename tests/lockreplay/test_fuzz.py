@@ -1,10 +1,11 @@
 """`lockreplay` and the oracle give the same bytes, on the stored texts and on random ones.
 
-Hypothesis draws small random texts, and shrinks a text whose report differs. For --fuzz-seconds the
-fuzzer draws rounds of longer texts, one of which is at a limit of size. It replays each round as a
-batch with 2 workers, the accepted texts of the round as a second batch, and a few texts one by one.
-It shortens a text whose report differs, and stores the whole and the shortened text in found/.
-After the fix, add the shortened text to the corpus under a name that says what is special about it.
+Hypothesis draws small random texts, and shrinks a text whose report differs. For --fuzz-seconds, of
+which each program has half, the fuzzer draws rounds of longer texts, one of which is at a limit of
+size. It replays each round as a batch with 2 workers, the accepted texts of the round as a second
+batch, and a few texts one by one. It shortens a text whose report differs, and stores the whole and
+the shortened text in found/. After the fix, add the shortened text to the corpus under a name that
+says what is special about it.
 """
 import random
 import time
@@ -108,7 +109,7 @@ def is_round_right(replayer, chance, texts, reports):
 def test_random_texts(replayer, pytestconfig, record_property):
     seed, tried = int(pytestconfig.getoption("hypothesis_seed")), 0
     chance = random.Random(seed)
-    until = time.monotonic() + pytestconfig.getoption("fuzz_seconds")
+    until = time.monotonic() + pytestconfig.getoption("fuzz_seconds") / 2
     while tried == 0 or time.monotonic() < until:
         texts = [schedules.random_text(chance, LONGEST) for _ in range(ROUND - 1)]
         texts.append(schedules.limit_text(chance))

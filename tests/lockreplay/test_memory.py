@@ -1,6 +1,7 @@
 """`lockreplay` when memory is short, and when one request for memory after another is refused.
 
-The program gives the same answer as with ample memory, or nothing but its out-of-memory line.
+The program gives the same answer as with ample memory, or nothing but its out-of-memory line. In C
+it requests no memory to read its words, and none that depends on the fault of a text.
 """
 import pytest
 
@@ -12,6 +13,7 @@ from worked_rows import most_moves, rows
 MEMORY = (b"", b"lockreplay: out of memory\n", 3)
 EMPTY, EMPTY_REPORT = b"lock ticket threads 1\n", b"end 0\n"
 SPINS = most_moves()
+NATIVE = pytest.mark.parametrize("lockreplay", ["native"], indirect=True)
 LIMITS = (3, 4, 5, 6, 8, 12, 16, 24, 32, 48, 64, 80, 96, 128, 160, 256, 512)  # in MB
 
 
@@ -65,6 +67,7 @@ def needed_by_a_late_fault(lockreplay, tmp_path_factory):
                   b"fault line 2 BadLine\n")
 
 
+@NATIVE
 @cases("text, fault", {
     "NoHeader": (b"#" * len(MOVES), b"fault line 2 NoHeader\n"),
     "BadHeader": (b"lock clh threads 64\n" + MOVES, b"fault line 1 BadHeader\n"),
@@ -112,10 +115,17 @@ def answers(report, status):
 ENDED = b"file 1\nend 0\nfile 2\nrefused line 2 NotHolder\nfile 3\nfault line 1 NoHeader\n"
 
 
-@cases("words, text, is_due", {
-    **{words or "no words": (words.split(), b"", is_usage) for words in (
+@NATIVE
+@cases("words, is_due", {
+    **{words or "no words": (words.split(), is_usage) for words in (
         "batch --workers 1", "batch --workers 9 empty", "batch empty", "replay x", "play", "")},
-    **{words: (words.split(), b"", is_help) for words in ("--help", "batch --help")},
+    **{words: (words.split(), is_help) for words in ("--help", "batch --help")},
+})
+def test_requests_of_words(refusing, words, is_due):
+    refuse_each(refusing, words, b"", is_due)
+
+
+@cases("words, text, is_due", {
     "replay": (["replay"], EMPTY, answers(EMPTY_REPORT, 0)),
     "batch --workers 1 empty": (["batch", "--workers", "1", "empty"], b"",
                                 answers(b"file 1\nend 0\n", 0)),

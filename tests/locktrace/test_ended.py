@@ -60,6 +60,10 @@ class Ending:
         """(status, standard error) of a run that is ended at the change of this number."""
         shutil.rmtree(self.made)
         shutil.copytree(self.kept, self.made)
+        return self.go_on(number, is_full)
+
+    def go_on(self, number, is_full):
+        """The same of a run in the folder as it is."""
         done = subprocess.run(
             [self.tracer.path, *self.words], cwd=self.tracer.folder, capture_output=True,
             text=True, check=False, env=environment(
@@ -103,6 +107,31 @@ def test_disk_that_is_full_at_each_change(ending):
         assert files_in(ending.made) == ending.before, number
         ending.again()
     assert number > 3
+
+
+def test_disk_that_is_full_after_a_kill(ending):
+    """The next run removes what the killed one left, and nothing of the earlier files."""
+    number = 0
+    while ending.run(number + 1, False)[0] != 0:
+        number += 1
+        left = files_in(ending.made)
+        if {**left, **ending.before} != left:
+            break
+        status, error = ending.go_on(2, True)
+        assert status == 3 and error.endswith(": No space left on device (os error 28)\n"), number
+        assert files_in(ending.made) == ending.before, number
+    assert number > 3
+
+
+def test_smaller_tour_after_a_kill(tracer, library):
+    """The folder has its files, and none of those that the killed tour began."""
+    ending, number = Ending(tracer, library, *COMMANDS["a smaller tour"][::-1]), 0
+    words, due = COMMANDS["a smaller tour"][1], ending.before
+    while ending.run(number + 1, False)[0] != 0:
+        number += 1
+        assert tracer.run(*words)[1:] == ("", 0)
+        assert files_in(ending.made) == due, number
+    assert number > 8
 
 
 def test_killed_again_and_again(ending):

@@ -8,7 +8,7 @@ import search_rows
 from spaces import searched
 from tree import cases
 
-ENDS = "from each all calls can end, and in none only failed polls are possible"
+ENDS = "dead ends: none (proved for every size)"
 TICKET_DRAWN = r"""digraph "ticket, 1 thread with 1 round" {
   node [shape=box]
   0 [label="next_ticket = 0, now_serving = 0\n0 Idle\nrounds begun: 0"]
@@ -33,7 +33,6 @@ def test_counts_of_the_program(tracer, row, counts, _):
     found = json.loads(tracer.output("space", row.lock, row.threads, "--rounds", row.rounds,
                                      "--bits", row.bits, "--format", "json"))
     assert tuple(found[name] for name in counts._fields) == counts
-    assert found["dead_ends"] == 0
 
 
 @cases("words, due", {
@@ -41,22 +40,20 @@ def test_counts_of_the_program(tracer, row, counts, _):
              f"18 moves to the farthest state; {ENDS}\n"),
     "JSON": ("ticket 2 --rounds 3 --bits 2 --format json",
              '{"lock":"ticket","threads":2,"rounds":3,"bits":2,"states":289,"transitions":540,'
-             '"depth":36,"dead_ends":0}\n'),
+             '"depth":36}\n'),
     "narrow counters": ("ticket 3 --bits 2", "ticket, 3 threads with any number of rounds each: "
                         "512 states, 1,536 transitions, 27 moves to the farthest state; "
                         f"{ENDS}\n"),
     "no counters": ("mcs 2 --format json",
                     '{"lock":"mcs","threads":2,"rounds":"any","bits":64,"states":89,'
-                    '"transitions":178,"depth":18,"dead_ends":0}\n'),
+                    '"transitions":178,"depth":18}\n'),
     # of each value of the counters as many as with 2 bits, whose counts are in spaces.txt
     "counters that pass a byte": ("ticket 2 --rounds any --bits 9 --format json",
                                   '{"lock":"ticket","threads":2,"rounds":"any","bits":9,'
-                                  '"states":14336,"transitions":28672,"depth":3073,'
-                                  '"dead_ends":0}\n'),
+                                  '"states":14336,"transitions":28672,"depth":3073}\n'),
     "a count that passes a byte": ("rw-fifo 2 --rounds any --bits 9 --format json",
                                    '{"lock":"rw-fifo","threads":2,"rounds":"any","bits":9,'
-                                   '"states":27136,"transitions":66560,"depth":2051,'
-                                   '"dead_ends":0}\n'),
+                                   '"states":27136,"transitions":66560,"depth":2051}\n'),
     "the greatest limit": ("ticket 1 --limit 4000000000",
                            "ticket, 1 thread with 1 round: 7 states, 6 transitions, "
                            f"6 moves to the farthest state; {ENDS}\n"),

@@ -140,9 +140,9 @@ def test_four_threads_are_the_most(tracer):
 @pytest.mark.parametrize("lock", LOCKS)
 def test_what_the_page_has(tracer, lock):
     """`make generate` writes it."""
-    kept = (TOP / "page" / "why" / f"{lock}.txt").read_text()
+    kept = (TOP / "built" / "why" / f"{lock}.txt").read_text()
     assert tracer.run("why", lock, "--runs") == (kept, "", 0)
 
 
 def test_the_page_has_each_lock():
-    assert {path.stem for path in (TOP / "page" / "why").iterdir()} == {*LOCKS}
+    assert {path.stem for path in (TOP / "built" / "why").iterdir()} == {*LOCKS}

@@ -3,7 +3,7 @@ import base64
 
 from tree import TOP
 
-PAGE = TOP / "page" / "lockreplay.html"
+PAGE = TOP / "built" / "lockreplay.html"
 MADE = ["--page", "made.html", "--from", PAGE]
 GOOD = """# Two threads of an MCS lock
 lock mcs threads 2

@@ -15,13 +15,15 @@ LICENCE = "SPDX-License-Identifier: Apache-2.0 OR MIT"
 # The command that builds each part.
 BUILDS = {BUILT["lockreplay"][0]: "cd crates/lockreplay && rt run",
           BUILT["locktrace"][0]: "cd crates/locktrace && rt run",
-          BUILT["library"][0]: "cd crates/lk_trace_c && rt lib",
-          "page/lockreplay.html": "node page/build.mjs"}
-DOCUMENTS = """*.md CITATION.cff VERSION LICENSE-* THIRD-PARTY docs/*.md docs/pictures/*
-    page/lockreplay.html examples/*.* examples/recording/* examples/bindings/*.py record/*.[ch]
-    record/rust/Cargo.* record/rust/build.rs record/rust/README.md record/rust/src/*.rs
+          "built/lockreplay.html": "node page/build.mjs"}
+DOCUMENTS = """*.md CITATION.cff VERSION LICENSE-* THIRD-PARTY HANDLES crates.txt docs/*.md
+    docs/pictures/* */lockreplay.html examples/*.* examples/recording/* examples/bindings/*
+    built/*.[ch] record/rust/Cargo.* record/rust/build.rs record/rust/README.md record/rust/src/*.rs
     record/rust/examples/**/*.rs
-    crates/*/specs/**/*.antt"""
+    crates/*/specs/**/*.antt crates/*/README.md crates/*.md
+    crates/surface/src/*.rt"""
+# The crates that a program in Rattle uses, whole
+LIBRARY = ("lk_words", "lk_locks", "lk_lines", "lk_replay", "lk_workers")
 
 
 def files(folder):
@@ -30,10 +32,11 @@ def files(folder):
 
 def due_files():
     """The path of each file to install. Empty files, such as lists of no modules, are left out."""
-    found = {path for pattern in DOCUMENTS.split() for path in TOP.glob(pattern)}
-    return {"bin/lockreplay", "bin/locktrace", "lib/liblk_trace_c.a", "lib/pkgconfig/locktrace.pc",
-            "share/pkgconfig/lockreplay-record.pc", "include/locktrace.h",
-            "include/lockreplay_record.h",
+    whole = [f"crates/{name}/{files}" for name in LIBRARY
+             for files in ("src/**/*.rt", "proofs/**/*.antt")]
+    found = {path for pattern in [*DOCUMENTS.split(), *whole] for path in TOP.glob(pattern)}
+    return {"bin/lockreplay", "bin/locktrace", "include/locktrace.h", "include/lockreplay_record.h",
+            "share/pkgconfig/lockreplay-record.pc",
             *(f"share/man/man{page[-1]}/{page}" for page in MANUALS),
             *(place.format(name) for name in ("lockreplay", "locktrace") for place in (
                 "share/bash-completion/completions/{}", "share/zsh/site-functions/_{}",
@@ -69,7 +72,8 @@ def test_licences(installed):
     documents = installed / "share" / "doc" / "lockreplay"
     alone = [*installed.glob("include/**/*.h"), *documents.glob("examples/recording/*.[ch]"),
              *documents.glob("examples/**/*.sh"), *documents.glob("examples/bindings/*"),
-             *documents.glob("record/**/*.[hr]*"), *documents.glob("page/*")]
+             *documents.glob("built/*.[ch]"), *documents.glob("record/**/*.r*"),
+             *documents.glob("*/lockreplay.html")]
     assert len(alone) >= 50
     assert [file.name for file in alone if LICENCE not in file.read_text()] == []
     assert (documents / "LICENSE-APACHE").read_text() == Path(
@@ -81,12 +85,12 @@ def test_licences(installed):
         assert "Permission is hereby granted" in notices[crate]
 
 
-@pytest.mark.parametrize("part", [*BUILDS, "record/locktrace.h", "packaging/man/locktrace.1"])
+@pytest.mark.parametrize("part", [*BUILDS, "built/locktrace.c", "packaging/man/locktrace.1"])
 @pytest.mark.parametrize("is_empty", [False, True])
 def test_missing_part(tmp_path, part, is_empty):
     """If a part is missing or empty, install.sh names it and installs nothing."""
     copy, root = tmp_path / "copy", tmp_path / "nothing"
-    assert all(built(name).is_file() for name in ("lockreplay", "locktrace", "library"))
+    assert all(built(name).is_file() for name in ("lockreplay", "locktrace"))
     for pattern in [*DOCUMENTS.split(), "packaging/**/*", *BUILDS]:
         for file in filter(Path.is_file, TOP.glob(pattern)):
             (copy / file.relative_to(TOP)).parent.mkdir(parents=True, exist_ok=True)
@@ -103,4 +107,4 @@ def test_missing_part(tmp_path, part, is_empty):
 def test_stale_parts(target):
     """A newer source makes each target build all parts, but `install-built` builds none."""
     told = make("--dry-run", "--what-if=crates/lk_words/src/lib.rt", target)
-    assert [command in told for command in BUILDS.values()] == [target != "install-built"] * 4
+    assert [command in told for command in BUILDS.values()] == [target != "install-built"] * 3

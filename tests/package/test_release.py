@@ -16,8 +16,8 @@ def field(made):
 def test_control(field):
     assert field("Version") == VERSION
     assert re.fullmatch(r"libc6 \(>= 2\.(\d+)\)", field("Depends"))
-    for part in ("locktrace", "page", "liblk_trace_c.a", "lockreplay_record.h", "Python",
-                 "x86-64-v2", "WebAssembly"):
+    for part in ("locktrace", "page", "locktrace.c", "lockreplay.c", "lockreplay_record.h",
+                 "Python", "x86-64-v2", "WebAssembly"):
         assert part in field("Description")
 
 
@@ -49,8 +49,7 @@ class Release:
 
     def __init__(self, folder):
         self.tree = folder
-        copy_files(folder, [built(name).relative_to(TOP)
-                            for name in ("lockreplay", "locktrace", "library")])
+        copy_files(folder, [built(name).relative_to(TOP) for name in ("lockreplay", "locktrace")])
         log = folder / "CHANGELOG.md"
         log.write_text(re.sub(r"(## \[Unreleased\]\n).*?(?=^## \[\d)", r"\1\n", log.read_text(),
                               flags=re.MULTILINE | re.DOTALL))

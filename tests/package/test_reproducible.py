@@ -1,8 +1,8 @@
-"""Tarball, package, programs, library and module have the same bytes on other machines.
+"""Tarball, package, programs and module have the same bytes on other machines.
 
 A minimal Debian 12 and a minimal Debian 13 make the tarball and the package, each from two trees:
 a tree without git, and a shallow clone that another user owns, with another umask and time zone and
-on one processor. Debian 12 also builds programs, library and module anew over the kept proofs, so
+on one processor. Debian 12 also builds programs and module anew over the kept proofs, so
 nothing is proved again. Every file has to equal the one here, byte for byte.
 """
 import shutil
@@ -14,7 +14,7 @@ from installs import copy_files, in_root, make_root
 from tree import BUILT, TOP, output
 
 PACKAGES = ("binutils", "debhelper", "dpkg-dev", "git", "make", "python3")
-PACKAGED = [BUILT[name][0] for name in ("lockreplay", "locktrace", "library")]
+PACKAGED = [BUILT[name][0] for name in ("lockreplay", "locktrace")]
 # The front of each command in the tree without git, and in the clone.
 TREES = {"srv/plain": "", "home/another/shallow":
          "umask 077 && TZ=Asia/Tokyo SOURCE_DATE_EPOCH=1 taskset --cpu-list 0 "}

@@ -99,7 +99,7 @@ def test_search(site):
     """The search finds the document with a word, and says when none has it, without a server."""
     address = f"file://{site}/search.html?q="
     found = output(*CHROMIUM, "--dump-dom", f"{address}planted", stderr=None)
-    assert 'href="docs/PLANTED.html' in found.partition('id="search-results"')[2]
+    assert 'href="docs/RECORDING.html' in found.partition('id="search-results"')[2]
     none = output(*CHROMIUM, "--dump-dom", f"{address}nosuchwordhere", stderr=None)
     assert "did not match any documents" in none
 

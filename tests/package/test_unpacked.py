@@ -1,7 +1,7 @@
 """The installed tree, the tarball and the Debian package need nothing but the C library.
 
 Programs run with an empty environment under `chroot`, in a root that has only the tree and the C
-library. Expected texts were made by hand. C and Python use the headers and the library as a user
+library. Expected texts were made by hand. C and Python use the headers and the C files as a user
 would.
 """
 import re
@@ -17,7 +17,6 @@ from tree import VERSION, cases, environment, output
 
 DEBIAN_12 = (2, 36)  # the version of its glibc
 PROGRAMS = ("lockreplay", "locktrace")
-FOLDERS = ("share", "lib", "lib/x86_64-linux-gnu")
 WARNINGS = ["-O2", "-Wall", "-Wextra", "-Werror"]
 
 
@@ -104,7 +103,7 @@ def test_libraries(tree, name):
 @pytest.fixture
 def asked(tree):
     """Asks pkg-config about the packages of the tree."""
-    path = ":".join(f"{tree.tree}/{folder}/pkgconfig" for folder in FOLDERS)
+    path = f"{tree.tree}/share/pkgconfig"
     return lambda *words: output("pkg-config", *words,
                                  env=environment(PKG_CONFIG_PATH=path)).split()
 
@@ -128,17 +127,27 @@ int main(void)
 """
 
 
-@cases("name, text, flags", {
-    "recording": ("lockreplay-record", RECORDS, ["-DLR_MODE=VALUES"]),
-    "checking": ("locktrace", CHECKS, []),
+@cases("text, words", {
+    "recording": (RECORDS, ["-DLR_MODE=VALUES"]),
+    "checking": (CHECKS, ["{documents}/built/locktrace.c"]),
 })
-def test_program_of_a_few_lines(asked, tmp_path, name, text, flags):
+def test_program_of_a_few_lines(tree, asked, tmp_path, text, words):
     """A short program builds outside the tree with the flags of pkg-config, and runs."""
-    assert asked("--modversion", name) == [VERSION]
+    assert asked("--modversion", "lockreplay-record") == [VERSION]
     (tmp_path / "it.c").write_text(text)
-    assert output("cc", *WARNINGS, *flags, "it.c", *asked("--cflags", "--libs", name), "-o", "it",
-                  cwd=tmp_path) == ""
+    words = [word.format(documents=tree.documents) for word in words]
+    assert output("cc", *WARNINGS, *words, "it.c", *asked("--cflags", "--libs",
+                  "lockreplay-record"), "-o", "it", cwd=tmp_path) == ""
     assert output(tmp_path / "it") == ""
+
+
+def test_replay_in_c(tree, tmp_path):
+    """The installed source of the replay is one file, and compiles by itself."""
+    assert output("cc", *WARNINGS, "-pthread", tree.documents / "built" / "lockreplay.c", "-o",
+                  tmp_path / "lockreplay") == ""
+    lesson = tree.documents / "examples" / "ticket-hand-over"
+    assert output(tmp_path / "lockreplay", "replay", input=lesson.with_suffix(
+        ".schedule").read_text()) == lesson.with_suffix(".report").read_text()
 
 
 def test_recorded_lock(tree, asked, tmp_path):
@@ -151,11 +160,9 @@ def test_recorded_lock(tree, asked, tmp_path):
         "run.trace", "thread-0.log", "thread-1.log", "thread-2.log"]
 
 
-def test_tour_is_followed(tree, asked, tmp_path):
+def test_tour_is_followed(tree, tmp_path):
     """A lock of the examples follows a tour. Without a tour the script says how to write one."""
-    [libraries] = asked("--variable=libdir", "locktrace")
-    words = [tree.documents / "examples/recording/conform.sh", f"{libraries}/liblk_trace_c.a",
-             "ticket", tmp_path]
+    words = [tree.documents / "examples/recording/conform.sh", "ticket", tmp_path]
     assert output(*words) == (f"status 3: conform.sh: {tmp_path} has no schedules: write some with "
                               "locktrace tour LOCK THREADS -o FOLDER\n")
     written = output(tree.program("locktrace"), "tour", "ticket", "2", "-o", tmp_path)
@@ -166,13 +173,12 @@ def test_tour_is_followed(tree, asked, tmp_path):
 ACCEPTED = "lock ticket threads 1\n0 acquire\n0 add next_ticket found 0\n"
 
 
-def test_binding_for_python(tree, asked, tmp_path):
+def test_binding_for_python(tree, tmp_path):
     """The binding works with the shared library that the command in its head makes."""
     binding = tree.documents / "examples/bindings/locktrace.py"
     [command] = [line for line in binding.read_text().splitlines()
                  if line.startswith("    cc -shared")]
-    [libraries] = asked("--variable=libdir", "locktrace")
-    assert output("sh", "-c", command.replace("-o ", f"-o {tmp_path}/"), cwd=libraries) == ""
+    assert output("sh", "-c", command.replace("-o ", f"-o {tmp_path}/"), cwd=tree.documents) == ""
     words = [sys.executable, binding, tmp_path / "liblocktrace.so"]
     (tmp_path / "accepted").write_text(ACCEPTED)
     (tmp_path / "refused").write_text(ACCEPTED.replace("found 0", "found 3"))

@@ -7,3 +7,7 @@ function isAt(url) {
   const hasBegun = url.startsWith('about:') ? document.readyState === 'complete' : isThere();
   return hasBegun && location.href.split('#')[0] === url;
 }
+
+// A page that is about to be loaded again gets a mark, which the new page does not have.
+const markAsOld = () => { window.isOldPage = true; };
+const isOld = () => Boolean(window.isOldPage);

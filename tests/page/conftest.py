@@ -7,10 +7,14 @@ import websocket
 
 from bidi import BROWSERS
 from tab import Tab
+from tree import BUILT, TOP, built
 
 HERE = Path(__file__).parent
 # The fixtures that are built. All other tests of this folder need only the committed page.
-BUILT = {"lockreplay", "locktrace", "module"}
+PROGRAMS = {"lockreplay", "locktrace"}
+FIXTURES = {*PROGRAMS, "module"}
+# The page's own module, which `make page` takes out of it without the kit
+OWN = TOP / "out" / "lockreplay.wasm"
 
 
 def pytest_collection_modifyitems(items):
@@ -18,8 +22,17 @@ def pytest_collection_modifyitems(items):
     for item in items:
         if HERE in item.path.parents:
             item.add_marker("browser")
-            if BUILT & set(item.fixturenames):
+            if FIXTURES & set(item.fixturenames):
                 item.add_marker("built")
+            if PROGRAMS & set(item.fixturenames):
+                item.add_marker("program")
+
+
+@pytest.fixture(scope="session")
+def module():
+    """The module that the kit has built, or else the one that the page has."""
+    has_own = OWN.exists() and not (TOP / BUILT["module"][0]).exists()
+    return OWN if has_own else built("module")
 
 
 class Open(contextlib.ExitStack):

@@ -63,8 +63,8 @@ for (const { name, text } of examples().filter((one) => ARROWS[one.name])) {
 // after the swap links an MCS record. An activity that has not ended lasts beyond the last move.
 const SPANS = {
   'mcs-late-link': [['call 1 3', 'holds 3 15'], ['call 4 8', 'queue 8 16', 'holds 16 17']],
-  'ticket-hand-over': [['call 4 5', 'queue 5 10', 'holds 10 11'],
-    ['call 1 2', 'queue 2 3', 'holds 3 9']],
+  'ticket-hand-over': [['call 1 2', 'queue 2 3', 'holds 3 9'],
+    ['call 4 5', 'queue 5 10', 'holds 10 11']],
   'fifo-reader-waits-behind-writer': [['call 1 2', 'reads 2 9'],
     ['call 3 4', 'queue 4 11', 'writes 11 14'], ['call 5 15', 'reads 15 16']],
 };
@@ -101,7 +101,7 @@ const CAPTIONS = {
     12: 'Ann is followed by Bob, and only Bob knows.', 14: 'Every link of the queue is written.',
   },
   'simple-reader-passes-writer': { 0: 'Nobody is inside, readers 0, flag 0.' },
-  'fifo-writer-enters-at-once': { 2: 'Thread 0 writes, readAcquires 0, readReleases 0, flag 1.' },
+  'fifo-writer-enters-at-once': { 2: 'Ann writes, readAcquires 0, readReleases 0, flag 1.' },
 };
 learnWords(words);
 for (const { name, text } of examples().filter((one) => CAPTIONS[one.name])) {

@@ -3,14 +3,14 @@
 const PARTS = ['time', 'memory', 'code', 'now'];
 
 function step() {
-  const asked = all('#bar .question, #bar .plan-say, #lecture, #position, #current b');
+  const asked = all('#bar .question, #lecture, #position, #current b');
   const now = byId('now');
   return {
     place: place(), hall: document.body.classList.contains('hall'),
     parts: PARTS.filter((id) => byId(id).checkVisibility()), compares: !byId('other').hidden,
     question: text('#bar .question p'), answers: count('#bar .question details[open]'),
     answer: text('#bar .question details[open] p'),
-    step: text('#lecture span'), clock: text('#lecture-clock'), sheet: byId('sheets').open,
+    step: text('#lecture span'), sheet: byId('sheets').open,
     isSeen: asked.every((one) => inside(rect(one), screenBox()))
       && now.scrollHeight <= now.clientHeight + 1
       && document.documentElement.scrollHeight <= innerHeight + 1,
@@ -46,7 +46,11 @@ function wait(minutes) {
   Date.now = () => now() + minutes * 60000;
 }
 
-const clockBegins = (sign) => text('#lecture-clock').startsWith(sign);
+// Where a lecture is: the plan by its lock, the step, the move, whether the answer is shown, and
+// whether the plan has ended.
+const where = () => [
+  attribute('#lecture span', 'title'), text('#lecture span'), port.state().lesson, place(),
+  count('#bar .question details[open]'), byId('lecture-end').open];
 
 // Keeps the window that the page opens as window.opened, and all of them as window.everOpened.
 function keepWindows() {
@@ -72,6 +76,8 @@ const pressThere = (name, held) => {
 // The keys that do nothing in the second window itself.
 const takenThere = (names) => names.filter((name) => !window.opened.dispatchEvent(
   new KeyboardEvent('keydown', { key: name, cancelable: true })));
+const clockThere = () => window.opened.document.querySelector('.clock b').textContent;
+const picturesThere = () => window.opened.document.querySelectorAll('.picture svg').length;
 const stylesThere = () => window.opened.document.querySelectorAll('style').length;
 const languageThere = () => window.opened.document.documentElement.lang;
 const windowThere = () => {
@@ -79,6 +85,8 @@ const windowThere = () => {
   return [title, body.className, head.textContent.includes(pick('style').textContent)];
 };
 const themeThere = () => window.opened.document.documentElement.dataset.theme;
+// The page writes its address a moment after a move.
+const addressHas = (part) => location.hash.includes(part);
 const closeThere = () => window.opened?.close();
 
 // The sentence on each move, with the answer to its question shown.

@@ -22,10 +22,10 @@ const answerIsOpen = () => pick('#now .question details')?.open ?? null;
 
 const wrote = (moves) => atEach(moves, () => pick('dd.wrote').textContent);
 
-// The sentence on each of these moves, after its answer is shown.
+// What the machine says of each of these moves, after its answer is shown.
 const said = (moves) => atEach(moves, () => {
   key('a');
-  return text('#now .say');
+  return text('#now .say:not(.own-say), #now details.aside > p.aside');
 });
 
 // The record at which, or just before which, each pointer ends.

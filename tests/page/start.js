@@ -34,6 +34,12 @@ const ticked = () => all('#lessons [data-lesson]').filter((one) => one.textConte
 const inHall = () => document.body.classList.contains('hall');
 const topOf = (selector) => rect(selector).top;
 
+// The words of the prologue, its moves so far, and what is said.
+const prologue = () => ({
+  words: texts('#prologue dd'), moves: texts('#prologue td').filter((one) => one),
+  said: text('#prologue [role=status]'),
+});
+
 // The explanation of a term in a part, and whether all of it is on the screen with nothing over it.
 // It begins where the term does, unless it would go beyond the edge.
 function explained(part, term) {

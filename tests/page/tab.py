@@ -13,7 +13,7 @@ from tree import TOP
 
 HERE = Path(__file__).parent
 # Another page than the built one, in which a mistake was planted.
-PAGE = Path(os.environ.get("LOCKREPLAY_PAGE", TOP / "page" / "lockreplay.html"))
+PAGE = Path(os.environ.get("LOCKREPLAY_PAGE", TOP / "built" / "lockreplay.html"))
 OWN = ("about:", "data:", "blob:")
 PATIENCE = 60  # seconds
 # How many seconds one question waits for an answer while a page loads.
@@ -118,11 +118,11 @@ class Tab:
         self.no_longer("forget")
         return self
 
-    def load(self, url):
-        """Goes to a page and waits for it. The browser can lose its event if another process takes
-        over the tab, so the tab asks the page itself."""
+    def load(self, url, forwards=""):
+        """Goes to a page and waits for it, or for the one to which it forwards. The browser can
+        lose its event if another process takes over the tab, so the tab asks the page itself."""
         self.ask("browsingContext.navigate", url=url, wait="none")
-        place = [url.partition("#")[0]]
+        place = [forwards or url.partition("#")[0]]
         self.wait(lambda: self.tried(self.run, BEGAN, "isAt(...JSON.parse(values))", place),
                   lambda: f"{url} did not load")
 
@@ -137,8 +137,12 @@ class Tab:
             self.browser.socket.settimeout(LONGEST)
 
     def reload(self):
-        self.ask("browsingContext.reload", wait="complete")
-        self.until("isThere")
+        """Loads the page anew. The browser may answer while the old page is still there, as
+        Firefox does after a window was closed, so the tab asks until a page without a mark is."""
+        self.call("markAsOld")
+        self.ask("browsingContext.reload", wait="none")
+        self.wait(lambda: self.tried(self.run, BEGAN, "isThere() && !isOld()", []),
+                  lambda: "the page did not load again")
         return self
 
     def resize(self, width, height):

@@ -23,7 +23,7 @@ def test_lanes_are_chosen(page):
     page.open(LATE_LINK).call("focus", "#lanes").press("ArrowDown")
     label, chosen, place, focused = page.js("lane")
     assert label.startswith("Ann, holds. 1 acquire called, 2 write moved, 3 swap entered"), label
-    assert label.endswith("9 cas moved") and (chosen, place, focused) == ("true", 9, "lanes"), place
+    assert label.endswith("9 cas fails") and (chosen, place, focused) == ("true", 9, "lanes"), place
     assert page.press("ArrowDown").js("lane")[0].startswith("Bob, queue. 4 acquire called")
     label, _, place, focused = page.press("Enter").js("lane")
     assert (place, focused) == (12, "lanes") and label.endswith("12 write moved"), label
@@ -32,7 +32,10 @@ def test_lanes_are_chosen(page):
 
 def test_what_is_read_aloud(page):
     spoken = page.open("#lesson=mcs-late-link&move=10").text("#spoken")
-    assert spoken.startswith("Move 10 of 16. Ann, read, waits. Ann polls its own next")
+    assert spoken.startswith("Move 10 of 16. Ann, read, waits. So somebody is behind her. ")
+    assert " Ann polls its own next" in spoken
+    assert page.go(9).text("#spoken").startswith("Move 9 of 16. Ann, cas, fails. ")
+    page.go(10)
     assert page.js("attribute", "#spoken", "aria-live") == "polite"
     assert page.js("texts", "[aria-current=step]") == ["await succ := me.next A"]
     here, beside = page.js("groundsOfLines")

@@ -1,4 +1,7 @@
 """When the address is written, what a browser may refuse, and where a schedule was left."""
+from tab import PAGE
+from tree import TOP
+
 MINE = "#! title Mine\nlock ticket threads 2\n0 acquire\n0 add\n0 read\n"
 LATE_LINK = "#lesson=mcs-late-link&move=2"
 
@@ -30,3 +33,12 @@ def test_the_last_place_of_what_is_left_twice(page):
     before that and the browser had no time to keep it."""
     page.open(LATE_LINK).call("leaveTwice", MINE, "ticket-hand-over").press("Escape", "o")
     assert page.js("texts", "#lessons [data-kept]") == ["Mine at move 2"]
+
+
+def test_the_old_place(page):
+    """The page's old place forwards to it, with all that a link asks for."""
+    page.path = TOP
+    old = (TOP / "page" / "lockreplay.html").as_uri()
+    page.load(f"{old}?from=old{LATE_LINK}", f"{PAGE.as_uri()}?from=old")
+    page.shown(lesson="mcs-late-link", place=2)
+    assert page.js("address") == LATE_LINK

@@ -153,13 +153,6 @@ def test_a_lecture_after_a_comparison(page):
     assert page.press("c").js("offered")
 
 
-def test_a_first_move_that_differs(page):
-    """Two lessons differ at move 1, which different threads make."""
-    page.open("#lesson=ticket-hand-over&move=1").press("c").click("#choose-other [data-other='1']")
-    assert page.js("compared")["first"] == (
-        "Compared with: Tickets wrap around First difference: move 1")
-
-
 REFUSED = "lock ticket threads 2\n0 acquire\n0 read\n"
 
 
@@ -167,6 +160,13 @@ def compared_with(page, text, other):
     """Shows a schedule beside another one, which was shown before and is chosen."""
     page.open("#lesson=ticket-hand-over&move=0&future").show(f"#! title Other\n{other}").show(text)
     page.call("leave").press("Escape", "c").call("click", "#choose-other [data-other='0']")
+
+
+def test_a_first_move_that_differs(page):
+    """Two schedules differ at move 1, which different threads make."""
+    first = "lock ticket threads 2\n{} acquire\n"
+    compared_with(page, first.format(0), first.format(1))
+    assert page.go(1).js("compared")["first"] == "Compared with: Other First difference: move 1"
 
 
 def test_a_refused_move_beside_an_accepted_one(page):

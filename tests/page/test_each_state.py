@@ -192,7 +192,8 @@ def check_facts(replay, at, state, move, shown):
     assert shown["head"] == f"{at}{who}, {move.word}{'cas fails' if shape == 'fails' else shape}"
     assert shown["outcome"] == shape and shown["means"], "its tip says what it means"
     assert shown["spoken"].startswith(
-        f"Move {at} of {len(replay.moves)}. {who}, {move.word}, {move.outcome}. ")
+        f"Move {at} of {len(replay.moves)}. {who}, {move.word}, "
+        f"{'fails' if shape == 'fails' else move.outcome}. ")
 
 
 def check_paper(page, replay, moves):

@@ -31,7 +31,7 @@ WORDS = {
     "ticket-hand-over": (["next_ticket", "now_serving"], []),
     "mcs-late-link": (["tail"], [["Ann", "next,locked", 2], ["Bob", "next,locked", 2]]),
     "mcs-third-linked-before-second": (
-        ["tail"], [[f"thread {one}", "next,locked", 2] for one in range(3)]),
+        ["tail"], [[one, "next,locked", 2] for one in ("Ann", "Bob", "Cem")]),
     "simple-downgrade": (["readers", "flag"], []),
     "fifo-downgrade": (["readAcquires", "readReleases", "flag"], [])}
 # As wide as three records of 150 with gaps of 62, or 460. Words end at 90, records at 218, and two

@@ -110,7 +110,7 @@ def test_tips_and_speeds(page):
 
 
 CLOSED = ["lessons", "plans", "find", "why", "take", "view", "sheets", "choose-other", "about",
-          "keys"]
+          "keys", "prologue", "lecture-end", "all-done"]
 # By its id, or by what it belongs to. A space is between the name of a control and its key.
 NAMES = {
     "show-about": "lockreplay", "mode-lessons": "Lessons O", "mode-own": "Your own E",
@@ -119,6 +119,7 @@ NAMES = {
     "print": "Print P", "theme": "Dark D", "plan": "Teach N", "show-keys": "Keys ?",
     "menu": "More", "close-banner": "Close", "leave": "Leave hall mode",
     "every": "Every move, also those that are refused", "undo": "Undo U",
+    "finish": "Let all finish R", "standstill": "Why does nobody move?",
     "new-lock": "lock", "new threads": "threads", "new bits": "bits", "new": "Begin",
     "open": "Open", "copy": "Copy", "undo-own": "Undo", "save": "Save", "clear": "New",
     "first": "First move", "back": "One move back", "forward": "One move forward",
@@ -129,7 +130,9 @@ NAMES = {
     "find-kind": "Which move",
     "find-sketch": "Lines that the run has, in this order, with other moves between them. * is any "
     "thread. “not” and a line: no such move before the next line.", "find-search": "Find",
-    "why-back": "The line before", "why-next": "The next line", "take-title": "with title",
+    "prologue-back": "Back", "prologue-forward": "Next move",
+    "prologue-begin": "The first lesson", "why-back": "The line before",
+    "why-next": "The next line", "take-title": "with title",
     "take-legend": "with marks", "take-code": "with code",
     "take-answered": "with what the open question asks for", "take-from": "From move",
     "take-to": "to move", "svg": "This state as a picture (SVG)",
@@ -195,6 +198,20 @@ def test_what_the_page_has_of_itself(page):
     assert page.js("texts", "#about [aria-pressed=true]") == ["English"]
     assert page.js("texts", "#about [lang]") == ["English", "Deutsch"]
     assert page.js("texts", "#about [lang=de]") == ["Deutsch"]
+
+
+@pytest.mark.parametrize("port", ["thiserror", "itoa", "arrayvec"])
+def test_notices(page, port):
+    """The page has the notice of each port in its module, word for word, and what is said of the
+    kit."""
+    document = (TOP / "THIRD-PARTY").read_text("utf-8")
+    title, text = re.search(rf"^({port} [\d.]+)\n-+\n\n(.*?)\n\n\n", document,
+                            re.MULTILINE | re.DOTALL).groups()
+    shown = page.open().call("click", "#show-about").text("#notices")
+    owners = re.findall(r"^Copyright .*", text, re.MULTILINE)
+    licence = " ".join(text.partition("Permission")[2].split())
+    assert " ".join([title, *owners]) in shown and shown.count(licence) == 1
+    assert "code of the kit itself" in shown
 
 
 # Of a call, and of a step with each outcome.

@@ -84,7 +84,7 @@ def begun_in(page, language):
 def test_by_the_address_and_back(page):
     """The address keeps the language, and the dialog about the page changes it."""
     page.open("#lesson=mcs-late-link&move=9&lang=de")
-    assert page.text("#now .say").startswith("Das compare-and-swap scheitert")
+    assert page.text("#now .say").startswith("Ihr compare-and-swap: tail ist nicht")
     page.go(10).becomes("#lesson=mcs-late-link&move=10&lang=de", "address")
     page.call("click", "#show-about").call("click", "#about [data-lang=en]")
     begun_in(page, "en").becomes("#lesson=mcs-late-link&move=10&lang=en", "address")
@@ -187,6 +187,14 @@ TERMS = {
     "zweier Abschnitte": ("Abschnitt", "ein Schritt einer Schreib-Lese-Sperre"),
     "schon angekündigt": ("ankündigen", "setzt das flag und ist der nächste Schreiber"),
     "ihr Linearisierungspunkt": ("Linearisierungspunkt", "für alle Threads wirkt"),
+    "vieler Sperren": ("Sperre", "damit sich Threads nicht stören"),
+    "zwei Threads": ("Thread", "der neben anderen läuft"),
+    "in atomaren": ("atomar", "Kein anderer Thread kommt dazwischen"),
+    "ihr add": ("add", "um 1 größer zurückschreibt"),
+    "nach den swaps": ("swap", "einen anderen Wert hineinschreibt"),
+    "ein compare-and-swap": ("compare-and-swap", "wenn es den Wert hat"),
+    "ist nil": ("nil", "kein Record"),
+    "der Monitor": ("Monitor", "immer nur einen Thread"),
 }
 
 
@@ -233,8 +241,10 @@ OTHER_WORDS = re.compile(
 
 
 def test_one_word_for_each_thing(page):
-    """The German texts, which are in the page's body, have one word for each thing."""
+    """The German texts, which are in the page's body, have one word for each thing, and so have
+    those of the lessons."""
     said = page.open(GERMAN).text("body").replace("' + '", "")
+    said += " ".join(TRANSLATIONS.values())
     assert "flag gesetzt" in said and TRANSLATIONS["The late link"] in said
     assert not OTHER_WORDS.findall(said)
 

@@ -42,7 +42,6 @@ def test_a_plan_step_by_step(page, plan, width, height):
         assert shown["place"] == step["move"] and shown["hall"], where
         assert shown["step"] == f"Step {at} of {len(plan['steps'])}" and shown["isSeen"], where
         assert "show" not in step or shown["parts"] == step["show"].split(","), where
-        assert page.text("#bar .plan-say") == ("" if compares else step.get("say", "")), where
         assert not shown["compares"], where
         if step["place"] != "hand-over, 3":
             assert shown["question"].startswith(f"Question: {step.get('ask', '')}"), where
@@ -51,7 +50,6 @@ def test_a_plan_step_by_step(page, plan, width, height):
             assert answered["compares"] == compares and answered["isSeen"], (at, answered)
             assert answered["answers"] == 1 and answered["question"] == shown["question"], where
             assert step.get("answer", "") in answered["answer"] != "", (at, answered)
-            assert page.text("#bar .plan-say") == step.get("say", ""), where
         page.press(*"n"[:at < len(plan["steps"])])
     shown = page.press("Escape").js("step")
     assert not shown["hall"] and not shown["step"], shown
@@ -111,7 +109,8 @@ def test_the_question_of_a_step_and_that_of_its_lesson(page):
 def test_memory_of_the_last_step_of_mcs(page):
     """The whole memory is in view, with three records and a thread's own variable."""
     shown = begin(page.resize(1024, 768), "mcs").press(*"nnnn").js("step")
-    assert shown["parts"] == ["memory"] and "own variable" in page.js("seenOfMemory")
+    assert shown["parts"] == ["memory"]
+    assert any("own variable" in one for one in page.js("seenOfMemory"))
 
 
 @pytest.mark.parametrize("lock, further", [("mcs", 3), ("rw-fifo", 1)])
@@ -124,21 +123,115 @@ def test_a_step_that_compares(page, lock, further, width, height):
     assert page.js("wordsOffMarks") == []
 
 
-def test_the_clock(page):
-    """The clock shows the minutes left, then the minutes over, and stops with the lecture."""
-    clock = begin(page.before("keepClocks"), "mcs").js("step")["clock"]
-    assert re.fullmatch(r"10:00|9:5\d", clock)
-    assert [page.js("attribute", f"#lecture {part}", "title") for part in ("b", "span")] == [
-        "Minutes left", "MCS queue lock"]
-    page.call("wait", 11).until("clockBegins", "−1:")
-    assert page.js("clocks") == [1000]
-    assert page.press("Escape").js("clocks") == []
+def test_the_clock(lecturer):
+    """The clock, in the lecturer's window alone, shows the minutes left, then the minutes over, and
+    stops with the lecture."""
+    begin(lecturer.before("keepClocks"), "mcs").press("2").until("presented")
+    assert re.fullmatch(r"10:00|9:[345]\d", lecturer.js("clockThere"))
+    assert lecturer.js("attribute", "#lecture span", "title") == "MCS queue lock"
+    assert ":" not in lecturer.text("#lecture")
+    lecturer.call("wait", 11).until("clockThereBegins", "−1:")
+    assert lecturer.js("clocks") == [1000]
+    assert lecturer.press("Escape").js("clocks") == []
 
 
-def test_the_clock_of_a_later_step(page):
+def test_the_clock_of_a_later_step(lecturer):
     """The third step of this plan begins after 4 of 10 minutes, so six are left."""
-    page.open().press("Escape", "n").click("#plans [data-plan='mcs'][data-step='2']")
-    assert re.fullmatch(r"6:00|5:5\d", page.js("step")["clock"])
+    lecturer.open().press("Escape", "n").click("#plans [data-plan='mcs'][data-step='2']")
+    lecturer.press("2").until("presented")
+    assert re.fullmatch(r"6:00|5:[345]\d", lecturer.js("clockThere"))
+
+
+def test_a_reload_in_a_lecture(lecturer):
+    """The step, the move and the clock stay, and a page that is opened anew has no lecture."""
+    begin(lecturer, "mcs").press("n", "ArrowRight", "ArrowRight", "2").until("presented")
+    before = lecturer.js("where")
+    lecturer.until("addressHas", "move=9")
+    lecturer.reload()
+    assert lecturer.js("where") == before and before[3] == 9, before
+    lecturer.press("2").until("presented")
+    assert re.fullmatch(r"10:00|9:\d\d", lecturer.js("clockThere"))
+    lecturer.call("closeThere").press("Escape").reload()
+    assert lecturer.js("where")[1] == ""
+    begin(lecturer, "mcs").open("#lesson=mcs-late-link&move=9&hall")
+    assert lecturer.js("where")[1] == ""
+
+
+def pressed_through(page, key):
+    """Where the lecture is after each press, until a press ends it or changes nothing."""
+    came = [page.js("where")]
+    while came[-1][1] and (len(came) < 2 or came[-1] != came[-2]):
+        came.append(page.press(key).js("where"))
+    return came
+
+
+def test_page_down_alone(page):
+    """A clicker leads through all plans to the end of the lecture: each step's question, then its
+    answer, then the moves to the next step of the same lesson. No press does nothing."""
+    begin(page, "ticket")
+    came = pressed_through(page, "PageDown")
+    assert came[-1][1] == "" and not page.js("step")["hall"], came[-2:]
+    places = iter([tuple(one[:5]) for one in came])
+    for plan in PLANS:
+        for at, step in enumerate(plan["steps"], 1):
+            met = next((one for one in places if one[1] == f"Step {at} of {len(plan['steps'])}"
+                        and one[2:4] == (step["lesson"], step["move"])), None)
+            assert met and met[4] == 0, (step, met)
+            if step["place"] != "hand-over, 3":
+                assert next(places)[4] == 1, step
+    ends = [one for one in came if one[5]]
+    assert len(ends) == len(PLANS)
+
+
+def test_page_up_is_the_reverse(page):
+    """It leads back from the end of a plan to its beginning, over the same places."""
+    begin(page, "mcs")
+    down = [page.js("where")]
+    while not down[-1][5]:
+        down.append(page.press("PageDown").js("where"))
+    up = [down[-1], *(page.press("PageUp").js("where") for _ in down[1:])]
+    assert up == down[::-1]
+    assert page.press("PageUp").js("where")[5], "the end of the plan before"
+
+
+def test_after_a_plan(page):
+    """The end of a plan leads to the next plan, whose minutes the clock adds, to the exercise sheet
+    of its homework, or out of the lecture."""
+    for way in ("next", "sheet", "end"):
+        begin(page, "mcs").press(*"nnnnn")
+        assert page.js("texts", "#lecture-end [data-end-way]") == [
+            "Next plan: Simple read-write lock", "Exercise sheet", "End the lecture"]
+        page.click(f"#lecture-end [data-end-way={way}]")
+        if way == "next":
+            assert page.js("where")[:2] == ["Simple read-write lock", "Step 1 of 6"]
+        if way == "sheet":
+            assert page.js("isOpen", "sheets") and page.shown()["lesson"] == "mcs-late-link"
+    assert not page.js("step")["hall"] and page.js("where")[1] == ""
+
+
+def test_what_the_hall_does_not_see(lecturer):
+    """What the lecturer is to do is in the second window alone, which also has the picture, says
+    that a question waits, and names its keys."""
+    said = begin(lecturer, "ticket").press("2").until("presented")
+    assert PLANS[0]["steps"][0]["say"] in said and "Page Down" in said, said
+    assert PLANS[0]["steps"][0]["say"] not in lecturer.text("body > header, #bar")
+    assert lecturer.js("picturesThere") == 1 and "does not see" not in said
+    assert "does not see the answer" in lecturer.press("n").js("presented")
+    assert "does not see the answer" not in lecturer.press("a").js("presented")
+
+
+def test_keys_there_open_nothing_in_the_hall(lecturer):
+    """No key of the second window opens a dialog or a panel in the hall, and Escape closes one."""
+    lecturer.open("#lesson=mcs-late-link&move=3").press("2").until("presented")
+    for key in "nomvtypegwq?l":
+        lecturer.call("pressThere", key)
+        assert lecturer.js("count", "dialog[open]") == 0, key
+    lecturer.shown(mode="lessons")
+    assert lecturer.press("o").js("isOpen", "lessons")
+    assert lecturer.call("pressThere", "Escape").js("count", "dialog[open]") == 0
+    begin(lecturer, "mcs").press("2").until("presented")
+    assert lecturer.press(*"nnnnn").js("where")[5]
+    assert lecturer.call("pressThere", "PageDown").js("where")[1] == "Step 1 of 6"
 
 
 def test_escape_in_the_menu(page):
@@ -149,13 +242,14 @@ def test_escape_in_the_menu(page):
 
 
 def test_the_last_step(page):
-    """The button says that no other step follows."""
-    assert begin(page, "mcs").js("texts", "#lecture span") == ["Step 1 of 5", "0 to 1 min"]
+    """The button says that no other step follows, and leads to the end of the plan."""
+    assert begin(page, "mcs").js("texts", "#lecture span") == ["Step 1 of 5"]
     for _ in range(4):
         assert page.text("#lecture [data-lecture=next]") == "Next step N"
         page.press("n")
-    assert page.text("#lecture [data-lecture=next]") == "Last step"
-    assert not page.press("n").js("isOpen", "plans") and page.js("step")["step"] == "Step 5 of 5"
+    assert page.text("#lecture [data-lecture=next]") == "End of the plan N"
+    assert page.press("n").js("isOpen", "lecture-end") and not page.js("isOpen", "plans")
+    assert page.press("Escape").js("step")["step"] == "Step 5 of 5"
 
 
 def test_the_step_before(page):
@@ -180,7 +274,7 @@ def test_minutes():
 
 def test_links_of_the_guide(page):
     """Each link opens the place that the page's own plan has for this row."""
-    links = re.findall(r"\]\(\.\./page/lockreplay\.html(#\S+?)\) \|", GUIDE)
+    links = re.findall(r"\]\(\.\./built/lockreplay\.html(#\S+?)\) \|", GUIDE)
     steps = [step for plan in PLANS for step in [*plan["steps"], plan["homework"]]]
     assert len(links) == len(steps) >= 25
     for link, step in zip(links, steps):
@@ -282,7 +376,7 @@ def test_the_next_move_of_a_run_that_repeats(lecturer):
     lecturer.open().show("lock rw-simple threads 1\n# from line 3 on, again and again\n"
                          "0 rlock\n0 section\n0 runlock\n0 section\n", 4)
     said = lecturer.press("2").until("presented")
-    assert said.endswith("The next moveThread 0 calls rlock: it wants to read."), said
+    assert "The next moveThread 0 calls rlock: it wants to read." in said, said
 
 
 @pytest.mark.parametrize("held", ["ctrlKey", "metaKey", "altKey"])

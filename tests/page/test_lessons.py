@@ -1,8 +1,10 @@
 """Keys step through each lesson to its end. At each move the page shows the outcome, the holders
 and the line of the lesson's report, even if the browser cannot run the machine."""
+import re
+
 import pytest
 
-from reports import LESSONS, MOVES, asked_in, numbers_of
+from reports import LESSONS, MOVES, SCHEDULES, asked_in, numbers_of, remarks
 from tab import PAGE
 from tree import cases
 
@@ -142,14 +144,14 @@ SENTENCES = {
 # ticket, and counts that wrap.
 WRAPS = "After 3 comes 0: the count wraps around."
 OTHER_SENTENCES = {
-    "simple-downgrade": {6: "Thread 0 becomes a reader in one section: readers is now 1, and the "
-                            "flag is clear."},
+    "simple-downgrade": {6: "Ann becomes a reader in one section: readers is now 1, and the flag "
+                            "is clear."},
     "ticket-wraps-at-2-bits": {
         23: "Cem polls and waits: now_serving is 3, and its ticket is 0."},
     "fifo-counts-wrap-at-2-bits": {
-        14: f"Thread 0 finds the flag clear, and counts itself in: readAcquires is now 0. {WRAPS}",
-        18: f"Thread 0 counts itself out, and has left: readReleases is now 0. {WRAPS}"},
-    "fifo-second-writer": {12: "Thread 1 clears the flag, and has left."},
+        14: f"Ann finds the flag clear, and counts itself in: readAcquires is now 0. {WRAPS}",
+        18: f"Ann counts itself out, and has left: readReleases is now 0. {WRAPS}"},
+    "fifo-second-writer": {12: "Bob clears the flag, and has left."},
 }
 
 
@@ -182,6 +184,37 @@ def test_what_is_wanted_at_the_monitor(page, language, of):
     for moves, wanted in WANTS.items():
         page.show(f"lock rw-fifo threads 2\n{moves}", moves.count("\n"))
         assert page.js("texts", "#memory-picture .wants title") == [*map(of, wanted)], moves
+
+
+def test_one_voice():
+    """Each lesson has a sentence for each move, with names, and Ann is thread 0. The first sentence
+    on a thread names it, so that she and he are somebody."""
+    for name, text in SCHEDULES.items():
+        if name.startswith(("refused", "fault")):
+            continue
+        moves = len(MOVES[name])
+        said = [" ".join(remarks(name, f"say {move}")) for move in range(1, moves + 1)]
+        assert all(said) and not remarks(name, f"say {moves + 1}"), name
+        assert remarks(name, "name 0") == ["Ann"], name
+        seen = set()
+        for (thread, *_), sentence in zip(MOVES[name], said):
+            (who,) = remarks(name, f"name {thread}")
+            assert thread in seen or who in sentence, (name, sentence)
+            seen.add(thread)
+            assert not re.search(r"[Tt]hread \d|\bits own\b", sentence), (name, sentence)
+            wrong = "He" if who == "Ann" else "She"
+            assert not sentence.startswith(f"{wrong} "), (name, sentence)
+
+
+@cases("name, begins", {"tickets": ("ticket-wraps-at-2-bits", 18),
+                        "counts": ("fifo-counts-wrap-at-2-bits", 12)})
+def test_a_lesson_that_begins_near_its_point(page, name, begins):
+    """It opens after moves that one need not step through, and at most 14 are left; a link with a
+    move goes there."""
+    page.open().click(f"[data-lesson={name}]").shown(lesson=name, place=begins)
+    assert "three times" in page.text("#now .own-say") and len(MOVES[name]) - begins <= 14
+    page.open(f"#lesson={name}").shown(place=begins)
+    page.open(f"#lesson={name}&move=0").shown(place=0)
 
 
 def test_what_a_lesson_is_about(page):

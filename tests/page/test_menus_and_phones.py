@@ -88,10 +88,13 @@ def test_lines_have_numbers(page):
 
 
 def test_the_move_on_a_phone(page):
-    """A phone shows the holders, the queue, the outcome in words, and the sentence."""
-    page.resize(390, 844).open("#lesson=mcs-late-link&move=10")
+    """A phone shows the holders, the queue and the sentence, and the outcome in words if the lesson
+    has no sentence of its own."""
     parts = ["[data-holders]", "[data-queue]", ".plain", ".say"]
+    page.resize(390, 844).open("#lesson=refused-busy&move=1")
     assert page.js("seenOfMove", parts) == parts
+    page.open("#lesson=mcs-late-link&move=10")
+    assert page.js("seenOfMove", parts) == ["[data-holders]", "[data-queue]", ".say"]
 
 
 @pytest.mark.parametrize("device, hint", [

@@ -24,7 +24,7 @@ def test_a_lecture(page, width, height, language):
     page.call("click", "#plans [data-plan=mcs][data-step='0']")
     for keys in ["", "nnn", "a", "h"]:
         assert page.press(*keys).js("offSideways") == [], keys
-    assert page.js("count", "#lecture > *") == 5
+    assert page.js("count", "#lecture > *") == 3
 
 
 @pytest.mark.parametrize("language", ["en", "de"])
@@ -48,3 +48,13 @@ def test_a_dialog(page, width, language):
 def test_letters_of_a_hall(page, width, height, zoom):
     """They are 2.5 % of the height of a window that is wide enough for that."""
     assert page.resize(width, height).open(f"{LESSON}en&hall").js("zoom") == zoom
+
+
+@pytest.mark.parametrize("width, height", [(683, 384), (844, 390)])
+def test_an_answer_comes_into_view(page, width, height):
+    """At 200 % zoom and on a phone that lies, an answer is seen when it is shown."""
+    page.resize(width, height).open(f"{LESSON}en")
+    for name, move in [("mcs-late-link", 8), ("ticket-hand-over", 5), ("fifo-second-writer", 6),
+                       ("simple-downgrade", 5)]:
+        page.lesson(name, move).press("a")
+        assert page.js("isInView", "#now .question details p"), (name, move)

@@ -12,7 +12,9 @@ PARTS = {
     "text": "Text of the schedule", "slider": "Move",
 }
 DIALOGS = {
-    "lessons": "Lessons", "plans": "Lesson plans", "find": "Find a moment",
+    "lessons": "Lessons", "prologue": "Why a lock?", "lecture-end": "After the plan",
+    "all-done": "You have seen all lessons",
+    "plans": "Lesson plans", "find": "Find a moment",
     "why": "Why each line is there", "take": "Export", "view": "View", "sheets": "Print",
     "choose-other": "Compare with", "about": "About this page", "keys": "Keys",
 }
@@ -28,8 +30,11 @@ HEADINGS = [
     ["time", "Threads over time"], ["code", "Code: this move and next steps"], ["play", "Play"],
     ["own", "The schedule"],
     ["own", "Type or paste a schedule, open a file, or drop one anywhere on the page."],
-    ["plans", "Lesson plans"],
-    ["plans", "Ten minutes a lock, in hall mode. N goes to the next step, A shows the answer."],
+    ["prologue", "Why a lock?"], ["all-done", "You have seen all lessons"],
+    ["lecture-end", "After the plan"], ["plans", "Lesson plans"],
+    ["plans", "Ten minutes a lock, in hall mode. Page Down, as a clicker sends it, shows the "
+              "answer, then goes on, through one plan after the other. Key 2 opens a window for "
+              "you, with the clock."],
     ["find", "Find a moment"],
     ["find-form", "The proved search looks through all runs of a new lock for a shortest one that "
                   "has what you ask for."],
@@ -39,7 +44,7 @@ HEADINGS = [
     ["choose-other", "Compare with"],
     ["choose-other", "Two schedules of one lock are shown one above the other, with the first move "
                      "in which they differ. Make the second from this one, or choose it."],
-    ["keys", "Keys"], ["keys", "Marks"],
+    ["notices", "Notices of others whose code is in it"], ["keys", "Keys"], ["keys", "Marks"],
 ]
 
 

@@ -11,18 +11,21 @@ from tree import TOP, environment, ran
 
 HERE = Path(__file__).parent
 PATCHES = sorted((HERE / "mistakes").glob("*.patch"))
-# The folders that `page/build.mjs` reads.
-FOLDERS = ["page", "examples", "docs"]
+# The folders and files that `page/build.mjs` reads.
+FOLDERS = ["page", "built", "examples", "docs"]
+FILES = ["VERSION", "THIRD-PARTY", "crates.txt"]
 
 
 def built_with(patch, module, folder):
     """The page with the mistake of a patch."""
     for name in FOLDERS:
         shutil.copytree(TOP / name, folder / name)
-    shutil.copy(TOP / "VERSION", folder)
+    for name in FILES:
+        shutil.copy(TOP / name, folder)
+    (folder / "crates").symlink_to(TOP / "crates")
     apply(patch, folder)
     subprocess.run(["node", folder / "page" / "build.mjs", module], check=True)
-    return folder / "page" / "lockreplay.html"
+    return folder / "built" / "lockreplay.html"
 
 
 @pytest.mark.planted

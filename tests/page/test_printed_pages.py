@@ -9,6 +9,7 @@ from reports import MOVES
 from tree import cases
 
 MOST_SHEETS = 12
+NAMES = ["Ann", "Bob", "Cem"]
 LATE_LINK = "#lesson=mcs-late-link&move=9"
 
 
@@ -17,7 +18,7 @@ def test_a_lesson(page):
     assert page.open(f"#lesson={name}&move=12").pdf().startswith(b"%PDF")
     rows = page.js("rows")
     assert [row[:4] + row[5:] for row in rows] == [
-        [str(number), f"thread {thread}", word, outcome, hold, queue]
+        [str(number), f"{NAMES[thread]} ({thread})", word, outcome, hold, queue]
         for number, (thread, word, outcome, hold, queue) in enumerate(MOVES[name], 1)]
     assert all(row[4] for row in rows) and page.js("count", "#paper .strip") >= 2
     assert page.js("count", "#paper .future") == 0
@@ -57,7 +58,7 @@ def test_only_paper_is_printed(page):
 
 
 def test_no_explanation_is_printed(page):
-    page.open("#lesson=ticket-hand-over&move=5").call("pointAt", "main .term").press("l", "e")
+    page.open("#lesson=ticket-hand-over&move=5").press("e").call("leave").press("l")
     page.until("text", "#notice")
     page.call("pointAt", "main .term").call("drawPaper")
     parts = ["tip-box", "notice", "side", "time"]
@@ -178,8 +179,8 @@ def test_an_exercise_sheet(page):
 
 
 # Lessons of each lock, and the threads that have names in them.
-GIVEN = {"ticket-wraps-at-2-bits": [0, 1, 2], "mcs-late-link": [0, 1], "simple-downgrade": [],
-         "fifo-counts-wrap-at-2-bits": []}
+GIVEN = {"ticket-wraps-at-2-bits": [0, 1, 2], "mcs-late-link": [0, 1], "simple-downgrade": [0, 1],
+         "fifo-counts-wrap-at-2-bits": [0, 1]}
 
 
 def test_marks_to_fill_in(page):

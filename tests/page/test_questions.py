@@ -199,7 +199,18 @@ def test_values_are_hidden(page, fragment, covered, values):
 WAITS = "A question waits here: A shows its answer, another → goes on."
 
 
-@pytest.mark.parametrize("look, key", [("", "ArrowRight"), ("&hall", "PageDown")])
+def test_a_clicker_shows_the_answer(page):
+    """In a hall Page Down shows an answer before it goes on, and Page Up hides it before it goes
+    back."""
+    page.open("#lesson=mcs-late-link&move=6&hall").press("PageDown").shown(place=7)
+    for key, place, is_open in [("PageDown", 7, True), ("PageDown", 8, False), ("PageUp", 7, False),
+                                ("PageDown", 7, True), ("PageUp", 7, False), ("PageUp", 6, False)]:
+        page.press(key).shown(place=place)
+        assert (page.js("count", ".question details[open]") > 0) == is_open, (key, place)
+    assert page.js("waiting")[0] == "", "the hall reads no notice"
+
+
+@pytest.mark.parametrize("look, key", [("", "ArrowRight"), ("&hall", "ArrowRight")])
 def test_a_step_stops_once(page, look, key):
     """A step stops once at a question with an unseen answer, and a notice says how to go on."""
     page.open(f"#lesson=mcs-late-link&move=6{look}").press(key)

@@ -8,6 +8,7 @@ from reports import MOVES, SCHEDULES
 from tree import cases
 
 LESSON = "fifo-reader-waits-behind-writer"
+NAMES = ["Ann", "Bob", "Cem"]
 TRUTH = {"outcome": 2, "holders": 3, "queue": 4}
 # The outcomes, which a test also gives as answers without thought.
 ALWAYS = ["moved", "waits", "entered", "left"]
@@ -42,7 +43,7 @@ def test_all_right(page):
         assert shown["place"] == shown["move"] - 1 and shown["future"] == 0, shown
         assert not shown["filled"], shown
         thread, word, *_ = MOVES[LESSON][shown["move"] - 1]
-        assert shown["said"] == f"Move {shown['move']}: thread {thread}, {word}", shown
+        assert shown["said"] == f"Move {shown['move']}: {NAMES[thread]}, {word}", shown
         assert shown["marks"] == ["?"] and shown["asks"] == ASKED[shown["kind"]], shown
         # The quiz asks for no outcome of a call, and no step has the outcome `called`.
         assert shown["choices"] == (ALWAYS if shown["kind"] == "outcome" else []), shown
@@ -279,7 +280,7 @@ def test_chance_earns_nothing(page, outcome, threads):
         page.call("answerBlindly", name, outcome, threads)
     score = page.text("#now .score")
     right, wrong = map(int, re.search(r"\((\d+) right, (\d+) wrong\)", score).groups())
-    assert right <= wrong and right + wrong >= 100, score
+    assert right <= wrong and right + wrong >= 80, score
 
 
 def test_a_step_back_from_a_question(page):

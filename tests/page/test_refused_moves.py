@@ -120,7 +120,7 @@ def test_fault_on_paper(page, name, last, parts):
 
 # The line after move 8. Before it are two names, the questions of moves 7 and 8 with their answers,
 # which take five lines, the header, and eight moves.
-WRONG_LINE = 17
+WRONG_LINE = 25
 
 
 def test_a_wrong_step_in_play(page):

@@ -13,7 +13,7 @@ REFUSED = ("refused", "fault")
 
 def test_without_a_link(page):
     """The start has two sentences, the ticket lock first, and in each card its lessons in order."""
-    assert page.open().js("isOpen", "lessons") and page.js("chosen") == "ticket-hand-over"
+    assert page.open().js("isOpen", "lessons") and page.js("count", "[data-prologue]:focus") == 1
     what = page.text("#lessons .what")
     assert what.count(".") == 2 and "one atomic step at a time" in what, what
     cards = page.js("cards")
@@ -41,6 +41,7 @@ def test_without_a_link(page):
         assert part in one, said
 
 
+PROLOGUE = "Two threads add to one counter, and one addition is lost. Six moves, one minute."
 WHY = "Each step is changed in turn, and a shortest run shows what goes wrong."
 
 
@@ -55,9 +56,11 @@ def test_what_a_card_says(page):
                          for what in ("title", "learn"))
         part = f"#lessons [data-lock={card['lock']}] li"
         assert page.js("attribute", f"[data-live={card['lock']}]", "aria-hidden") == "true"
-        assert page.js("texts", f"{part} .number") == [*map(str, range(1, len(names) + 1)), "Y"]
-        assert page.js("texts", f"{part} b") == [*titles, "Why each line is there"]
-        assert page.js("texts", f"{part} .learn") == [*learn, WHY]
+        first = ["0", "Why a lock?", PROLOGUE] if card["lock"] == "ticket" else []
+        assert page.js("texts", f"{part} .number") == [
+            *first[:1], *map(str, range(1, len(names) + 1)), "Y"]
+        assert page.js("texts", f"{part} b") == [*first[1:2], *titles, "Why each line is there"]
+        assert page.js("texts", f"{part} .learn") == [*first[2:], *learn, WHY]
     assert page.js("texts", "#lessons .ways b") == ["Your own", "Play", "Find a moment", "Teach"]
     assert page.js("texts", "#lessons .refusals summary") == [
         "What is refused: wrong moves, and texts that are no schedules"]
@@ -77,12 +80,14 @@ def test_where_the_parts_of_the_start_are(page):
 
 
 def test_how_long_each_lesson_takes(page):
-    """A card counts ten seconds for a move, also for a refused one, and thirty for a question."""
+    """A card counts ten seconds for a move after the beginning, also for a refused one, and thirty
+    for a question."""
     page.open()
     said = {name: text for card in page.js("cards") for name, text in card["lessons"]}
     assert len(said) > 12
     for name, text in said.items():
-        moves = len(re.findall(r"^\d", SCHEDULES[name], re.MULTILINE))
+        begins = sum(map(int, re.findall(r"^#! begin (\d+)$", SCHEDULES[name], re.MULTILINE)))
+        moves = len(re.findall(r"^\d", SCHEDULES[name], re.MULTILINE)) - begins
         minutes = max(1, int((10 * moves + 30 * len(asked_in(name))) / 60 + 0.5))
         assert text.endswith(f" {moves} moves, about {minutes} min"), (name, text)
 
@@ -94,8 +99,10 @@ def test_a_link_opens_its_lesson(page):
 
 
 def test_the_first_lesson(page):
-    """Enter begins the first lesson, which explains the moves in words of its own."""
-    assert page.open().press("Enter").js("lessonNow") == "ticket-hand-over"
+    """After the six moves of the prologue Enter begins the first lesson, which explains the moves
+    in words of its own."""
+    page.open().press("Enter", *["ArrowRight"] * 6, "Enter")
+    page.shown(lesson="ticket-hand-over", place=0)
     assert page.js("count", "#now .own-say") == 0, "its point was on the card, and is at the end"
     for move in range(1, 11):
         # A step stops once at a question.
@@ -106,7 +113,7 @@ def test_the_first_lesson(page):
         folded = page.js("seen", "#now :is(.plain, p.aside, .report-line)")
         assert folded == "", "what the machine says is folded"
     folded = page.click("#now summary").js("seen", "#now :is(.plain, p.aside, .report-line)")
-    assert "Bob finds its ticket, 1" in folded and "10 0 read entered hold 0" in folded, folded
+    assert "Bob finds its ticket, 1" in folded and "10 1 read entered hold 1" in folded, folded
 
 
 def test_the_point_of_a_schedule_of_ones_own(page):
@@ -129,12 +136,13 @@ def test_behind_the_start(page):
 
 
 @pytest.mark.parametrize("language, said", [
-    ("en", "Thread 0 is Bob, thread 1 is Ann."), ("de", "Thread 0 ist Bob, Thread 1 ist Ann.")])
+    ("en", "Thread 0 is Ann, thread 1 is Bob."), ("de", "Thread 0 ist Ann, Thread 1 ist Bob.")])
 def test_who_is_which_thread(page, language, said):
     """Before the first move the page names the threads, even on the smallest screen."""
     page.resize(1024, 768).open(f"#lesson=ticket-hand-over&move=0&lang={language}")
     assert page.js("seen", "#now .names") == said
-    assert page.lesson("simple-downgrade").js("count", "#now .names") == 0, "no names are given"
+    page.show("lock mcs threads 2\n")
+    assert page.js("count", "#now .names") == 0, "no names are given"
     for most in (9, 10):
         names = "".join(f"#! name {thread} N{thread}\n" for thread in range(most))
         page.show(f"{names}lock ticket threads 10\n")
@@ -159,20 +167,57 @@ def test_the_end_of_a_lesson(page):
     assert page.js("stored", "lockreplay.done") == '["ticket-hand-over"]'
 
 
+WAYS_ON = {"why": lambda page: page.js("isOpen", "why"),
+           "play": lambda page: page.shown(mode="play"),
+           "quiz": lambda page: page.shown(place=0) and page.js(
+               "attribute", "#mode-quiz", "aria-pressed") == "true"}
+
+
 @cases("language, said", {
-    "en": ("en", "This was the last lesson. Go on with Play, with the quiz, or with why a line is "
-                 "there."),
-    "de": ("de", "Das war die letzte Lektion. Weiter geht es mit Spielen, mit dem Quiz, oder "
-                 "damit, warum eine Zeile da ist.")})
+    "en": ("en", ["Why each line is there", "Play", "Quiz"]),
+    "de": ("de", ["Warum jede Zeile da ist", "Spielen", "Quiz"])})
 def test_the_end_of_the_last_lesson(page, language, said):
-    """After the last lesson of the last lock no lesson is next, and no text that is refused."""
+    """After the last lesson of the last lock no lesson is next, and no text that is refused. Five
+    lines say what was learned, and three buttons lead on."""
     last = page.open(f"#lang={language}").js("lastLessons")
     assert len(last) == 4
     for name in last:
         assert page.lesson(name).go(None).press("a").js("count", "#now .last") == 1, name
-        assert page.js("texts", "#now .all-done") == [said] * (name == last[-1]), name
+        assert page.js("count", "#now [data-end]") == (name == last[-1]), name
         assert page.js("count", "#now [data-next]") == (name != last[-1]), name
-    assert page.press("ArrowRight", "Enter").js("lessonNow") == last[-1]
+    assert page.press("ArrowRight").js("count", "[data-end]:focus") == 1, "a step leads there"
+    for way, leads in WAYS_ON.items():
+        page.lesson(last[-1]).go(None).press("Enter")
+        assert page.js("count", "#all-done li") == 5
+        assert page.js("texts", "#all-done [data-further]") == said
+        assert leads(page.click(f"[data-further={way}]")), way
+        page.press("Escape")
+
+
+@cases("language, lost", {"en": ("en", "One addition is lost."),
+                          "de": ("de", "Einmal Zählen ist verloren.")})
+def test_why_a_lock(page, language, lost):
+    """Before the first lesson two threads add to one counter: six moves, and one addition is lost.
+    Keys and buttons step through them, and the start ticks them off."""
+    page.open(f"#lang={language}").click("[data-prologue]")
+    words = [["0", "-", "-"], ["0", "0", "-"], ["0", "0", "0"], ["0", "1", "0"], ["0", "1", "1"],
+             ["1", "1", "1"], ["1", "1", "1"]]
+    for move, values in enumerate(words):
+        shown = page.js("prologue")
+        assert [one if one.isdigit() else "-" for one in shown["words"]] == values, move
+        assert len(shown["moves"]) == move and (lost in shown["said"]) == (move == 6), shown
+        page.press(*["ArrowRight"] * (move < 6))
+    page.press("ArrowLeft", "PageUp").click("#prologue-forward")
+    assert len(page.js("prologue")["moves"]) == 5
+    page.press("ArrowRight", "Enter").shown(lesson="ticket-hand-over", place=0)
+    assert page.press("o").text("[data-prologue] .number") == "✓"
+    assert page.js("chosen") == "ticket-hand-over", "it is next"
+
+
+def test_what_comes_after_a_lesson(page):
+    """Who comes back begins with the first lesson that is not done."""
+    page.open("#lesson=ticket-hand-over&move=10").press("o")
+    assert page.js("chosen") == "ticket-order-of-tickets"
 
 
 def test_the_end_of_a_schedule_of_ones_own(page):
@@ -259,9 +304,10 @@ def test_which_term_a_word_is(page):
               "of a linearization point.\nlock ticket threads 1\n0 acquire\n", 1)
     assert page.js("terms", "#now .own-say") == [
         ["Holds", "holder"], ["words", "word"], ["steps", "step"], ["moves", "move"],
-        ["polls", "poll"], ["linked", "link"], *([term, term] for term in [
-            "failed poll", "holder", "word", "late link", "record", "call", "section", "announce",
-            "queue", "linearization point"])]
+        ["polls", "poll"], ["linked", "link"], ["failed poll", "failed poll"],
+        ["late link", "late link"], ["record", "record"], ["call", "call"],
+        ["sections", "section"], ["announce", "announce"], ["queue", "queue"],
+        ["linearization point", "linearization point"]], "each where it is first"
 
 
 def test_a_term_at_the_foot_of_the_window(page):

@@ -207,4 +207,4 @@ def test_the_answer_fits(page, language):
     assert sum(map(len, ASKED_IN.values())) > 20
     scrolled = {name: page.js("scrolledWithAnswer", name, moves)
                 for name, moves in ASKED_IN.items()}
-    assert not any(scrolled.values()), scrolled
+    assert not any(scrolled.values()), {name: it for name, it in scrolled.items() if it}

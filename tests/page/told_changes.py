@@ -1,6 +1,6 @@
-"""What page/why and docs/LOCKS.md say of each lock's code: its lines, and the changes of its steps.
+"""What built/why and docs/LOCKS.md say of each lock's code: its lines, and the changes of steps.
 
-page/why has the output of `locktrace why LOCK --runs`, as tests/locktrace/test_why.py checks.
+built/why has the output of `locktrace why LOCK --runs`, as tests/locktrace/test_why.py checks.
 """
 import itertools
 import re
@@ -31,7 +31,7 @@ def stops(lock):
 
 def told(lock):
     """The changes of a lock: step, how, verdict, moves, and what is said after each move."""
-    text = (TOP / "page" / "why" / f"{lock}.txt").read_text()
+    text = (TOP / "built" / "why" / f"{lock}.txt").read_text()
     for part in re.split(r"\n(?! )", text.rstrip())[2:]:
         first, *lines = part.splitlines()
         # A remark and a header, and then a line for each move and one for what came of it.

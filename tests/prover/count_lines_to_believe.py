@@ -21,6 +21,8 @@ from pathlib import Path
 CRATES = Path(__file__).resolve().parents[2] / "crates"
 CLAIMS = {
     "main theorem": ["lk_locks/specs/MainTheorem.EveryRunIsAsPromised"],
+    "never stuck": ["lk_locks/specs/Progress.NoRunIsStuck"],
+    "nobody starves": ["lk_locks/specs/Starvation.IsStarvationFree"],
     "bytes to bytes": ["lk_replay/specs/Whole.IsReportOfText"],
     "traces": ["lk_text/src/follow.follow_input()"],
     "searches": ["lk_search/src/shortest.first_meeting()", "lk_search/src/shortest.shortest_run()",

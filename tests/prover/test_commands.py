@@ -19,8 +19,7 @@ WRONG = {"another logic": (f"echo {OTHER}", OTHER),
          "many lines": (f"echo {OTHER}; echo {RIGHT}", OTHER),
          "an rt that fails": ("exit 2", "no rt on the path that works"),
          "no rt": (None, "no rt on the path that works")}
-TARGETS = ("demo", "test", "gate", "mutants", "programs", "lockreplay", "locktrace", "library",
-           "check", "test-needs")
+TARGETS = ("test", "gate", "mutants", "programs", "lockreplay", "locktrace", "check", "test-needs")
 CRATES = ("lk_words", "lk_page", "lk_tests")  # those that the Makefile names
 OUT = "crates/lk_words/out"
 RLIB = f"{OUT}/rlib"
@@ -120,12 +119,3 @@ def test_missing_packages(tree, user, line, status, calls):
     assert tree.run("tests/tools/needs.sh") == ("", line, status)
     assert len(tree.said("apt-get")) == calls
     assert tree.said("apt-get")[-1].endswith("--yes" if user == 0 else "--simulate")
-
-
-@pytest.mark.slow
-def test_demo():
-    """`make demo` prints the stored run of `lockreplay`, and nothing else on standard output."""
-    done = ran("make", "--silent", "demo", cwd=TOP, env=environment(), timeout=1000)
-    assert done.stdout == (TOP / "crates" / "lockreplay" / "stdout").read_text()
-    assert done.stderr.startswith("Not proved: ") and done.stderr.count("\n") == 1
-    assert done.returncode == 0

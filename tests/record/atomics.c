@@ -9,7 +9,7 @@
 #ifndef LR_MODE
 #define LR_MODE SEED
 #endif
-#include "../../record/lockreplay_record.h"
+#include "../../built/lockreplay_record.h"
 
 static lr_run *run;
 static int failed;

@@ -7,7 +7,7 @@
 #ifndef LR_MODE
 #define LR_MODE SEED
 #endif
-#include "../../record/lockreplay_record.h"
+#include "../../built/lockreplay_record.h"
 
 static lr_run *run;
 static int failed;
@@ -41,6 +41,8 @@ static void numbers()
     HAS_ONE(true, word.compare_exchange_strong(due, 9, std::memory_order_acq_rel,
                                                std::memory_order_acquire));
     HAS_ONE(false, word.compare_exchange_weak(due, 1));
+    HAS_ONE(false, word.compare_exchange_weak(due = 1, 1, std::memory_order_acq_rel,
+                                              std::memory_order_acquire));
     HAS_ONE(9u, word.fetch_add(3));
     HAS_ONE(12u, word.fetch_sub(2));
     HAS_ONE(10u, word.fetch_and(8));

@@ -3,7 +3,7 @@
 #include <signal.h>
 #include <sys/select.h>
 
-#include "../../record/lockreplay_record.h"
+#include "../../built/lockreplay_record.h"
 
 static lr_run *run;
 static int condition, woken;

@@ -4,7 +4,7 @@
 
    Prints each check that fails, and ends with 1 if one did. */
 #define LR_MODE VALUES
-#include "../../record/lockreplay_record.h"
+#include "../../built/lockreplay_record.h"
 
 static const char *directory;
 static int failed;

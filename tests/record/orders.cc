@@ -44,7 +44,7 @@ template <> struct atomic<probe> {
 
 } // namespace std
 
-#include "../../record/lockreplay_record.h"
+#include "../../built/lockreplay_record.h"
 
 static int failed;
 static const std::memory_order relaxed = std::memory_order_relaxed;

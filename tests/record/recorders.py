@@ -63,7 +63,7 @@ def copied(folder, example, mistake=None):
     """Copies the examples in C beside the header, plants a mistake in one, and returns its path."""
     copy = folder / SOURCES.relative_to(TOP)
     shutil.copytree(SOURCES, copy)
-    (folder / "record").symlink_to(TOP / "record")
+    (folder / "built").symlink_to(TOP / "built")
     if mistake:
         apply(PATCHES / "c" / example / f"{mistake}.patch", folder)
     return copy / f"{example}.c"

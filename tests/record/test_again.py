@@ -74,7 +74,7 @@ def test_operations_without_notes(noting, tmp_path, mode, most, less, status):
 
 
 # A search that ends after two runs, one that ends with a refusal, and a run that is made again.
-SEARCHES = f"""#include "{TOP}/record/lockreplay_record.h"
+SEARCHES = f"""#include "{TOP}/built/lockreplay_record.h"
 static void one_round(unsigned thread, unsigned round)
 {{
     (void)round;
@@ -112,10 +112,11 @@ def test_notes_of_an_earlier_run(noting, tmp_path, mode):
 def test_no_memory_for_the_check(refusing, tmp_path):
     """A run that cannot be checked is neither right nor wrong. Memory is refused to the check
     alone."""
-    refuses = refusing("realloc(old, size) "
-                       "_Generic(old, unsigned char *: NULL, default: realloc(old, size))")
+    refuses = refusing('calloc(count, size) '
+                       '(strcmp(#size, "sizeof(struct lt_step)") ? calloc(count, size) : NULL)',
+                       "#include <string.h>")
     assert compile_c("gcc", HERE / "notes.c", tmp_path / "it", "-DLR_MODE=EXPLORE", *refuses,
-                     '-DLOCK="ticket"', "-DNOTES=(void)0", TOP / "record" / "locktrace.c") == ""
+                     '-DLOCK="ticket"', "-DNOTES=(void)0", TOP / "built" / "locktrace.c") == ""
     done = ran(tmp_path / "it", 1, 1, 1, tmp_path / "logs")
     assert done.stdout.splitlines()[1] == "no memory for the check", done.stdout
     assert (done.stderr, done.returncode) == ("", 3)

@@ -8,6 +8,7 @@ import re
 
 import pytest
 
+from document_blocks import saved_files
 from recorders import (COMPILERS, HERE, IN_C_PLUS_PLUS, RECORDERS, SOURCES, STANDARDS, WARNINGS,
                        compile_c, language)
 from tree import TOP, output, ran
@@ -88,7 +89,7 @@ CALLER = """#include <pthread.h>
 #include <stdint.h>
 #include <stdlib.h>
 #include <string.h>
-#include "../../record/lockreplay_record.h"
+#include "../../built/lockreplay_record.h"
 enum { MOST_THREADS = 64 };
 static void open_lock(void);
 static void one_round(unsigned thread, unsigned round);
@@ -123,7 +124,7 @@ def test_nothing_is_left_of_the_header(tmp_path, compiler, example, level):
         for source in SOURCES.glob("*.[ch]"):
             text = CALLER if source.name == "driver.h" else source.read_text()
             (folder / source.name).write_text(change(text))
-    (tmp_path / "noted" / "record").symlink_to(TOP / "record")
+    (tmp_path / "noted" / "built").symlink_to(TOP / "built")
     target, noted, bare = (tmp_path / name for name in ("it.o", "noted", "bare"))
     source = f"examples/recording/{example}.c"
     off = object_code(compiler, noted / source, target, level, "-DLR_MODE=OFF")
@@ -140,7 +141,7 @@ def test_nothing_is_left_of_the_header(tmp_path, compiler, example, level):
 def test_note_is_short(tmp_path, compiler, note):
     """A note in VALUES has at most 36 instructions, and no call or barrier in the common case. At
     3 GHz, and 5 instructions a cycle, 36 take 2.4 ns."""
-    (tmp_path / "note.c").write_text(f'#include "{TOP}/record/lockreplay_record.h"\n'
+    (tmp_path / "note.c").write_text(f'#include "{TOP}/built/lockreplay_record.h"\n'
                                      f"void noted(long it);\n"
                                      f"void noted(long it) {{ (void)it; {note}; }}\n")
     assert output(compiler, "-std=c11", "-O2", "-DLR_MODE=VALUES", "-c", "-o", tmp_path / "note.o",
@@ -178,7 +179,7 @@ def test_messages_of_the_header(tmp_path, compiler):
         "/no/such/directory: No such file or directory", "/dev/null: Not a directory")]
 
 
-MANUAL = (TOP / "record" / "lockreplay_record.h").read_text().split("#ifndef")[0]
+MANUAL = (TOP / "built" / "lockreplay_record.h").read_text().split("#ifndef")[0]
 IN_SHORT = re.search(r"IN SHORT:.*\n((?: {7}.*\n)+)", MANUAL)[1]
 CALL = """static void one_call(unsigned thread, int call)
 {
@@ -190,7 +191,8 @@ int main("""
 
 @pytest.mark.parametrize("compiler", ["gcc", "clang"])
 @pytest.mark.parametrize("mode, words, said", [
-    ("EXPLORE", [2, 1, 2], "10 runs with up to 2 preemptions, all of them accepted\n"),
+    ("EXPLORE", [2, 1, 2], "10 runs with up to 2 preemptions, repeated polls left out, "
+     "all of them accepted\n"),
     ("FOLLOW", ["tour"], "1 schedules of 6 moves, 0 not followed\n")])
 def test_manual(library, tmp_path, compiler, mode, words, said):
     """The lock in the header's first comment works as it is there, and with the function for FOLLOW
@@ -201,7 +203,7 @@ def test_manual(library, tmp_path, compiler, mode, words, said):
     (tmp_path / "ticket.c").write_text(
         "#include <stdatomic.h>\n#include <lockreplay_record.h>\n"
         f"static _Atomic unsigned char next_ticket, now_serving;\n{text}")
-    assert output(compiler, "-pthread", f"-DLR_MODE={mode}", "-I", TOP / "record", "-o", "ticket",
+    assert output(compiler, "-pthread", f"-DLR_MODE={mode}", "-I", TOP / "built", "-o", "ticket",
                   "ticket.c", library, cwd=tmp_path) == ""
     for name in ("tour", "logs"):
         (tmp_path / name).mkdir()
@@ -215,7 +217,7 @@ def test_manual(library, tmp_path, compiler, mode, words, said):
 def test_program_of_two_files(noting, tmp_path, compiler, mode):
     """What a thread notes in one file is in the run that another file began."""
     (tmp_path / "lock.c").write_text(
-        f'#include "{TOP}/record/lockreplay_record.h"\nvoid take(void);\n'
+        f'#include "{TOP}/built/lockreplay_record.h"\nvoid take(void);\n'
         "void take(void) { LR_CALL(acquire); LR_ADD(next_ticket, 0); }\n")
     program = noting("ticket", "void take(void); take()", tmp_path / "lock.c", mode=mode,
                      compiler=compiler)
@@ -226,13 +228,17 @@ def test_program_of_two_files(noting, tmp_path, compiler, mode):
 
 @pytest.fixture
 def guide(tmp_path):
-    """Builds the guide's lock in a mode, as it is or with one text replaced by another."""
+    """Builds the guide's MCS lock in a mode, with its mistake or mended by the guide's command."""
+    for name, text in saved_files(GUIDE).items():
+        (tmp_path / name).write_text(text)
+    patch, mend = re.findall(r"^\$ ((?:patch|sed -i) .*queue.*)$", GUIDE, re.MULTILINE)
 
-    def build(mode, old="", new=""):
-        text = re.search(r"```c\n(.*?)```", GUIDE, re.DOTALL).group(1).replace(old, new)
-        (tmp_path / "try.c").write_text(text)
+    def build(mode, is_mended=True):
+        for command in [patch, mend][:1 + is_mended]:
+            assert output("sh", "-c", command, cwd=tmp_path) == ""
         assert output("gcc", "-O2", *WARNINGS, "-pthread", f"-DLR_MODE={mode}", "-I",
-                      TOP / "record", "-o", "try", "try.c", cwd=tmp_path) == ""
+                      TOP / "built", "-o", "try", "test-queue.c", TOP / "built" / "locktrace.c",
+                      cwd=tmp_path) == ""
         return tmp_path
     return build
 
@@ -252,11 +258,11 @@ def test_guide_by_threads(guide, judge):
 
 
 def test_guide_with_its_mistake(guide, judge):
-    """The run hangs, and its trace is refused at the line that the guide names."""
-    folder = guide("SEED", "served != ticket", "served < ticket")
-    assert "the run hangs" in ran("./try", 3, 1000, 17, "logs", cwd=folder).stderr
+    """The trace is refused at the line that the guide names."""
+    folder = guide("EXPLORE", is_mended=False)
+    assert "the last one is refused" in ran("./try", 2, 1, 2, "logs", cwd=folder).stdout
     line = judge.refused_line(folder / "logs" / "run.trace")
-    assert f"refused at line {line} of the trace, try.c:22: '2 release'" in GUIDE
+    assert f"refused at line {line} of the trace, queue-noted.c:18: '0 write" in GUIDE
 
 
 @pytest.mark.xdist_group("cargo")  # cargo locks its folder, so these tests share a worker

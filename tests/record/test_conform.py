@@ -1,8 +1,8 @@
 """Recorded locks follow every schedule of a tour, and a tour notices their mistakes.
 
 A tour takes every transition of the lock, by --threads threads with --rounds rounds each. The
-script conform.sh of examples/recording checks each trace with all its values: the library does it
-for a lock in C, and `locktrace` for a lock in Rust.
+script conform.sh of examples/recording checks each trace with all its values: built/locktrace.c
+does it for a lock in C, and `locktrace` for a lock in Rust.
 """
 import re
 
@@ -35,12 +35,11 @@ def counts_of(said):
 
 def conform(recorder, example, folder, mistake=None):
     """Runs the script, and returns its status and the counts that it prints."""
-    lock, checks, script = f"{example}.rs", recorder.locktrace, SOURCES / "conform.sh"
+    lock, script = f"{example}.rs", SOURCES / "conform.sh"
     if recorder.name == "c":
-        lock, checks = example, recorder.library
-        script = recorder.source(example, mistake).with_name("conform.sh")
-    done = ran(script, checks, lock, folder, timeout=600, env=environment(
-        CARGO_HOME=str(recorder.folder / "cargo"),
+        lock, script = example, recorder.source(example, mistake).with_name("conform.sh")
+    done = ran(script, lock, folder, timeout=600, env=environment(
+        LOCKTRACE=str(recorder.locktrace), CARGO_HOME=str(recorder.folder / "cargo"),
         CARGO_TARGET_DIR=str(recorder.folder / "conform")))
     assert counts_of(done.stdout), done.stderr
     return done.returncode, *counts_of(done.stdout)

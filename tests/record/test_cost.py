@@ -19,7 +19,7 @@ LOOPS, ROUNDS, MOST = 20000, 200, 0.25
 def build(tmp_path):
     def built(mode):
         assert output("gcc", "-std=c11", "-O2", *WARNINGS, "-pthread", f"-DLR_MODE={mode}",
-                      "-I", TOP / "record", "-o", tmp_path / mode,
+                      "-I", TOP / "built", "-o", tmp_path / mode,
                       TOP / "bench" / "recording.c") == ""
         return tmp_path / mode
     return built

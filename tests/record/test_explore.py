@@ -19,6 +19,7 @@ pytestmark = pytest.mark.slow
 
 IN_THREES = (3, 1)  # threads and rounds of a lock with a mistake
 MOST = 1  # preemptions, for a mistake that no explored run shows
+LEFT_OUT = "repeated polls left out, all of them accepted"
 RUST = [pytest.param("rust", example, id=example) for example in RECORDERS["rust"].examples]
 MISTAKES = [pytest.param("rust", mistake, id=str(mistake)) for mistake in IN_RUST]
 
@@ -54,7 +55,9 @@ def test_right_lock_that_checks_itself(recorder, tmp_path, example):
     """The example accepts all runs, and saves none."""
     done = ran(recorder.checked(example), "explore", 2, 1, 2, tmp_path)
     assert (done.stderr, done.returncode, list(tmp_path.glob("*.trace"))) == ("", 0, [])
-    assert ", all of them accepted\n" in done.stdout
+    polls = example in ("mcs", "ticket")
+    assert re.fullmatch(r"\d+ runs with up to 2 preemptions, "
+                        rf"{LEFT_OUT if polls else 'all of them accepted'}\n", done.stdout)
 
 
 @pytest.mark.parametrize("recorder, mistake", [of for of in MISTAKES
@@ -73,12 +76,13 @@ def test_mistake_that_checks_itself(recorder, judge, tmp_path, mistake):
         assert " hang\n" in done.stderr
 
 
-# An example in C, its mistake, (threads, rounds, preemptions), and the message of a search.
+# An example in C, its mistake, (threads, rounds, preemptions), and the message of a search. Threads
+# of a read-write lock wait for signals, and without a preemption no thread has to wait.
 EXPLORED = [
     ("mcs", None, (2, 1, 0), "2 runs with up to 0 preemptions, all of them accepted"),
-    ("mcs", None, (2, 1, 2), "22 runs with up to 2 preemptions, all of them accepted"),
-    ("ticket", None, (2, 1, 2), "10 runs with up to 2 preemptions, all of them accepted"),
-    ("ticket", None, (2, 1, 1), " runs with up to 1 preemption, all of them accepted"),
+    ("mcs", None, (2, 1, 2), f"22 runs with up to 2 preemptions, {LEFT_OUT}"),
+    ("ticket", None, (2, 1, 2), f"10 runs with up to 2 preemptions, {LEFT_OUT}"),
+    ("ticket", None, (2, 1, 1), f" runs with up to 1 preemption, {LEFT_OUT}"),
     ("rw_simple", None, (2, 1, 2), "86 runs with up to 2 preemptions, all of them accepted"),
     ("rw_fifo", None, (2, 1, 2), "86 runs with up to 2 preemptions, all of them accepted"),
     # Each thread makes 600 moves, and at each move of the first one there is a choice.
@@ -107,7 +111,7 @@ def test_search_in_c(in_c, tmp_path, example, name, counts, said):
     (1, "1 run with up to 0 preemptions, all of them accepted, and there are more\n"),
     (2, "2 runs with up to 0 preemptions, all of them accepted, and there are more\n"),
     (9, "9 runs with up to 2 preemptions, all of them accepted, and there are more\n"),
-    (10, "10 runs with up to 2 preemptions, all of them accepted\n")])
+    (10, f"10 runs with up to 2 preemptions, {LEFT_OUT}\n")])
 def test_most_runs(in_c, tmp_path, most, said):
     """A search makes at most as many runs as it is told."""
     assert answer(*in_c.command("ticket", "EXPLORE"), 2, 1, 2, tmp_path, most) == (said, "", 0)
@@ -233,7 +237,7 @@ def test_counters_that_begin_before_their_wrap(planted, tmp_path, name, line, sa
     right lock has as many runs as with counters that begin at 0."""
     done = ran(planted("ticket", name, f"-DLR_START={start}"), 2, 1, 2, tmp_path)
     if name is None or start == 0:
-        assert done.stdout == "10 runs with up to 2 preemptions, all of them accepted\n"
+        assert done.stdout == f"10 runs with up to 2 preemptions, {LEFT_OUT}\n"
     else:
         at = re.search(r"refused at line (\d+) of the trace, ticket.c:\d+: (.*?): ", done.stdout)
         assert at and int(at[1]) == line

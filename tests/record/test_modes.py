@@ -116,7 +116,7 @@ FOLLOWED = [
 @pytest.mark.parametrize("words, said", WORDS)
 def test_wrong_mode(words, said):
     done = ran("gcc", "-std=c11", "-fsyntax-only", *words.split(),
-               TOP / "record" / "lockreplay_record.h")
+               TOP / "built" / "lockreplay_record.h")
     assert done.returncode != 0 and f'#error "{said}"\n' in done.stderr
 
 
@@ -137,7 +137,7 @@ def test_nothing_is_recorded(tmp_path, flags, said):
 def test_wrong_note(tmp_path, compiler, note, due):
     """A note of a step that no lock has does not compile. The error names its line, and the words
     that there are."""
-    (tmp_path / "notes.c").write_text(f'#include "{TOP}/record/lockreplay_record.h"\n'
+    (tmp_path / "notes.c").write_text(f'#include "{TOP}/built/lockreplay_record.h"\n'
                                       f"void it(void);\nvoid it(void) {{ {note}; }}\n")
     done = ran(compiler, *language(compiler), *WARNINGS, "-DLR_MODE=VALUES", "-fsyntax-only",
                tmp_path / "notes.c")
@@ -149,7 +149,7 @@ def test_wrong_note(tmp_path, compiler, note, due):
 def test_words_that_are_macros(compiler, tmp_path):
     """A lock may have macros with the names of the words and the calls."""
     (tmp_path / "notes.c").write_text(
-        f'#include "{TOP}/record/lockreplay_record.h"\n'
+        f'#include "{TOP}/built/lockreplay_record.h"\n'
         "#define tail lock->tail\n#define next lock->next\n#define acquire take\n"
         "#define entered 1\nvoid it(void);\nvoid it(void)\n{\n    LR_CALL(acquire);\n"
         "    LR_SWAP(tail, 0);\n    LR_READ(next, 0);\n    LR_WRITE_OF(next, 1, 0);\n"
@@ -192,7 +192,7 @@ def test_trace_of_a_schedule(built, tmp_path, lesson):
 
 
 # A write lock whose holder lets others go first inside of the monitor, and signals.
-MONITOR = f"""#include "{TOP}/record/lockreplay_record.h"
+MONITOR = f"""#include "{TOP}/built/lockreplay_record.h"
 static int is_taken, is_inside, sections;
 static void comes(void) {{ LR_LOCK((void)0); if (is_inside++) _Exit(9); }}
 static void goes(void) {{ is_inside--; LR_UNLOCK((void)0); LR_SWITCH(); }}

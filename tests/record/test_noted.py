@@ -56,7 +56,7 @@ def test_order(tmp_path, compiler, mode, name, values, orders):
     """Without an order the operation has the strongest one, and else the order that is given."""
     strongest, given = ["memory_order_seq_cst"] * orders, ["memory_order_relaxed"] * orders
     (tmp_path / "it.c").write_text(
-        f'#include "{TOP}/record/lockreplay_record.h"\n'
+        f'#include "{TOP}/built/lockreplay_record.h"\n'
         f"THE ORDER OF lr_{name}(&word, {values}LR_TAIL)\n"
         f"THE ORDER OF lr_{name}_explicit(&word, {values}{', '.join(given)}, LR_TAIL)\n")
     text = output(compiler, "-std=c11", f"-DLR_MODE={mode}", "-E", tmp_path / "it.c")
@@ -174,7 +174,7 @@ def test_operation_after_its_point(tmp_path, compiler, mode):
     """After its point an operation is the same one, with the values and orders that are given."""
     rows = OPERATIONS + (OF_CLANG if compiler == "clang" else [])
     calls = [(name, given, left) for names, given, left in rows for name in names]
-    (tmp_path / "it.c").write_text(f'#include "{TOP}/record/lockreplay_record.h"\n' + "".join(
+    (tmp_path / "it.c").write_text(f'#include "{TOP}/built/lockreplay_record.h"\n' + "".join(
         f"THE POINT OF {name}(&word{given})\n" for name, given, _ in calls))
     text = output(compiler, "-std=c11", *f"-DLR_MODE={mode}".split(), "-E", tmp_path / "it.c")
     made = [re.findall(r"(__\w+)\(lr_p((?:, [^()]*)?)\);", it)

@@ -1,12 +1,11 @@
-"""Runs in which nothing was noted, and runs of more moves than the check has room for.
-
-The first show nothing of a lock, so they are no success. The second are checked up to a move.
+"""Runs in which nothing was noted, which are no success; and runs of more moves than a schedule may
+have, which are checked whole.
 """
 import re
 
 import pytest
 
-from recorders import NOTHING, SOURCES, compile_c, copied
+from recorders import NOTHING, SOURCES, compile_c
 from tree import TOP, answer, ran
 
 pytestmark = pytest.mark.slow
@@ -49,37 +48,34 @@ def test_search_in_which_one_thread_notes(noting, tmp_path):
     assert done.stdout.endswith(", all of them accepted\n") and done.returncode == 0
 
 
-CHECKED = ("lockreplay_record: a run was checked up to its move 65536, and accepted until then: "
-           "`locktrace check` checks all of its moves\n")
-
-
-def test_long_run(tmp_path):
-    """A right run is accepted, also if it has more moves than locktrace.c checks."""
+def test_long_run(library, tmp_path):
     program, logs = tmp_path / "it", tmp_path / "logs"
     assert compile_c("gcc", SOURCES / "ticket.c", program, "-DLR_MODE=SEED", "-DLR_CHECK",
-                     library=TOP / "record" / "locktrace.c") == ""
-    assert answer(program, 3, 4000, 1, logs) == ("", CHECKED, 0)
+                     library=library) == ""
+    assert answer(program, 3, 4000, 1, logs) == ("", "", 0)
     text = (logs / "run.trace").read_text()
     assert len(re.findall(r"^\d", text, re.MULTILINE)) > 65536 and "refused" not in text
 
 
-def test_long_schedule(tmp_path):
-    """FOLLOW says too how far a long run was checked. Of 10,923 rounds of six moves it is 65,536
-    moves; 16 values are enough for the tickets."""
+def test_long_schedule(library, tmp_path):
+    """10,923 rounds of six moves are more than 65,536; 16 values are enough for the tickets."""
     program, tour = tmp_path / "it", tmp_path / "tour"
     tour.mkdir()
     rounds = "".join(f"0 {word}\n" for word in "acquire add read release read write".split())
     (tour / "long.schedule").write_text(f"lock ticket threads 1 bits 4\n{rounds * 10_923}")
     assert compile_c("gcc", SOURCES / "ticket.c", program, "-DLR_MODE=FOLLOW", "-DLR_CHECK",
-                     library=TOP / "record" / "locktrace.c") == ""
+                     library=library) == ""
     assert answer(program, tour, tmp_path / "logs") == (
-        "1 schedules of 65538 moves, 0 not followed\n", CHECKED, 0)
+        "1 schedules of 65538 moves, 0 not followed\n", "", 0)
 
 
-def test_long_run_with_a_mistake(tmp_path):
-    """A mistake in the moves that are checked is found."""
-    source = copied(tmp_path, "ticket", "serves-the-next-ticket")
-    assert compile_c("gcc", source, tmp_path / "it", "-DLR_MODE=SEED", "-DLR_CHECK",
-                     library=TOP / "record" / "locktrace.c") == ""
-    done = ran(tmp_path / "it", 3, 4000, 1, tmp_path / "logs")
-    assert "refused at line " in done.stderr and done.returncode == 1
+ROUND = ("LR_CALL(acquire); LR_ADD(next_ticket, round); LR_READ(now_serving, round); "
+         "LR_CALL(release); LR_READ(now_serving, round); "
+         "LR_WRITE(now_serving, round + 1 + (round == 10999))")
+
+
+def test_late_mistake(noting, tmp_path):
+    """The last of 66,000 moves is wrong. They begin in the fourth line of the trace."""
+    done = ran(noting("ticket", ROUND, "-DLR_CHECK", mode="SEED"), 1, 11_000, 1, tmp_path / "logs")
+    assert "refused at line 66003 of the trace" in done.stderr and done.returncode == 1
+    assert "LeftOther: " in done.stderr and "the published lock leaves 11000" in done.stderr

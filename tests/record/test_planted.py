@@ -33,8 +33,10 @@ def test_most_mistakes_are_noticed_in_all_runs_of_a_mode():
 def test_document_counts_what_the_tables_have():
     rows = planted.read().values()
     counted = {mode: str(sum(planted.is_in_all(row, [mode]) for row in rows)) for mode in MODES}
-    text = (TOP / "docs" / "PLANTED.md").read_text().split("\n## ")[0]
-    assert dict(re.findall(r"^\| `(\w+)` \| (\d+) \|", text, re.MULTILINE)) == counted
+    text = planted.TABLES.read_text().split(planted.BEGIN)[0]
+    assert dict(re.findall(r"^\| (\w+) \| .* \| (\d+) \|$", text, re.MULTILINE)) == counted
+    recording = " ".join((TOP / "docs" / "RECORDING.md").read_text().split())
+    assert f"notices {counted['EXPLORE']} in one search, and `SEED` {counted['SEED']}" in recording
 
 
 def is_noticed(locktrace, program, seed, logs):

@@ -3,21 +3,16 @@
 An example in C with a mistake shows each message. Examples in Rust show the messages for which the
 suite has a mistake; record/rust/tests/published.rs has all messages.
 """
-import ctypes
 import re
 
 import pytest
 
-from locktrace import NO_WORD, Answer, Step
 from mistakes import IN_RUST
-from recorders import HERE, InRust, SOURCES, compile_c, copied, once
-from tree import TOP, output, ran
+from recorders import HERE, InRust, SOURCES, compile_c, copied
+from tree import ran
 
 pytestmark = pytest.mark.slow
 
-CHECK = TOP / "record" / "locktrace.c"
-READ, WRITE, SWAP, CAS, ADD, SECTION = range(16, 22)
-MOVED, WAITS, ENTERED, LEFT = range(1, 5)
 # An example in C, its mistake or a text with the one in its place, (threads, rounds, preemptions),
 # the fault and the message after it.
 IN_C = [
@@ -105,22 +100,12 @@ OF_RUST = {
 }
 
 
-@pytest.fixture(scope="session")
-def compiled(shared):
-    """Compiles the check once, since it takes longer to compile than any lock."""
-    def compile_it(words, name):
-        return once(shared / name, lambda: output("gcc", "-O1", *words, CHECK, "-o",
-                                                  shared / name))
-    return compile_it
-
-
 @pytest.fixture
-def searched(compiled, tmp_path):
+def searched(library, tmp_path):
     """Explores the runs of a lock in C with the check, and returns the message of a refusal."""
-    def search(source, counts, *flags, check=None):
+    def search(source, counts, *flags):
         assert compile_c("gcc", source, tmp_path / "it", "-DLR_MODE=EXPLORE", *flags,
-                         "-Wno-unused-function",
-                         library=check or compiled(["-c"], "check.o")) == ""
+                         "-Wno-unused-function", library=library) == ""
         done = ran(tmp_path / "it", *counts, tmp_path / "logs")
         assert done.returncode == 1, done.stdout
         return done.stdout
@@ -151,18 +136,6 @@ def test_in_c(searched, tmp_path, example, change, counts, fault, more):
     assert is_said(said, fault, more), said
 
 
-# With 2, a thread reads its grant while the other one has written its own `locked` since.
-@pytest.mark.parametrize("change, rounds, due", [
-    (("LR_READ(locked, locked)", "LR_READ(locked, locked ? 1 : 9)"), 2, 0),
-    (("LR_READ(locked, locked)", "LR_READ(locked, locked ? 9 : 0)"), 1, 1),
-    (("LR_SWAP(tail, LR_RECORD(lock->records, before))", "LR_SWAP(tail, before ? 9 : 0)"), 1, 2)])
-def test_value_by_the_library(searched, library, tmp_path, change, rounds, due):
-    """The library does not write the step in place of a refused one. Its value is what the steps
-    before it left in the word."""
-    said = searched(changed(tmp_path, "mcs", change), (2, rounds, 1), check=library)
-    assert is_said(said, "FoundOther", f"the published lock has {due}"), said
-
-
 @pytest.mark.parametrize("lock, notes, fault, more", BY_NOTES)
 def test_in_c_by_notes(searched, lock, notes, fault, more):
     said = searched(HERE / "notes.c", (2, 1, 0), f'-DLOCK="{lock}"', f"-DNOTES={notes}")
@@ -180,52 +153,4 @@ def test_in_rust(shared, tmp_path, name):
 
 def test_linker_says_what_is_missing(tmp_path):
     said = compile_c("gcc", SOURCES / "mcs.c", tmp_path / "it", "-DLR_MODE=EXPLORE")
-    assert "lr_compile_record_locktrace_c_too" in said and "lt_check" in said
-
-
-# A trace, and the record of the step that the lock has instead of the last one: its line, the
-# values found and left, the thread, the kind of step, the outcome, and the word.
-MCS, OUT = "lock mcs threads 2\n", "0 acquire\n0 write\n0 swap\n0 release\n"
-QUEUED = "0 acquire\n0 write\n0 swap\n1 acquire\n1 write\n1 swap\n1 write\n1 write\n"
-TICKET, RW = "lock ticket threads 2\n", "lock rw-simple threads 2\n"
-RECORDS = [
-    (MCS + "0 acquire\n0 write locked left 0\n", (3, 0, 0, 0, WRITE, MOVED, 1)),
-    (MCS + QUEUED + "1 read locked found 0\n", (10, 1, 1, 1, READ, WAITS, 4)),
-    (TICKET + "0 acquire\n0 add next_ticket found 0 left 2\n", (3, 0, 1, 0, ADD, MOVED, 0)),
-    (MCS + OUT + "0 read\n0 cas tail failed\n", (7, 1, 0, 0, CAS, LEFT, 0)),
-    (RW + "0 rlock\n0 section 1\n1 wlock\n1 section 2 entered\n",
-     (5, 0, 0, 1, SECTION, WAITS, NO_WORD)),
-    (RW + "0 rlock\n0 section 1\n1 rlock\n1 section 1\n",
-     (5, 0, 0, 1, SECTION, ENTERED, NO_WORD)),
-    # The last move is refused, and the record has the step that is due.
-    (MCS + "# a comment\n0 acquire\n\n0 cas tail done", (5, 0, 0, 0, WRITE, MOVED, 1)),
-    (MCS + QUEUED + "1 cas\n0 release\n", (10, 1, 1, 1, READ, WAITS, 4)),
-    (MCS + QUEUED + "1 release\n1 read\n0 nothing\n", (10, 1, 1, 1, READ, WAITS, 4)),
-    (TICKET + "1 acquire\n1 acquire\n", (3, 0, 1, 1, ADD, MOVED, 0)),
-    (RW + "0 rlock\n0 section\n1 wlock\n1 wunlock\n", (5, 0, 0, 1, SECTION, WAITS, NO_WORD)),
-    (TICKET + "0 acquire\n0 cas\n", (3, 0, 1, 0, ADD, MOVED, 0)),
-    # No step is due.
-    (TICKET + "0 release\n", None), (TICKET + "0 add\n", None), (TICKET + "2 acquire\n", None),
-    (TICKET + "0 cas\n", None), (TICKET + "0 acquire\n", None), (TICKET + "0 acquire\nx\n", None),
-]
-
-
-@pytest.fixture(scope="session")
-def check(compiled):
-    found = ctypes.CDLL(str(compiled(["-shared", "-fPIC"], "check.so"))).lt_check
-    found.restype = ctypes.c_uint32
-    return found
-
-
-@pytest.mark.parametrize("text, record", RECORDS)
-def test_record(check, text, record):
-    """The check writes the record if there is room for it, and nothing after it."""
-    for room in range(text.count("\n") + 2):
-        steps, answer = (Step * (room + 1))(), Answer()
-        check(text.encode(), ctypes.c_size_t(len(text)), steps, ctypes.c_size_t(room),
-              ctypes.byref(answer))
-        found = [tuple(getattr(step, name) for name, _ in Step._fields_) for step in steps]
-        count = answer.moves
-        assert not any(any(step) for step in found[min(room, count + 1):])
-        assert count >= room or found[count] == (record or (0,) * len(found[count]))
-    assert count < room  # the last room has the record
+    assert "lr_compile_built_locktrace_c_too" in said and "lt_check" in said

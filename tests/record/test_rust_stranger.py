@@ -57,7 +57,7 @@ def test_package(package):
     files = {str(file.relative_to(package)) for file in package.rglob("*") if file.is_file()}
     assert files >= {"README.md", "LICENSE-APACHE", "LICENSE-MIT", "build.rs", "locktrace.c",
                      "src/lib.rs"}
-    assert (package / "locktrace.c").read_text() == (TOP / "record/locktrace.c").read_text()
+    assert (package / "locktrace.c").read_text() == (TOP / "built/locktrace.c").read_text()
 
 
 def test_crate_alone(tmp_path):
@@ -66,10 +66,10 @@ def test_crate_alone(tmp_path):
     shutil.copytree(CRATE, crate, ignore=shutil.ignore_patterns("target"))
     done = made("build", "--features", "check", folder=crate)
     assert done.returncode != 0
-    assert ("locktrace.c, which is not here: copy record/locktrace.c of the repository beside the "
+    assert ("locktrace.c, which is not here: copy built/locktrace.c of the repository beside the "
             "Cargo.toml of lockreplay-record, or take the package that packaging/crate.sh writes"
             ) in done.stderr
-    shutil.copy(TOP / "record" / "locktrace.c", crate)
+    shutil.copy(TOP / "built" / "locktrace.c", crate)
     assert made("build", "--features", "check", folder=crate).returncode == 0
 
 

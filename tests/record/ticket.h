@@ -3,7 +3,7 @@
 #include <sched.h>
 #include <stdatomic.h>
 
-#include "../../record/lockreplay_record.h"
+#include "../../built/lockreplay_record.h"
 
 static _Atomic unsigned char next_ticket, now_serving;
 

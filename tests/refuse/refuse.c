@@ -15,8 +15,8 @@
  *                 Without the library it is granted: no request was refused.
  *
  * A request is a call of malloc, realloc, aligned_alloc, memalign or posix_memalign with any other
- * size. A program in Rattle uses only malloc and realloc (`nm -D`), and alignments above 16 are
- * refused before they get here. The library neither counts nor refuses calloc, which the C library
+ * size. The programs use only malloc and realloc (`nm -D`), and alignments above 16 are refused
+ * before they get here. The library neither counts nor refuses calloc, which the C library
  * calls when it starts a thread. Freeing a block, also by realloc(p, 0), is no request.
  *
  * A test of a call that may want memory is repeated for N = 1, 2, 3 and so on:
@@ -153,13 +153,18 @@ __attribute__((constructor)) static void start(void)
     armed = left = atol(number);
 }
 
-/* How a program in Rattle ends. */
+/* A program in C ends so. */
+__attribute__((destructor)) static void end(void)
+{
+    if (!is_armed_at_start) return;
+    is_armed_at_start = 0;
+    __atomic_store_n(&left, 0, __ATOMIC_SEQ_CST);
+    note();
+}
+
+/* A program in Rattle ends so. */
 void _exit(int status)
 {
-    if (is_armed_at_start) {
-        is_armed_at_start = 0;
-        __atomic_store_n(&left, 0, __ATOMIC_SEQ_CST);
-        note();
-    }
+    end();
     leave(status);
 }

@@ -6,7 +6,7 @@ from catalogue import (ANSWERS, DIFFERS, FAULTS, HOLDERS, MESSAGES, MOVES, OF, O
                        read)
 
 RUST, PAGE, MAN = "record/rust/src", "page/src", "packaging/man"
-DUE, C = "crates/lk_trace/src/due.rt", "crates/lk_trace_c/src/numbers.rt"
+DUE, C = "crates/lk_trace/src/due.rt", "crates/lk_page/src/fault_texts.rt"
 LIMIT = 1_000_000  # the states that a search goes through if no number is given
 MOST = {name: int(number.replace("_", "")) for name, number in found(
     r"pub const MOST_(MOVES|BYTES|OF_A_LINE): usize = ([\d_]+);",
@@ -18,7 +18,6 @@ SAID = {
     "crates/locktrace/src/*.rt": [f'VERSION: &str = "{VERSION}";', f"LIMIT: u64 = {LIMIT:_};",
                                   f"{LIMIT:,} if it is not given"],
     f"{MAN}/locktrace.1": [f"Without it {LIMIT:,}."],
-    "docs/RECORDING.md": [f"the first {MOST['MOVES']:,} moves"],
     "SECURITY.md": [f"at most {MOST['MOVES']:,} moves and {MOST['BYTES']:,} bytes",
                     f"at most {MOST['OF_A_LINE'] + 1} bytes are kept"],
     # What README.md names as not proved.

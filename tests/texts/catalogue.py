@@ -10,8 +10,8 @@ from pathlib import Path
 TOP = Path(__file__).resolve().parents[2]
 ENUMS, WORDS_OF = "crates/lk_locks/src/kinds.rt", "crates/lk_lines/src/vocabulary.rt"
 TRACE = "crates/lk_trace/src"
-SPECS = ("crates/lk_trace/specs/Codes.antt", "crates/lk_trace_c/specs/Numbers.antt",
-         "crates/lk_search/specs/Phases.antt", "crates/lk_page/specs/*.antt")
+SPECS = ("crates/lk_trace/specs/Codes.antt", "crates/lk_search/specs/Phases.antt",
+         "crates/lk_page/specs/*.antt")
 # The tables of the kinds of transition.
 KINDS = ("crates/lk_catalogue/src/*.rt", "crates/lk_search/src/kinds/*.rt")
 

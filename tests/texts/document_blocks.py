@@ -2,7 +2,7 @@
 import re
 from dataclasses import dataclass, field
 
-MARK = re.compile(r"<!-- (not run|file|with|quoted): (.+?) -->")
+MARK = re.compile(r"<!-- (not run|file|with|quoted|beside): (.+?) -->")
 FENCE = re.compile(r"\s*(```+)(\S*)\s*")
 
 
@@ -70,3 +70,10 @@ def without_blocks(lines):
             fence = opens.group(1)
         else:
             yield number, line
+
+
+def saved_files(text):
+    """The text of each block that a document saves as a file, by the file's name."""
+    blocks = blocks_of(text.splitlines())
+    return {block.marks["file"]: "\n".join(block.lines) + "\n" for block in blocks
+            if "file" in block.marks}

@@ -41,8 +41,8 @@ OUTSIDE = set("""
 """.split())
 # Files that the commands of a document write, or a build.
 WRITTEN = (
-    "logs/*", "ordered/*", "run.html", "try.c", "./try", "jobs.log", "hosts.log", "run.trace",
-    "run.schedule", "*.example", "*/out/*", "record/locktrace.h", "/dev/*", "{}*",
+    "logs/*", "ordered/*", "run.html", "jobs.log", "hosts.log", "run.trace",
+    "run.schedule", "*.example", "*/out/*", "/dev/*", "{}*",
     "examples/fault-too-*", "*.c",
 )
 
@@ -74,7 +74,8 @@ class Names:
         for path in self.files:
             self.words.update(re.findall(r"[\w-]+", path))
             self.defined.add(os.path.splitext(os.path.basename(path))[0])
-            if path.endswith(TEXTS) and os.path.isfile(top / path):
+            is_made = path.startswith("built/")  # of sources, which are read
+            if path.endswith(TEXTS) and not is_made and os.path.isfile(top / path):
                 self.add_text((top / path).read_text(errors="replace"))
         files = [top / "Makefile", *(top / "packaging").glob("*.mk")]
         make = "\n".join(file.read_text() for file in files)

@@ -9,6 +9,7 @@ later block finds the files of an earlier one. A comment above the fence says mo
     <!-- with: PART -->         it is run if PART is built
     <!-- file: NAME -->         the block is the file NAME, and is saved before the next one is run
     <!-- quoted: FILE -->       the block is lines of the file, one after another
+    <!-- beside: LEFT RIGHT --> it is one file, and from column 25 on another, both whole
 
 A block of commands in another language than sh or console is a fault. So is an indented command
 without a fence, and a command that leaves the reader in another folder, which `(cd FOLDER && ..)`
@@ -26,6 +27,7 @@ INDENTED = re.compile(r" {4,}(\$ |(make|rt|gcc|git|awk|sed|node|parallel|python3
                       r"lockreplay (replay|batch) |(tests/\w+|bench)/\w+\.(py|sh)\b)")
 LEAVES = re.compile(r"(\$ )?(cd|pushd) ")
 SECONDS = 50
+RIGHT = 25  # where the second of two files begins that are side by side
 END = "status of this command:"
 
 
@@ -51,9 +53,8 @@ class Room:
         show(TOP / "crates", self.path / "crates", {"lockreplay"})
         show(TOP / "crates" / "lockreplay", out.parent, {"out"})
         (tools / "lockreplay").symlink_to(program)
-        for path in (TOP / path for path, _ in (BUILT["locktrace"], BUILT["library"])):
-            if path.exists():
-                (tools / path.name).symlink_to(path)
+        if (TOP / BUILT["locktrace"][0]).exists():
+            (tools / "locktrace").symlink_to(TOP / BUILT["locktrace"][0])
         (out / "lockreplay").symlink_to(program)
         self.has = {path.name for path in tools.iterdir()}
         self.environment = environment(LC_ALL="C.UTF-8", PATH=f"{tools}:{os.environ['PATH']}")
@@ -103,6 +104,12 @@ def is_quote(block):
     return "\n".join(["", *block.lines, ""]) in f"\n{(TOP / block.marks['quoted']).read_text()}"
 
 
+def columns(block):
+    """The lines of a block's two columns."""
+    return [[part for part in (line[at].rstrip() for line in block.lines) if part]
+            for at in (slice(RIGHT), slice(RIGHT, None))]
+
+
 def faults_of_block(block, room):
     """Runs or saves a block, and yields its faults."""
     is_run = block.language in ("sh", "console")
@@ -110,6 +117,9 @@ def faults_of_block(block, room):
         yield "it leaves the reader in another folder"
     if "quoted" in block.marks and not is_quote(block):
         yield f"it is not in {block.marks['quoted']}"
+    if "beside" in block.marks and columns(block) != [
+            (TOP / name).read_text().splitlines() for name in block.marks["beside"].split()]:
+        yield f"its columns are not {block.marks['beside']}"
     if "file" in block.marks:
         (room.path / block.marks["file"]).write_text("\n".join(block.lines) + "\n")
     elif block.language in SHELLS:

@@ -1,7 +1,7 @@
 #!/usr/bin/env python3
 """Fills the marked regions of files with words, names and numbers of the catalogue.
 
-    tests/texts/generate.py            writes what differs, and page/why
+    tests/texts/generate.py            writes what differs, and built/why
     tests/texts/generate.py --check    says what differs, and ends with 1 if something does
 
 A region is between two comments of the file's language, `generated: LISTS` and `end`. Nobody edits
@@ -19,8 +19,8 @@ import places
 import plans
 from catalogue import (BITS, CALLS, DAY, DIFFERS, EXPECTED, FAULTS, LIMITS, LOCK_CODES, LOCKS,
                        MOVES, NO_WORD, OF_TEXTS, OUTCOMES, PARTS, PHASES, PLACES, REFUSED,
-                       RESULTS, STEPS, TOP, TRANSITIONS, VERSION, calls_of, found, is_monitor,
-                       read, title_of, words_of)
+                       RESULTS, STEPS, TOP, TRANSITIONS, VERSION, calls_of, is_monitor,
+                       title_of, words_of)
 from dispatches import DISPATCHES
 from lists import LISTS_OF_LOCKS, SENTENCES
 from orders import ORDERS
@@ -51,6 +51,12 @@ def indexed(numbers):
     return [words.get(number, "") for number in range(max(words) + 1)]
 
 
+def number_of(version):
+    """A version as a number, as LT_VERSION_NUMBER is one."""
+    major, minor, patch = map(int, version.split("."))
+    return 10_000 * major + 100 * minor + patch
+
+
 def lock_of(variant, name):
     """A lock, and the words of its steps in C and in Rust. A section is a step on no word."""
     own, of_record = words_of(name)
@@ -62,11 +68,6 @@ def lock_of(variant, name):
                 rust=rust, title=title_of(name) + ", a monitor" * is_monitor(name))
 
 
-# The text of each fault in C, by its number.
-TEXTS = {text: int(number) for number, text in found(
-    r'(\d+) => "(.*)"', read("crates/lk_trace_c/src/numbers.rt"))}
-TEXTS.update((f"{name}: {message}", REFUSED[name]) for name, message in found(
-    r'=> "(\w+)" "(.*)"', read("crates/lk_locks/src/refusals.rt")))
 # The page's names for the bits of a record's thread.
 BIT_NAMES = {"holds": "HOLDS", "is_queued": "IN_QUEUE", "writes": "AS_WRITER",
              "is_unlinked": "UNLINKED", "waits": "WAITS"}
@@ -79,15 +80,16 @@ LISTS = {
     **{name: [word(text, number=number) for text, number in numbers.items()] for name, numbers in {
         "numbers of moves": MOVES, "numbers of outcomes": RESULTS,
         "numbers of faults": {**REFUSED, **DIFFERS, **OF_TEXTS},
+        "differences": DIFFERS,
         # The module requests no memory, so it has no number for this fault.
         "faults of texts": {**FAULTS, "OutOfMemory": max(FAULTS.values()) + 1},
         "constants": {**{BIT_NAMES[name]: bit for name, bit in BITS.items()}, "NO_WORD": NO_WORD,
                       **LIMITS},
     }.items()},
     **{name: [word(text) for text in words] for name, words in {
-        "parts": PARTS, "differences": DIFFERS, "kinds": TRANSITIONS,
+        "parts": PARTS, "kinds": TRANSITIONS,
         "calls of ticket": calls_of("ticket"), "calls of rw-fifo": calls_of("rw-fifo"),
-        "moves by number": indexed(MOVES), "texts of faults": indexed(TEXTS),
+        "moves by number": indexed(MOVES),
         "outcomes by number": indexed(RESULTS), "phases by number": indexed(PHASES),
         "refusals by number": indexed(REFUSED), "expected by number": indexed(EXPECTED),
         "locks by number": indexed(LOCK_CODES),
@@ -97,7 +99,7 @@ LISTS = {
     **{f"plan of {plan['lock']}": [word(minutes, link=link, said=said)
                                    for minutes, link, said in plans.rows(plan)]
        for plan in plans.PLANS},
-    "version": [word(VERSION, day=DAY)],
+    "version": [word(VERSION, day=DAY, number=number_of(VERSION))],
     "codes": [word("Of", codes="Codes"), word("---", codes="---"), *(
         word(kind, codes=", ".join(f"{number} {text}" for text, number in numbers.items()))
         for kind, numbers in {
@@ -112,13 +114,12 @@ UNKNOWN = ('#define LR_NO_{}_OF(it) \\\n'
            '    LR_ERROR(GCC error "{} is {{others:, }} or {{last}}")')
 MANUAL, ALL = ".Li {others: , }\nor\n.Li {last} .", ".Li {all: , }"
 REGIONS = {
-    "record/locktrace.h": (
-        ("version", '#define LT_VERSION "{word}"'), ("numbers of moves", NUMBER),
-        ("numbers of outcomes", NUMBER), ("numbers of faults", NUMBER)),
-    "record/src/checker.c": (
-        ("moves by number", '"{word}",'), ("places", '"{word}",'),
-        ("outcomes by number", '"{word}",')),
-    "record/src/fault_text.c": (("texts of faults", '"{word}",'),),
+    "record/src/locktrace.h": (
+        ("version", '#define LT_VERSION "{word}"\n#define LT_VERSION_NUMBER {number}\n'),
+        ("numbers of moves", NUMBER), ("numbers of outcomes", NUMBER),
+        ("numbers of faults", NUMBER), ("moves by number", '"{word}",'),
+        ("outcomes by number", '"{word}",'),
+        ("locks", '{{"{word}", {own}, {of_record}, {{{texts:, }}}}},\n')),
     "record/src/lockreplay_record.h": (("version", '#define LR_VERSION "{word}"'),),
     "record/src/moves.h": (
         ("calls", "LR_CALL_{word},"), ("steps", "LR_STEP_{word},"), ("places", "LR_PLACE_{word},"),
@@ -130,10 +131,7 @@ REGIONS = {
         ("outcomes", UNKNOWN.format("OUTCOME", "an outcome"))),
     "record/src/run.h": (("calls, steps", '"{word}",'),),
     "record/src/texts.h": (("places", '" {word}",'), ("parts, outcomes", '" {word}",')),
-    "record/src/published.h": (("outcomes by number", '"{word}",'),),
     "record/src/open.h": (("locks", 'static const char locks[] = "{others:, } or {last}";'),),
-    "record/src/locks.h": (
-        ("locks", '{{"{word}", {own}, {of_record}, {{{texts:, }}}}},\n'),),
     "record/rust/src/moves.rs": (
         ("calls", "Call::{variant},\n"), ("calls", "Call" + ARM), ("places", "Word" + ARM),
         ("outcomes", "Outcome" + ARM)),
@@ -151,7 +149,8 @@ REGIONS = {
         ("numbers of moves", "{number}: '{word}',"),
         ("outcomes by number", "export const OUTCOMES = ['{all:', '}'];"),
         ("phases by number", "'{word}',"), ("faults of texts", "{number}: '{word}',"),
-        ("refusals by number", "'{word}',"), ("expected by number", "'{word}',"),
+        ("refusals by number", "'{word}',"), ("places", "'{word}',"),
+        ("differences", "{number}: '{word}',"), ("expected by number", "'{word}',"),
         ("constants", "export const {word} = {number};\n")),
     "page/src/locks/locks.js": (("modules by number", "export const LOCKS = [{all:, }];"),),
     "docs/GUIDE.md": tuple((f"plan of {plan['lock']}", PLAN) for plan in plans.PLANS),
@@ -219,16 +218,16 @@ def faults(is_check):
 
 
 def write_why(lock):
-    """Writes what `locktrace why LOCK --runs` says of a lock into page/why, if the program is built
-    and knows the lock. tests/locktrace/test_why.py compares the two."""
+    """Writes what `locktrace why LOCK --runs` says of a lock into built/why, if the program is
+    built and knows the lock. tests/locktrace/test_why.py compares the two."""
     program = TOP / "crates" / "locktrace" / "out" / "locktrace"
     done = subprocess.run([program, "why", lock, "--runs"], capture_output=True,
                           check=False) if program.exists() else None
     if done is None or done.returncode:
         said = done.stderr.decode().strip() if done else "locktrace is not built"
-        print(f"page/why/{lock}.txt stays as it is: {said}")
+        print(f"built/why/{lock}.txt stays as it is: {said}")
         return
-    (TOP / "page" / "why" / f"{lock}.txt").write_bytes(done.stdout)
+    (TOP / "built" / "why" / f"{lock}.txt").write_bytes(done.stdout)
 
 
 if __name__ == "__main__":

@@ -7,7 +7,7 @@ from urllib.parse import quote_plus
 from catalogue import TOP
 
 EXAMPLES = TOP / "examples"
-PAGE = "../page/lockreplay.html"
+PAGE = "../built/lockreplay.html"
 PLANS = json.loads((EXAMPLES / "plans.json").read_text(encoding="utf-8"))
 
 

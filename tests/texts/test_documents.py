@@ -8,7 +8,8 @@ from document_names import Names
 from documents import Room, faults_of
 from tree import TOP, VERSION, cases
 
-DOCUMENTS = sorted({path for pattern in ("*.md", "docs/*.md", "[a-z]*/README.md", "page/MODULE.md",
+DOCUMENTS = sorted({path for pattern in ("*.md", "docs/*.md", "[a-z]*/README.md",
+                                         "crates/*.md", "crates/*/README.md", "page/MODULE.md",
                                          "examples/recording/README.md",
                                          "tests/record/mistakes/README.md")
                     for path in TOP.glob(pattern)})
@@ -27,6 +28,8 @@ RIGHT = {
         "`lk_locks::Shape`, `theorems::calls_act_once`, `Words::read`, `Mode::Follow`, "
         "`Shape::clone`",
     "a quote": f"<!-- quoted: VERSION -->\n```text\n{VERSION}\n```",
+    "files side by side":
+        f"<!-- beside: VERSION VERSION -->\n```text\n{VERSION:25}{VERSION}\n```",
     "web link": "[a](https://example.org/b)",
 }
 FAULTY = {
@@ -42,6 +45,8 @@ FAULTY = {
     "an indented program": "    lockreplay replay < a",
     "a fence that is not closed": "```sh\ntrue",
     "a quote that is not there": "<!-- quoted: VERSION -->\n```text\n0.0\n```",
+    "a side that is not whole":
+        f"<!-- beside: VERSION VERSION -->\n```text\n{VERSION}\n```",
     "a link to nothing": "[a](no-such-file.md)",
     "a link to no heading": f"[a]({TOP}/README.md#no-such-heading)",
     "no such file": "`crates/no_such_crate/src`",

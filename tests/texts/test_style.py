@@ -9,6 +9,7 @@ flake8 reads Python (tox.ini has its rules), shellcheck shell, rustfmt Rust, cla
 - A file opens with a comment or a docstring that says what the file is. The path says this for
   lists of modules, and for the answers and invariants in the proof of one function.
 - JavaScript calls no method that Node 18 lacks, the version of Debian 12.
+- Documents avoid words and openings of sentences for which there is a plainer one.
 """
 import ast
 import fnmatch
@@ -22,8 +23,8 @@ FILES = [TOP / name for name in output("git", "ls-files", "-co", "--exclude-stan
                                        cwd=TOP).splitlines() if (TOP / name).is_file()]
 KINDS = (".rt", ".rs", ".antt", ".py", ".js", ".mjs", ".c", ".h", ".pml", ".sh", ".md")
 COLUMNS, LINES, BODY = 100, 400, 40
-# These files are joined from parts, which are checked instead.
-MADE = {TOP / "record" / name for name in ("lockreplay_record.h", "locktrace.c")}
+# What is in this folder is made of parts, which are checked instead.
+MADE = TOP / "built"
 
 # How a file of each kind opens, after a line `#!`.
 HEADS = {
@@ -43,6 +44,8 @@ FUNCTION[".mjs"], FUNCTION[".h"] = FUNCTION[".js"], FUNCTION[".c"]
 FUNCTION[".rs"] = FUNCTION[".rt"]
 TOO_NEW = re.compile(r"\.(to(?:Reversed|Sorted|Spliced|WellFormed)|isWellFormed|groupBy|fromAsync"
                      r"|withResolvers)\(")
+UNPLAIN = re.compile(r"\b(?i:so many|how often|somebody)\b|"
+                     r"(?:^|[.:] )(?:Of (?:the|a|all|each)|What (?:the|a|is))\b")
 NO_FUNCTION = {"if", "for", "while", "switch", "catch"}
 # Lines that cannot be broken: rows of tables and links in documents, and in a proof the path of a
 # module, which the language requires on one line.
@@ -128,12 +131,20 @@ def too_new(path, lines):
                 yield number, f"Node 18 has no {name}"
 
 
-RULES = (long_lines, long_file, long_bodies, missing_head, too_new)
+def unplain(path, lines):
+    """Words of documents for which there is a plainer one."""
+    if path.parent == TOP / "docs" or path.parent == TOP and path.name != "CHANGELOG.md":
+        for number, line in enumerate(lines if path.suffix == ".md" else [], 1):
+            for match in UNPLAIN.finditer(line):
+                yield number, f"there is a plainer word for {match[0]!r}"
+
+
+RULES = (long_lines, long_file, long_bodies, missing_head, too_new, unplain)
 
 
 @pytest.mark.parametrize("kind", KINDS)
 def test_layout(kind):
-    files = [path for path in FILES if path.suffix == kind and path not in MADE]
+    files = [path for path in FILES if path.suffix == kind and MADE not in path.parents]
     assert files and "\n".join(
         f"{path.relative_to(TOP)}:{number}: {said}" for path in files for rule in RULES
         for number, said in rule(path, path.read_text().splitlines())) == ""
@@ -147,7 +158,7 @@ def test_layout(kind):
              "record/rust"])], ids=lambda it: it if isinstance(it, str) else "")
 def test_tool(kinds, words):
     files = [path.relative_to(TOP) for path in FILES
-             if path.suffix in kinds.split() and path not in MADE]
+             if path.suffix in kinds.split() and MADE not in path.parents]
     assert files and output(*words, *files, cwd=TOP) == ""
 
 

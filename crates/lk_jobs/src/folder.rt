@@ -5,7 +5,8 @@
 //! The list is the first of the drafts and gets its name last, so at each time the list and its
 //! draft together name each file that is left: the next run goes on from there, wherever one was
 //! ended. Until the first draft gets its name the files of an earlier run are as they were. No
-//! other file is touched, and no link is followed.
+//! other file is touched: one that has the place of a file, a draft or a list ends the run before
+//! anything is written.
 
 ghost use Rattle.std.specs.Prelude.{◌≡◌, true};
 ghost use Rattle.std.specs.Char.{is_ascii_digit};
@@ -68,6 +69,14 @@ fn is_own_name(name: &[u8]) -> bool
     }
 }
 
+// Whether a text is a list, which a run that was ended may have cut off in its first line.
+fn is_list(text: &str) -> bool {
+    let is_cut = !text.as_bytes().contains(&b'\n');
+    text.lines()
+        .next()
+        .map_or(true, |name| is_cut || is_own_name(name.as_bytes()))
+}
+
 // What the system knows a file by, under all of its names: its device and its number there.
 type FileId = (u64, u64);
 
@@ -117,13 +126,18 @@ impl<R: Files> Folder<'_, R> {
         }
     }
 
-    // The files that a list of this path names, in the order of their names. None if it is missing.
-    fn names_in(&self, path: &str) -> Result<Vec<String>, Failure> {
+    // The text of the list of this path. It is empty if the list is missing.
+    fn list_at(&self, path: &str) -> Result<String, Failure> {
         let list = match fs::open(self.rt, path) {
-            Err(error) if error.kind() == ErrorKind::NotFound => return Ok(Vec::new(self.alloc)),
+            Err(error) if error.kind() == ErrorKind::NotFound => return Ok(String::new(self.alloc)),
             file => file.and_then(|file| io::read_to_string(self.alloc, file)),
         };
-        let list = Failure::unless(self.alloc, READ, path, list)?;
+        Failure::unless(self.alloc, READ, path, list)
+    }
+
+    // The files that the list of this path names, in the order of their names.
+    fn names_in(&self, path: &str) -> Result<Vec<String>, Failure> {
+        let list = self.list_at(path)?;
         let mut names = Vec::new(self.alloc);
         for name in list.lines() {
             if is_own_name(name.as_bytes()) {
@@ -134,7 +148,28 @@ impl<R: Files> Folder<'_, R> {
         Ok(names)
     }
 
-    // Fails if the folder has something in the place of one of these files that no list names.
+    // Fails if the file of this path is another one than a list.
+    fn leave_other_list(&self, path: &str) -> Result<(), Failure> {
+        if is_list(self.list_at(path)?.as_str()) {
+            Ok(())
+        } else {
+            Failure::in_place(self.alloc, path, self.command)
+        }
+    }
+
+    // Fails if there is something in this place.
+    fn leave_other(&self, path: &str) -> Result<(), Failure> {
+        match fs::symlink_metadata(self.rt, path) {
+            Err(error) if error.kind() == ErrorKind::NotFound => Ok(()),
+            found => {
+                Failure::unless(self.alloc, READ, path, found)?;
+                Failure::in_place(self.alloc, path, self.command)
+            }
+        }
+    }
+
+    // Fails if the folder has something in the place of one of these files that no list names, or
+    // in the place of its draft.
     fn leave_others(
         &self,
         names: &[String],
@@ -142,17 +177,13 @@ impl<R: Files> Folder<'_, R> {
         begun: &[String],
     ) -> Result<(), Failure> {
         for name in names {
-            if earlier.binary_search(name).is_ok() || begun.binary_search(name).is_ok() {
+            if begun.binary_search(name).is_ok() {
                 continue;
             }
-            let path = self.path_of(name)?;
-            match fs::symlink_metadata(self.rt, path.as_str()) {
-                Err(error) if error.kind() == ErrorKind::NotFound => {}
-                found => {
-                    Failure::unless(self.alloc, READ, path.as_str(), found)?;
-                    return Failure::in_place(self.alloc, path.as_str(), self.command);
-                }
+            if earlier.binary_search(name).is_err() {
+                self.leave_other(self.path_of(name)?.as_str())?;
             }
+            self.leave_other(self.draft_of(name)?.as_str())?;
         }
         Ok(())
     }
@@ -222,19 +253,27 @@ impl<R: Files> Folder<'_, R> {
     ///
     /// # Errors
     ///
-    /// A file that no list names has the place of one of these; one of the inputs, or a link to it,
-    /// would be replaced or removed; or a file cannot be read, written or removed. Then the files
-    /// of an earlier run are as they were.
+    /// A file that no list names has the place of one of these or of its draft, or another file the
+    /// place of a list; one of the inputs, or a link to it, would be replaced or removed; or a file
+    /// cannot be read, written or removed. Then the files of an earlier run are as they were.
     pub fn begin(&self, names: &[String], inputs: &[String]) -> Result<Vec<String>, Failure> {
         let made = fs::create_dir_all(self.rt, self.path);
         Failure::unless(self.alloc, WRITE, self.path, made)?;
-        let earlier = self.names_in(self.path_of(self.list_name()?.as_str())?.as_str())?;
-        let begun = self.names_in(self.list_draft()?.as_str())?;
-        self.leave_others(names, &earlier, &begun)?;
+        let (list, draft) = (
+            self.path_of(self.list_name()?.as_str())?,
+            self.list_draft()?,
+        );
+        self.leave_other_list(list.as_str())?;
+        self.leave_other_list(draft.as_str())?;
+        let (earlier, begun) = (
+            self.names_in(list.as_str())?,
+            self.names_in(draft.as_str())?,
+        );
         let inputs = self.ids_of(inputs)?;
         for touched in [names, &earlier, &begun] {
             self.leave_inputs(touched, &inputs)?;
         }
+        self.leave_others(names, &earlier, &begun)?;
         self.remove_others(&begun, &earlier)?;
         self.remove_drafts(&begun)?;
         let listed = self.write_list(names);
@@ -242,10 +281,9 @@ impl<R: Files> Folder<'_, R> {
         Ok(earlier)
     }
 
-    /// The draft of a file.
+    /// The draft of a file, which is new.
     pub fn create(&self, name: &str) -> Result<R::File, Failure> {
         let draft = self.draft_of(name)?;
-        self.remove(draft.as_str())?;
         let mut options = OpenOptions::new();
         options.write(true).create_new(true);
         let file = options.open(self.rt, draft.as_str());

@@ -10,7 +10,7 @@ use Rattle.lk_locks.specs.Legal.{after_entries, Legal, AreEnabled}
 use Rattle.lk_locks.specs.invariants.Locks.{AgreeAs, IsPhaseOf, owed_of}
 use Rattle.lk_locks.specs.Play.{Tracked, tracker_with}
 use Rattle.lk_locks.specs.invariants.Kept.{IsInTurn, Kept, IsRecorded, IsTracked}
-use Rattle.lk_locks.proofs.Cases.{AreOf, IsAgreed}
+use Rattle.lk_locks.proofs.Cases.{AreOf, IsAgreed, IsTaken}
 use Rattle.lk_locks.proofs.Threads.{each_phase}
 use Rattle.lk_locks.proofs.EachLock.{proof_of}
 use Rattle.lk_locks.proofs.Moves.{Accepted, accepted_of, well_kept}
@@ -40,21 +40,27 @@ turn_kept kind n bits ws es t p (Step k) f b r i =
     turn_of_step kind es _ t p _ (entries_are_own kind bits ws t p (Step k))
     ((proof_of kind).goes_on bits t ws p) i
 
+-- the facts that are given when a kept lock accepts a move
+pub taken_of : (s : State) (q : Sequential) (es : List Entry) (t : ℕ) (m : Move) → Kept s q es
+    → Accepted s t m → IsTaken s.kind s.bits s.words s.phases q t (phase_at s.phases t) m
+taken_of s q es t m k a = record {
+  kind_is = k.kind;
+  thread = a.thread;
+  few = k.few;
+  enough = k.well.enough;
+  phase_is = refl;
+  fits = k.well.phases_fit t a.thread;
+  own = a.own;
+  not_refused = a.fits;
+  agrees = k.agree;
+}
+
 -- the entries of an accepted move may come, and lock and sequential lock agree after it
 pub move_agrees : (s : State) (q : Sequential) (es : List Entry) (t : ℕ) (m : Move) → Kept s q es
     → Accepted s t m → IsAgreed (AgreeAs s.kind (next_state s t m)) q (change_of s t m).entries
 move_agrees s q es t m k a =
-    (proof_of s.kind).keeps s.bits s.words s.phases q t (phase_at s.phases t) m (record {
-      kind_is = k.kind;
-      thread = a.thread;
-      few = k.few;
-      enough = k.well.enough;
-      phase_is = refl;
-      fits = k.well.phases_fit t a.thread;
-      own = a.own;
-      not_refused = a.fits;
-      agrees = k.agree;
-    })
+    (proof_of s.kind).keeps s.bits s.words s.phases q t (phase_at s.phases t) m
+    (taken_of s q es t m k a)
 
 -- after an accepted move the lock, its sequential lock and its history still belong together
 pub keeps : (s : State) (q : Sequential) (es : List Entry) (t : ℕ) (m : Move) → Kept s q es

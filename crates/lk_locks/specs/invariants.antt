@@ -9,3 +9,4 @@ pub mod rw_fifo
 pub mod Locks
 pub mod WellFormed
 pub mod Kept
+pub mod Distance

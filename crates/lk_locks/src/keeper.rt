@@ -4,8 +4,11 @@
 ghost use Rattle.lk_locks.specs.Play.{RecordedLock, new_lock, after_play, IsPlayAnswer};
 ghost use Rattle.lk_locks.specs.invariants.Kept.{IsRecorded};
 ghost use Rattle.std.specs.Prelude.{◌≡◌, ℕ, ◌<◌, ◌≤◌, ◌^◌, [], length, slice_index, OnOk, OnErr};
+ghost use Rattle.std.specs.Prelude.{◌↔◌, IfSome, None};
 ghost use Rattle.lk_locks.specs.State.{phase_at, start_of};
-ghost use Rattle.lk_locks.specs.Steps.{refusal_of, change_of};
+ghost use Rattle.lk_locks.specs.Steps.{refusal_of, change_of, next_state};
+ghost use Rattle.lk_locks.specs.Progress.{IsFinishing, IsAtRest};
+ghost use Rattle.lk_locks.specs.invariants.Distance.{distance_of};
 ghost use Rattle.lk_locks.specs.Locks.{step_due, word_count};
 ghost use Rattle.lk_locks.specs.MainTheorem.{IsAsPromised};
 ghost use Rattle.lk_locks.specs.Holding.{as_holding, holding_of, waiting_of, IsListed};
@@ -46,6 +49,17 @@ impl Keeper<WordArray> {
             lock: Tracker::at_start(shape),
             history: History::new(alloc),
         }
+    }
+
+    /// Returns a move that brings the lock nearer to rest: it is accepted, and is neither a call
+    /// for the lock nor a failed poll. There is none if and only if all threads are idle.
+    pub fn finishing_move(&self) -> Option<(u8, Move)>
+        ensures finishing { IfSome result (λ found. IsFinishing self.now.state found.0 found.1) }
+        ensures nearer { IfSome result (λ found.
+            distance_of (next_state self.now.state found.0 found.1) < distance_of self.now.state) }
+        ensures none { result ≡ None ↔ IsAtRest self.now.state }
+    {
+        self.lock.finishing_move()
     }
 }
 

@@ -1,12 +1,14 @@
 //! The functions of each lock's module, by the lock, and the family that it belongs to. Code that
 //! the locks share calls these, and knows no lock.
 
-ghost use Rattle.std.specs.Prelude.{◌≡◌, ◌≤◌, ℕ, IfSome};
+ghost use Rattle.std.specs.Prelude.{◌≡◌, ◌≤◌, ℕ, IfSome, IfNone, true, false};
 ghost use Rattle.lk_locks.specs.Change.{Makes};
 ghost use Rattle.lk_locks.specs.Locks.{family_of, word_count, after_call, step_due};
 ghost use Rattle.lk_locks.specs.Locks.{operation_of, effect_of, step_of};
 ghost use Rattle.lk_locks.specs.Effects.{IsEffectOf};
-ghost use Rattle.lk_locks.specs.Steps.{belongs, move_change};
+ghost use Rattle.lk_locks.specs.Progress.{is_acquiring};
+ghost use Rattle.lk_locks.specs.Steps.{belongs, may_make, move_change};
+ghost use Rattle.lk_locks.specs.Types.{Op, Call};
 ghost use Rattle.lk_locks.specs.invariants.WellFormed.{IsReady};
 
 use crate::entries::{Added, Next};
@@ -66,6 +68,23 @@ pub(crate) fn after_call(kind: LockKind, phase: Phase, op: Op) -> Option<Phase>
         LockKind::Ticket => ticket::after_call(phase, op),
         LockKind::Mcs => mcs::after_call(phase, op),
         LockKind::RwSimple | LockKind::RwFifo => read_write::after_call(phase, op),
+    }
+}
+
+/// Returns the call by which a thread in this phase gives the lock back, if it is inside.
+#[tactic(auto, using(crate::proofs::progress::Leaving::only_acquires))]
+pub(crate) fn leaving_call(kind: LockKind, phase: Phase) -> Option<Op>
+    ensures leaves { IfSome result (λ op. (may_make kind phase (Call op) ≡ true)
+        × (is_acquiring kind (Call op) ≡ false)) }
+    ensures none { IfNone result ((op : Op) → may_make kind phase (Call op) ≡ true
+        → is_acquiring kind (Call op) ≡ true) }
+{
+    if after_call(kind, phase, Op::Release).is_some() {
+        Some(Op::Release)
+    } else if after_call(kind, phase, Op::ReadUnlock).is_some() {
+        Some(Op::ReadUnlock)
+    } else {
+        after_call(kind, phase, Op::WriteUnlock).and(Some(Op::WriteUnlock))
     }
 }
 

@@ -10,16 +10,26 @@ ghost use Rattle.lk_locks.specs.Steps.{accepts, refusal_of};
 ghost use Rattle.lk_locks.specs.Types.{Move};
 ghost use Rattle.lk_locks.specs.Legal.{OfEveryLegal};
 ghost use Rattle.lk_locks.specs.MainTheorem.{EveryRunIsAsPromised};
+ghost use Rattle.lk_locks.specs.Progress.{NoRunIsStuck};
 ghost use Rattle.lk_locks.specs.Exclusion.{IsHeldInTurn, IsHeldByHead, HasOneHolder, HasOneWriter};
 ghost use Rattle.lk_locks.specs.Exclusion.{IsNeverBesideReader, AnnouncedWriterGoesFirst};
 ghost use Rattle.lk_locks.specs.Order.{IsInOrder};
 ghost use Rattle.lk_locks.specs.Calls.{ActsOnce, ActsInCalls};
+ghost use Rattle.lk_locks.specs.Starvation.{IsStarvationFree, CanStarve};
+ghost use Rattle.lk_locks.specs.Types.{Ticket, Mcs, RwSimple, RwFifo, TryRead, TryWrite};
 
 /// After any moves the history of a new lock is legal, and so there are never two holders or
 /// writers, nor a writer beside a reader, and a queue lock is entered in the order of its tickets
 /// or swaps.
 pub fn every_run_is_as_promised()
     ensures { EveryRunIsAsPromised }
+{}
+
+/// After any moves on a new lock some thread can go on, unless all are idle: it has a move that is
+/// accepted, and is neither a call for the lock nor a failed poll. Such moves are few, in any
+/// order, and end at rest.
+pub fn no_run_is_stuck()
+    ensures { NoRunIsStuck }
 {}
 
 /// A move is accepted exactly if no refusal applies to it.
@@ -81,4 +91,21 @@ pub fn calls_act_once()
 /// Each act is in a call, whose return comes next.
 pub fn acts_are_called()
     ensures { OfEveryLegal ActsInCalls }
+{}
+
+/// While a thread waits in the queue of a lock, as an announced writer does, the threads together
+/// make few moves, failed polls aside: at most this number for each of the other threads.
+pub fn nobody_in_a_queue_starves()
+    ensures ticket { IsStarvationFree Ticket 6 }
+    ensures mcs { IsStarvationFree Mcs 13 }
+    ensures fifo { IsStarvationFree RwFifo 3 }
+{}
+
+/// Readers in turn can keep a writer of the simple lock out for ever, and writers in turn any
+/// thread that waits for the flag of a read-write lock, though it polls again and again.
+pub fn threads_in_no_queue_can_starve()
+    ensures simple_writer { CanStarve RwSimple TryWrite }
+    ensures simple_reader { CanStarve RwSimple TryRead }
+    ensures fifo_reader { CanStarve RwFifo TryRead }
+    ensures fifo_writer { CanStarve RwFifo TryWrite }
 {}

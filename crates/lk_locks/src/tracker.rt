@@ -1,14 +1,16 @@
 //! A lock with its sequential object: after each move it knows its holders and its queue. It keeps
 //! no history and takes no memory; `Keeper` adds the history.
 
-ghost use Rattle.std.specs.Prelude.{◌≡◌, [], IfOk};
+ghost use Rattle.std.specs.Prelude.{◌≡◌, ◌<◌, ◌↔◌, [], IfOk, IfSome, None};
 ghost use Rattle.lk_locks.specs.Change.{entries_by};
 ghost use Rattle.lk_locks.specs.Holding.{holder_after, as_holding, IsListed};
 ghost use Rattle.lk_locks.specs.Play.{Tracked, tracker_of, tracker_after, holding_in, waiting_in};
 ghost use Rattle.lk_locks.specs.invariants.Kept.{IsRecorded, IsTracked};
 ghost use Rattle.lk_locks.specs.State.{start_of};
 ghost use Rattle.lk_locks.specs.Sequential.{nobody};
-ghost use Rattle.lk_locks.specs.Steps.{change_of, refusal_of, refused_with};
+ghost use Rattle.lk_locks.specs.Steps.{change_of, next_state, refusal_of, refused_with};
+ghost use Rattle.lk_locks.specs.Progress.{IsFinishing, IsAtRest};
+ghost use Rattle.lk_locks.specs.invariants.Distance.{distance_of};
 
 use crate::entries::Added;
 use crate::holders::copy_of;
@@ -48,6 +50,17 @@ impl Tracker<WordArray> {
         ensures recorded { IsRecorded result [] }
     {
         Tracker::of_new(Machine::at_start(shape))
+    }
+
+    /// Returns a move that brings the lock nearer to rest: it is accepted, and is neither a call
+    /// for the lock nor a failed poll. There is none if and only if all threads are idle.
+    pub fn finishing_move(&self) -> Option<(u8, Move)>
+        ensures finishing { IfSome result (λ found. IsFinishing self.now.state found.0 found.1) }
+        ensures nearer { IfSome result (λ found.
+            distance_of (next_state self.now.state found.0 found.1) < distance_of self.now.state) }
+        ensures none { result ≡ None ↔ IsAtRest self.now.state }
+    {
+        self.machine.finishing_move()
     }
 }
 

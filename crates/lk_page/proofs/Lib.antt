@@ -5,4 +5,6 @@ pub mod OwnedBytes
 pub mod Turns
 pub mod StateBytes
 pub mod Seeking
+pub mod Resting
+mod CheckedLines
 mod Touching

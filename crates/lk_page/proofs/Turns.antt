@@ -2,9 +2,9 @@
 use Rattle.std.proofs.Common.{◌≡◌, ℕ, zero, suc, ◌+◌, ◌-◌, ◌<◌, List, ◌∷◌, take, Result, Ok, Err}
 use Rattle.std.proofs.Common.{ap, refl, ◌∙◌, arith, ◌*◌, ◌++◌, None, Some, subst, length, sym}
 use Rattle.lk_lines.specs.Faults.{Fault}
-use Rattle.lk_replay.specs.Schedule.{with_line}
+use Rattle.lk_replay.specs.Schedule.{moves_in, with_line}
 use Rattle.lk_replay.specs.declared.schedule.Line.{Line}
-use Rattle.lk_page.specs.Playing.{moves_in, moment, HavePlayed, ArePlaying}
+use Rattle.lk_page.specs.Playing.{moment, HavePlayed, ArePlaying}
 use Rattle.lk_locks.specs.State.{State, phase_at}
 use Rattle.lk_locks.specs.Steps.{refusal_of, change_of}
 use Rattle.lk_locks.specs.Play.{Tracked, tracker_after, tracker_of}
@@ -40,11 +40,6 @@ pub next_read : (l : Line) (before after : Result (List Line) Fault) → before 
     → before ≡ Ok (moves_in before) → IsRead l before after
 next_read l before (Ok ls) is whole = rw is (record { whole = refl; first = refl })
 next_read l before (Err fault) is whole = absurd (cc)
-
--- the count of the rest and of the moves before it, unless the rest has a fault
-abbrev pub more : ℕ → Result ℕ Fault → Result ℕ Fault
-more n (Ok m) = Ok (n + m)
-more n (Err fault) = Err fault
 
 -- ---- one move more of those that are asked for, or none
 

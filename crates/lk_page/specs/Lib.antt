@@ -7,3 +7,8 @@ pub mod Written
 pub mod Playing
 pub mod Asked
 pub mod Sought
+pub mod FaultNumbers
+pub mod FaultTexts
+pub mod Finishing
+pub mod Checking
+pub mod TraceParts

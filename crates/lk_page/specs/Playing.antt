@@ -1,37 +1,22 @@
 -- Invariants: moves that are read again, and played one after another.
-use Rattle.std.specs.Prelude.{◌≡◌, ℕ, ◌+◌, List, [], length, Option, Result, Ok, Err}
-use Rattle.lk_lines.specs.Faults.{Fault}
-use Rattle.lk_lines.specs.Lines.{Numbered}
+use Rattle.std.specs.Prelude.{◌≡◌, ℕ, ◌+◌, List, [], length, Option}
 use Rattle.lk_locks.specs.State.{State}
 use Rattle.lk_locks.specs.Play.{Tracked, tracker_of}
+use Rattle.lk_locks.specs.Sequential.{Sequential}
+use Rattle.lk_locks.specs.invariants.Kept.{IsTracked}
 use Rattle.lk_locks.specs.declared.kinds.Entry.{Entry}
 use Rattle.lk_locks.specs.declared.kinds.Refusal.{Refusal}
 use Rattle.lk_replay.specs.Replay.{replay_from}
-use Rattle.lk_replay.specs.Schedule.{moves_from}
 use Rattle.lk_replay.specs.declared.schedule.Line.{Line}
 use Rattle.lk_page.specs.Told.{Moment, after_lines}
 use Rattle.lk_page.specs.Written.{AreRecords}
 
--- the number of moves that were read
-abbrev pub move_count : Result (List Line) Fault → Result ℕ Fault
-move_count (Ok moves) = Ok (length moves)
-move_count (Err fault) = Err fault
-
--- the moves that were read, if there is no fault
-abbrev pub moves_in : Result (List Line) Fault → List Line
-moves_in (Ok moves) = moves
-moves_in (Err fault) = []
-
--- the moves in these lines, if `taken` came before them
-abbrev pub moves_left : Numbered → ℕ → List Line
-moves_left lines taken = moves_in (moves_from lines.number taken lines.lines)
-
--- no line of them has a fault
-abbrev pub AreMoves : Numbered → ℕ → Type 0
-AreMoves lines taken = moves_from lines.number taken lines.lines ≡ Ok (moves_left lines taken)
-
 abbrev pub moment : State → List Entry → Moment
 moment s es = record { state = s; entries = es }
+
+-- some history leads to the state
+abbrev pub HasHistory : State → Type 0
+HasHistory s = (q : Sequential) × IsTracked s q
 
 -- the outcome of the moves `ms` on a lock in state `s`
 pub record HavePlayed (s : State) (ms : List Line) (old : List ℕ) (k : Tracked) (count : ℕ)

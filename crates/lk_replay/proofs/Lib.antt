@@ -6,4 +6,5 @@ pub mod Listing
 pub mod Bits
 pub mod Passed
 pub mod Printed
+pub mod Parts
 pub mod Promised

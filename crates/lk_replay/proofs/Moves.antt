@@ -79,6 +79,11 @@ abbrev pub with_lines : List Line → Result (List Line) Fault → Result (List 
 with_lines prefix (Ok lines) = Ok (prefix ++ lines)
 with_lines prefix (Err fault) = Err fault
 
+-- the count of the rest and of the moves before it, unless the rest has a fault
+abbrev pub more : ℕ → Result ℕ Fault → Result ℕ Fault
+more n (Ok m) = Ok (n + m)
+more n (Err fault) = Err fault
+
 -- the next line that is not skipped is read
 pub line_read : (from taken number : ℕ) (lines : List (List ℕ)) (line : List ℕ)
     (others : List (List ℕ)) (move : Option (ℕ × Move)) → SkipsTo from lines number (line ∷ others)

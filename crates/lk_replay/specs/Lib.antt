@@ -6,3 +6,5 @@ pub mod Occupancy
 pub mod ReportRest
 pub mod Whole
 pub mod Devices
+pub mod Printing
+pub mod Part

@@ -1,9 +1,9 @@
 -- Definitions: the schedule that a text has, or else its one fault.
-use Rattle.std.specs.Prelude.{ℕ, ◌+◌, List, [], ◌∷◌, Option, Some, None, Bool, if◌then◌else◌, ◌==◌}
-use Rattle.std.specs.Prelude.{length, nat_lt, Result, Ok, Err}
+use Rattle.std.specs.Prelude.{◌≡◌, ℕ, ◌+◌, List, [], ◌∷◌, Option, Some, None, Bool, ◌==◌}
+use Rattle.std.specs.Prelude.{if◌then◌else◌, length, nat_lt, Result, Ok, Err}
 use Rattle.lk_locks.specs.declared.kinds.Move.{Move}
 use Rattle.lk_replay.specs.declared.schedule.Line.{Line}
-use Rattle.lk_lines.specs.Lines.{lines_of, is_skipped, move_of}
+use Rattle.lk_lines.specs.Lines.{Numbered, lines_of, is_skipped, move_of}
 use Rattle.lk_locks.specs.State.{Shape}
 use Rattle.lk_lines.specs.Header.{header_of}
 use Rattle.lk_lines.specs.Faults.{Fault, TooLong, NoHeader, BadLine, TooManyMoves}
@@ -28,6 +28,24 @@ moves_from number taken (line ∷ lines) =
     if is_skipped line then moves_from (number + 1) taken lines
     else moves_after (move_of line) number (taken == 65536)
     (moves_from (number + 1) (taken + 1) lines)
+
+-- the number of moves that were read
+abbrev pub move_count : Result (List Line) Fault → Result ℕ Fault
+move_count (Ok moves) = Ok (length moves)
+move_count (Err fault) = Err fault
+
+-- the moves that were read, if there is no fault
+abbrev pub moves_in : Result (List Line) Fault → List Line
+moves_in (Ok moves) = moves
+moves_in (Err fault) = []
+
+-- the moves in these lines, if `taken` came before them
+abbrev pub moves_left : Numbered → ℕ → List Line
+moves_left lines taken = moves_in (moves_from lines.number taken lines.lines)
+
+-- no line of them has a fault
+abbrev pub AreMoves : Numbered → ℕ → Type 0
+AreMoves lines taken = moves_from lines.number taken lines.lines ≡ Ok (moves_left lines taken)
 
 -- the lock and the moves of a schedule text
 pub record Plan : Type 0 where

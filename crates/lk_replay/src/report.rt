@@ -11,11 +11,13 @@ mod closings;
 mod lists;
 mod numerals;
 mod occupancy;
+mod printer;
 mod replay;
 mod text;
 
 use crate::read_schedule;
-pub use closings::fault_text;
+pub use closings::{fault_text, put_last};
+pub use printer::{LEAST_PLACE, Printer};
 pub use replay::Replay;
 use std::alloc::{AllocError, Global};
 

@@ -3,8 +3,8 @@
 ghost use Rattle.std.specs.Prelude.{◌≡◌, ◌≢◌, ◌+◌, ◌<◌, ◌≤◌, ◌^◌, [], length, IfErr, IfNone, IfOk};
 ghost use Rattle.std.specs.Prelude.{IfSome, MatchOption, Ok};
 ghost use Rattle.lk_lines.specs.Reads.{Fails, Gives, IsOfText};
-ghost use Rattle.lk_replay.specs.Schedule.{moves_from, plan_of, with_header};
-ghost use Rattle.lk_replay.specs.Schedule.{Plan, with_line};
+ghost use Rattle.lk_replay.specs.Schedule.{AreMoves, Plan, move_count, moves_from, moves_left};
+ghost use Rattle.lk_replay.specs.Schedule.{plan_of, with_header, with_line};
 
 use lk_lines::{Lines, ReadFault, header_of, move_of};
 use lk_locks::{LockKind, Move, Shape};
@@ -148,6 +148,38 @@ pub fn read_move(lines: &mut Lines<'_>, taken: usize) -> Result<Option<Line>, Re
         thread,
         action,
     }))
+}
+
+// The number of moves in these lines.
+fn count_moves(lines: Lines<'_>) -> Result<u32, ReadFault>
+    ensures read { Gives (λ count. count) result
+        (move_count (moves_from lines.entry.number 0 lines.entry.lines)) }
+    ensures no_memory { IfErr result IsOfText }
+{
+    let mut lines = lines;
+    let mut count: u32 = 0;
+    while let Some(_) = read_move(&mut lines, count as usize)? {
+        count += 1;
+    }
+    Ok(count)
+}
+
+/// Reads a schedule text to its end without taking memory, and returns its lock, the lines of its
+/// moves, and how many these are. `read_move` reads the moves again.
+///
+/// # Errors
+///
+/// The text's fault.
+pub fn open_schedule(text: &[u8]) -> Result<(Shape, Lines<'_>, u32), ReadFault>
+    ensures read { Gives (λ read. record { shape = read.0; moves = moves_left read.1 0 }) result
+        (plan_of text.now) }
+    ensures whole { IfOk result (λ read. AreMoves read.1 0) }
+    ensures count { IfOk result (λ read. read.2 ≡ length (moves_left read.1 0)) }
+    ensures no_memory { IfErr result IsOfText }
+{
+    let (shape, lines) = read_header(text)?;
+    let count = count_moves(lines.copy())?;
+    Ok((shape, lines, count))
 }
 
 // The moves of these lines, for which there is room for `most` at first.

@@ -15,7 +15,7 @@ use Rattle.lk_locks.specs.declared.kinds.Entry.{Entry}
 use Rattle.lk_locks.specs.declared.kinds.Entry.TheVariants.{Called, Acted}
 
 -- a fact about thread 0 and about thread 1 holds of both threads
-two_threads : (P : ℕ → Type 0) → P 0 → P 1 → (t : ℕ) → t < 2 → P t
+pub two_threads : (P : ℕ → Type 0) → P 0 → P 1 → (t : ℕ) → t < 2 → P t
 two_threads P p q zero h = p
 two_threads P p q (suc zero) h = q
 two_threads P p q (suc (suc t)) h = absurd (omega arith)

@@ -1,1 +1,3 @@
 pub mod WorkedHistories
+pub mod WorkedStates
+pub mod WorkedWaits

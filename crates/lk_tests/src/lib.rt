@@ -1,5 +1,5 @@
-//! Worked histories, which are contracts, proved and not run; and the tests of the libraries in
-//! which requests for memory are refused.
+//! Worked histories and states, which are contracts, proved and not run; and the tests of the
+//! libraries in which requests for memory are refused.
 //!
 //! A test of this crate is proved before it is run. Those in tests/library are not: they are
 //! modules of this crate, too, while they run, but in a copy of it and under an allocator that
@@ -21,3 +21,5 @@ mod refusing;
 #[cfg(test)]
 mod rows;
 pub mod worked_histories;
+pub mod worked_states;
+pub mod worked_waits;

@@ -1,6 +1,6 @@
 -- Definitions. The check of a move with what its thread saw: where they differ first. What a move
 -- does is said by the definitions of the locks alone.
-use Rattle.std.specs.Prelude.{ℕ, ◌==◌, [], slice_index, Option, Some, None, option_map}
+use Rattle.std.specs.Prelude.{ℕ, ◌==◌, [], length, slice_index, Option, Some, None, option_map}
 use Rattle.std.specs.Prelude.{Result, Ok, Err, Bool, false, not, nat_lt, if◌then◌else◌}
 use Rattle.std.specs.Bool.{beq}
 use Rattle.std.specs.Option.{option_and_then, option_or}
@@ -10,7 +10,7 @@ use Rattle.lk_locks.specs.State.{Shape, State, start_of, phase_at}
 use Rattle.lk_words.specs.Operations.{effect_on}
 use Rattle.lk_words.specs.declared.operation.Effect.{Effect}
 use Rattle.lk_locks.specs.Locks as locks
-use Rattle.lk_locks.specs.Locks.{operation_of}
+use Rattle.lk_locks.specs.Locks.{operation_of, step_due}
 use Rattle.lk_locks.specs.Steps.{refusal_of, change_of, next_state}
 use Rattle.lk_locks.specs.Play.{Tracked, tracker_of, tracker_with}
 use Rattle.lk_locks.specs.declared.kinds.LockKind.{LockKind}
@@ -142,7 +142,7 @@ unless_other (Some difference) next now = now
 abbrev pub after_line : Checked → TraceLine → Checked
 after_line c l = unless_other (difference_of c l) (lock_with c l) c
 
--- the answer to a move that is made
+-- a call of thread t, or the step that it makes next, as it would be made
 abbrev pub made_of : State → ℕ → Move → Made
 made_of s t m = record {
   from = phase_at s.phases t;
@@ -150,6 +150,15 @@ made_of s t m = record {
   effect = effect_of s t m;
   section = section_of s t m;
 }
+
+-- the step that thread t makes next, and as it would be made. There is none if there is no such
+-- thread, or if it has no pending call
+abbrev pub next_made : State → ℕ → Option (Move × Made)
+next_made s t =
+    if nat_lt t (length s.phases)
+    then option_map (λ kind. (Step kind, made_of s t (Step kind)))
+    (step_due s.kind (phase_at s.phases t))
+    else None
 
 abbrev pub answer_unless : Option Difference → Made → Result Made Difference
 answer_unless None made = Ok made

@@ -1,5 +1,5 @@
 -- Definitions. Moves, outcomes, refusals and the faults of texts as numbers, and the names of
--- faults and differences. `record/locktrace.h` and the page have the same.
+-- faults and differences. `built/locktrace.h` and the page have the same.
 use Rattle.std.specs.Prelude.{ℕ, List, codes}
 use Rattle.lk_locks.specs.declared.kinds.Op.TheVariants.{Acquire, Release, ReadLock, ReadUnlock}
 use Rattle.lk_locks.specs.declared.kinds.Op.TheVariants.{WriteLock, WriteUnlock, Downgrade}

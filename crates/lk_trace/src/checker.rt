@@ -5,10 +5,11 @@ ghost use Rattle.std.specs.Prelude.{◌≡◌, ◌<◌, ◌≤◌, ◌^◌, ◌�
 ghost use Rattle.lk_locks.specs.State.{phase_at};
 ghost use Rattle.lk_trace.specs.Agreement.{Agrees, IsCounted, count_in};
 ghost use Rattle.lk_trace.specs.Checks.{after_line, answer_to, count_given, difference_of};
-ghost use Rattle.lk_trace.specs.Checks.{new_lock, Checked};
+ghost use Rattle.lk_trace.specs.Checks.{new_lock, next_made, Checked};
 
+use crate::compare::made_of;
 use crate::{Difference, Seen, TraceLine, check_line};
-use lk_locks::{LockKind, Outcome, Phase, SectionEffect, Shape, Tracker};
+use lk_locks::{LockKind, Move, Outcome, Phase, SectionEffect, Shape, Tracker};
 use lk_words::{Effect, WordArray};
 use std::marker::Model;
 
@@ -77,6 +78,19 @@ impl Checker {
         } else {
             None
         }
+    }
+
+    /// Returns the step that a thread makes next, as it would be made now. There is none if there
+    /// is no such thread, or if it has no pending call.
+    pub fn next_made(&self, t: u8) -> Option<(Move, Made)>
+        ensures { result ≡ next_made self.now.lock.state t }
+    {
+        let machine = self.lock.machine();
+        if t >= machine.threads() {
+            return None;
+        }
+        let step = Move::Step(machine.next_step(t)?);
+        Some((step, made_of(machine, t, step)))
     }
 
     /// Where the line differs from the machine first, with nothing changed.

@@ -1,4 +1,4 @@
-//! Moves, outcomes, refusals and the faults of texts as numbers. `record/locktrace.h` and the page
+//! Moves, outcomes, refusals and the faults of texts as numbers. `built/locktrace.h` and the page
 //! have the same ones.
 
 ghost use Rattle.std.specs.Prelude.{◌≡◌};

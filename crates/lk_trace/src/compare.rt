@@ -1,7 +1,6 @@
 //! In what a line of a trace differs from the machine, with nothing changed.
 
 ghost use Rattle.std.specs.Prelude.{◌≡◌, ◌<◌, ◌↔◌, None, Some, IsOk, IfOk, IfErr, IfSome, length};
-ghost use Rattle.lk_locks.specs.Steps.{refusal_of};
 ghost use Rattle.lk_trace.specs.Agreement.{Agrees};
 ghost use Rattle.lk_trace.specs.Checks.{difference_of, effect_other, made_of, on, section_other};
 
@@ -59,12 +58,14 @@ fn section_other(
     }
 }
 
-// A move that the machine accepts, as it would be made.
-fn made_of(machine: &Machine<WordArray>, t: u8, m: Move) -> Made
-    requires { refusal_of machine.now t m ≡ None }
+/// Returns a call of a thread, or the step that it makes next, as it would be made.
+#[tactic(auto, using(crate::proofs::Waiting::would_wait))]
+pub fn made_of(machine: &Machine<WordArray>, t: u8, m: Move) -> Made
+    requires { t < length machine.now.phases }
     ensures value { result ≡ made_of machine.now t m }
     ensures within { IfSome result.effect (λ effect. effect.word < length machine.now.words) }
 {
+    let from = machine.phase(t);
     let (outcome, effect, section) = match (m, machine.effect(t)) {
         (Move::Call(_), _) => (Outcome::Called, None, None),
         (Move::Step(_), None) => (Outcome::Waits, None, None),
@@ -76,7 +77,7 @@ fn made_of(machine: &Machine<WordArray>, t: u8, m: Move) -> Made
         }
     };
     Made {
-        from: machine.phase(t),
+        from,
         outcome,
         effect,
         section,

@@ -114,12 +114,13 @@ export class Comparing {
     return Math.max(this.page.session.run.last, this.compared().session.run.last);
   }
 
-  // The other run beside the move that is shown: {view, state}.
+  // The other run beside the move that is shown: {view, state}. It hides what the question of this
+  // run hides until its answer, and asks nothing itself.
   comparedView() {
     const { page } = this;
     const { session, at, first } = this.compared();
     const view = session.view({
-      answered: page.answered, hidden: page.hides, future: looks.future, different: first,
+      answered: !page.isAsked, hidden: page.hides, future: looks.future, different: first,
       compares: true,
     }, at(page.session.place));
     return { view, state: session.run.state(view.move) };

@@ -8,6 +8,7 @@ import { show } from '../lib/markup.js';
 import { texts } from '../texts/texts.js';
 import { lockOptions } from '../view/choices_view.js';
 import { drawPaper } from '../view/draw_page.js';
+import { untellAll } from '../view/notice.js';
 import { listenForTerms } from '../view/terms.js';
 import { listenForKeys } from './keys.js';
 import { listenForSwipes } from './swipes.js';
@@ -48,7 +49,8 @@ function clicks(page) {
     'show-about': () => page.showAbout(),
     'show-take': () => page.showExports(), 'show-find': () => page.showFind(),
     'close-banner': () => { byId('banner').hidden = true; page.fit(); },
-    undo: () => playing.undo(), 'undo-own': () => playing.undo(), save: () => editing.save(),
+    finish: () => playing.finish(), undo: () => playing.undo(),
+    'undo-own': () => playing.undo(), save: () => editing.save(),
     copy: () => editing.copy(), open: () => chooseFile(byId('file')),
     clear: () => page.openOwn(new TextEncoder().encode(texts.own.template)),
   };
@@ -74,7 +76,9 @@ function partsThatAreDrawn(page) {
     // Code that was selected is to be copied.
     if (line && getSelection().isCollapsed) page.why.openHere(line);
   });
-  byId('next-kinds').addEventListener('toggle', () => page.draw());
+  for (const id of ['next-kinds', 'standstill']) {
+    byId(id).addEventListener('toggle', () => page.draw());
+  }
   byId('next-kinds-list').addEventListener('click', (event) => {
     const { nextKind } = targetOf(event).dataset;
     if (nextKind) page.playing.chooseKind(Number(nextKind));
@@ -97,8 +101,9 @@ function further(page) {
     if (way === 'next') page.lecture.next();
   });
   byId('now').addEventListener('click', (event) => {
-    const { next } = dataOf(event, '[data-next]');
+    const { next, end } = dataOf(event, '[data-next], [data-end]');
     if (next) page.openLesson(next);
+    if (end) page.showEnd();
   });
 }
 
@@ -178,6 +183,7 @@ export function listen(page) {
   answers(page);
   quiz(page);
   further(page);
+  for (const begins of ['keydown', 'pointerdown']) addEventListener(begins, untellAll, true);
   listenForTerms();
   listenForSwipes(page);
   files(page);

@@ -14,14 +14,15 @@ function actions(page) {
   const { address, comparing, hall, lecture, modes, playing, presenter, stepping } = page;
   return {
     ArrowRight: () => stepping.step(1), ArrowLeft: () => stepping.step(-1),
-    PageDown: () => stepping.step(looks.hall ? 1 : FAR),
-    PageUp: () => stepping.step(looks.hall ? -1 : -FAR),
+    PageDown: () => (looks.hall ? stepping.press(1) : stepping.step(FAR)),
+    PageUp: () => (looks.hall ? stepping.press(-1) : stepping.step(-FAR)),
     Home: () => page.go(0), End: () => stepping.end(), ' ': () => stepping.toggleRunning(),
     ']': () => stepping.sameThread(1), '[': () => stepping.sameThread(-1),
     n: () => lecture.next(), j: () => stepping.nextQuestion(), a: () => stepping.toggleAnswer(),
     o: () => page.chooseLesson(), e: () => modes.toggle('own'), g: () => modes.toggle('play'),
     q: () => modes.toggleQuiz(),
-    w: () => page.mode === 'play' && playing.toggleEvery(), Enter: () => stepping.openNext(),
+    w: () => page.mode === 'play' && playing.toggleEvery(), r: () => playing.finish(),
+    Enter: () => stepping.openNext(),
     c: () => comparing.toggle(), u: () => playing.undo(), l: () => address.copy(),
     t: () => page.showExports(), m: () => page.showFind(),
     h: () => page.toggleHall(), s: () => hall.fillScreen(), Escape: () => hall.leave(),

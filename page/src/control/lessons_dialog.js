@@ -4,7 +4,8 @@
 import { byId, closesBeside, dataOf, dialogOf, focusIn } from '../lib/elements.js';
 import { html, show } from '../lib/markup.js';
 import { texts } from '../texts/texts.js';
-import { doneLessons } from '../model/done_lessons.js';
+import { LOCK_NAMES } from '../machine/codes.js';
+import { doneLessons, PROLOGUE } from '../model/done_lessons.js';
 import { MOST_KEPT } from '../model/kept_schedules.js';
 import { remarksOf } from '../model/remarks.js';
 import { LOCKS } from '../locks/locks.js';
@@ -16,32 +17,42 @@ import { LiveCards } from './live_cards.js';
 /** @typedef {import('../model/session.js').Session} Session */
 
 export const FIRST_LESSON = 'ticket-hand-over';
+const PROLOGUE_BUTTON = '[data-prologue]';
 const T = texts.lessons;
 // Seconds for a move and for a question.
 const PACE = { move: 10, question: 30 };
 // How many of the kept schedules are not folded.
 const KEPT_AT_ONCE = 12;
 
-// Lessons with what one learns in them, how many moves they have and how long they take.
+// Lessons with what one learns in them, how many moves one steps through, and how long that takes.
 /** @param {Run} run */
 function described(lesson, run) {
-  const { learn, ask } = remarksOf(lesson.text);
-  const seconds = PACE.move * run.last + PACE.question * ask.size;
+  const { learn, ask, begin } = remarksOf(lesson.text);
+  const moves = run.last - begin;
+  const seconds = PACE.move * moves + PACE.question * ask.size;
   const minutes = Math.max(1, Math.round(seconds / 60));
-  return { ...lesson, learn, moves: run.last, minutes };
+  return { ...lesson, learn, moves, minutes };
 }
 
+// The number of a lesson, or that it is done.
+const numberOf = (name, number) => (doneLessons().has(name)
+  ? html`<span role="img" title="${T.done}" aria-label="${T.done}">✓</span>` : number);
+
 function lessonButton({ name, title, learn, moves, minutes }, number, current) {
-  const isDone = doneLessons().has(name);
   return html`<li><button type="button" data-lesson="${name}"
     ${name === current && html`aria-current="true"`}><span class="number">${
-  isDone ? html`<span role="img" title="${T.done}" aria-label="${T.done}">✓</span>` : number}</span>
+  numberOf(name, number)}</span>
     <span><b>${title}</b>${learn && html`<span class="learn">${learn}</span>`}
     <span class="soft">${learn ? T.size(moves, minutes) : name}</span></span></button></li>`;
 }
 
-const listOf = (lessons, current, last = null) => html`<ol>${lessons.map((one, at) => (
-  lessonButton(one, at + 1, current)))}${last}</ol>`;
+const listOf = (lessons, current, first = null, last = null) => html`<ol>${first}${
+  lessons.map((one, at) => lessonButton(one, at + 1, current))}${last}</ol>`;
+
+// Before the first lesson, why there are locks.
+const prologueButton = () => html`<li><button type="button" data-prologue="begin"><span
+  class="number">${numberOf(PROLOGUE, 0)}</span><span><b>${texts.prologue.title}</b><span
+  class="learn">${texts.prologue.teaser}</span></span></button></li>`;
 
 // After the lessons of a lock, why its lines are there.
 const whyButton = (lock) => html`<li><button type="button" data-why="${lock}"><span
@@ -51,7 +62,8 @@ const whyButton = (lock) => html`<li><button type="button" data-why="${lock}"><s
 function cardView({ name, title }, lessons, current) {
   return html`<section class="lock-card" data-lock="${name}"><div class="live"
     data-live="${name}" aria-hidden="true"></div><h3>${title}</h3>
-    <p>${withTerms(T.teaches[name])}</p>${listOf(lessons, current, whyButton(name))}</section>`;
+    <p>${withTerms(T.teaches[name])}</p>${listOf(lessons, current,
+    lessons[0].name === FIRST_LESSON && prologueButton(), whyButton(name))}</section>`;
 }
 
 function keptView(kept) {
@@ -87,6 +99,15 @@ function startView(lessons, current, kept, isStored) {
     ${waysView(isStored)}${refusedView(lessons, current)}`;
 }
 
+// What to begin with: the prologue before all, then the lesson that is shown, and after it the
+// first of those that are not done.
+function toBegin(lessons, current) {
+  const done = doneLessons();
+  if (!done.size && current === FIRST_LESSON) return PROLOGUE_BUTTON;
+  const next = lessons.find(({ name, group }) => LOCK_NAMES.includes(group) && !done.has(name));
+  return done.has(current) && next ? `[data-lesson="${next.name}"]` : '[aria-current]';
+}
+
 // At once, so that its pictures are none of the page's.
 export function closeLessons() {
   dialogOf('lessons').close();
@@ -102,7 +123,7 @@ export function lessonsDialog(lessons, session, choose) {
   closesBeside(dialog);
   dialog.addEventListener('click', (event) => {
     const chosen = dataOf(event, 
-      '[data-lesson], [data-kept], [data-why], [data-way], [data-lang]');
+      '[data-lesson], [data-kept], [data-prologue], [data-why], [data-way], [data-lang]');
     const [what, value] = Object.entries(chosen)[0] ?? [];
     if (!what) return;
     dialog.close();
@@ -117,6 +138,9 @@ export function lessonsDialog(lessons, session, choose) {
     show(byId('lesson-list'), startView(all, current, kept, session.machine.stored));
     dialog.showModal();
     live.draw(dialog);
-    focusIn(dialog, '[aria-current]');
+    const first = toBegin(lessons, current);
+    focusIn(dialog, first);
+    // In a small window the focus alone would scroll the title away.
+    if (first === PROLOGUE_BUTTON) dialog.scrollTop = 0;
   };
 }

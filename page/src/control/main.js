@@ -19,13 +19,14 @@ import { Page } from './page.js';
 import { testPort } from './test_port.js';
 
 const unpackedPart = async (part) => new Uint8Array(await unpacked(fromBase64(part)));
+const unpackedJson = async (part) => JSON.parse(lettersOf(await unpackedPart(part)).letters);
 
 // The machine if the browser can run it, else what it answered when the page was built.
 async function runOrStored(data) {
   try {
     return new Machine(await unpackedPart(data.module));
   } catch {
-    return new StoredMachine(JSON.parse(lettersOf(await unpackedPart(data.stored)).letters));
+    return new StoredMachine(await unpackedJson(data.stored));
   }
 }
 
@@ -59,10 +60,11 @@ function tellTools(tools) {
 // Pictures are laid out by the widths of letters, so fonts come first. A browser that blocks the
 // page's own fonts shows it in the system's.
 export async function start(data) {
-  const unpacking = machineOf(data).catch(() => null);
+  const parts = ['why', 'lessons', 'translations'].map((name) => unpackedJson(data[name]));
+  const unpacking = Promise.all([machineOf(data), ...parts]).catch(() => []);
   await Promise.allSettled([...document.fonts].map((face) => face.load()));
-  const machine = await unpacking;
-  if (machine) begin(data, machine);
+  const [machine, why, lessons, translations] = await unpacking;
+  if (machine) begin({ ...data, why, lessons, translations }, machine);
   else refuse();
 }
 
@@ -93,6 +95,7 @@ function begin(data, machine) {
     buttonOf(id).disabled = Boolean(machine.stored);
   }
   page.address.begin();
+  page.lecture.resume();
   if (looks.sheet) page.showSheets(looks.sheet);
   Object.assign(window, { lockreplay: { test: testPort(page) } });
 }

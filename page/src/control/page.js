@@ -6,6 +6,7 @@ import { LOCK_NAMES } from '../machine/codes.js';
 import { noteDone } from '../model/done_lessons.js';
 import { looks, toggleHall } from '../model/looks.js';
 import { Quiz } from '../model/quiz.js';
+import { isAsked, remarksOf } from '../model/remarks.js';
 import { texts } from '../texts/texts.js';
 import { drawPage } from '../view/draw_page.js';
 import { titleOf } from '../view/draw_texts.js';
@@ -16,15 +17,17 @@ import { aboutDialog } from './about_dialog.js';
 import { Address } from './address.js';
 import { Comparing } from './comparing.js';
 import { Editing } from './editing.js';
+import { endDialog } from './end_dialog.js';
 import { exportDialog } from './export_dialog.js';
 import { findDialog } from './find_dialog.js';
 import { Hall } from './hall.js';
 import { keysDialog } from './keys.js';
 import { Lecture } from './lecture.js';
-import { closeLessons, lessonsDialog } from './lessons_dialog.js';
+import { closeLessons, FIRST_LESSON, lessonsDialog } from './lessons_dialog.js';
 import { Modes } from './modes.js';
 import { Playing } from './playing.js';
 import { Presenter } from './presenter.js';
+import { prologueDialog } from './prologue_dialog.js';
 import { Stepping } from './stepping.js';
 import { switchTheme } from './theme.js';
 import { sheetsDialog, viewDialog } from './view_dialogs.js';
@@ -52,6 +55,8 @@ export class Page {
     this.stepping = new Stepping(this);
     this.presenter = new Presenter(this);
     this.lecture = new Lecture(this, plansWith(plans, lessons));
+    this.showPrologue = prologueDialog(() => this.openLesson(FIRST_LESSON));
+    this.showEnd = endDialog((way) => this.goOnAfterAll(way));
     this.openLessons = lessonsDialog(lessons, session.twin(), this.choices());
     this.showKeys = keysDialog();
     this.showAbout = aboutDialog(this);
@@ -71,12 +76,15 @@ export class Page {
     };
     return {
       lesson: (name) => this.openLesson(name), kept: (name) => this.address.openKept(name),
+      prologue: () => this.showPrologue(),
       why: (lock) => this.why.open(LOCK_NAMES.indexOf(lock)),
       way: (name) => ways[name](), lang: (name) => this.address.inLanguage(name),
     };
   }
 
   get mode() { return this.modes.mode; }
+  // Whether a question waits for its answer.
+  get isAsked() { return isAsked(this.session.view({ answered: this.answered })); }
   get title() { return titleOf(this.session); }
 
   // The lesson after this one, of the same lock or of the next. What is refused has a list of its
@@ -119,9 +127,10 @@ export class Page {
 
   chooseLesson() { this.openLessons(this.session.lesson, this.address.keptAll()); }
 
-  openLesson(name, move = 0) {
+  // At a move, or where the lesson begins.
+  openLesson(name, move) {
     const { text } = this.lessons.find((lesson) => lesson.name === name);
-    this.open(text, name, move);
+    this.open(text, name, move ?? remarksOf(text).begin);
     this.modes.fitLesson();
   }
 
@@ -131,6 +140,15 @@ export class Page {
     if (moves) this.playing.branch(moves.split(','));
     if (moves || isCompared) this.comparing.begin();
     this.show();
+  }
+
+  // After the last lesson.
+  goOnAfterAll(way) {
+    if (way === 'why') this.why.openHere();
+    if (way === 'play') this.modes.toggle('play');
+    if (way !== 'quiz') return;
+    this.go(0);
+    this.modes.toggleQuiz();
   }
 
   openOwn(text, move = 0, run) {

@@ -2,6 +2,7 @@
 
 import { bytesOf } from '../lib/bytes.js';
 import { byId, focusIn } from '../lib/elements.js';
+import { movesToRest } from '../machine/finishing.js';
 import { choicesOf, hasRoom } from '../model/choices.js';
 import { NextKinds } from '../model/next_kinds.js';
 import { newHeader } from '../view/choices_view.js';
@@ -26,6 +27,14 @@ export class Playing {
 
   // Goes on with the moves to a transition that can happen next.
   chooseKind(at) { this.goOn(this.nextKinds.after(this.page.session).ways[at][1]); }
+
+  // Goes on until all threads are idle.
+  finish() {
+    if (!this.possible) return;
+    const { machine, run, move } = this.page.session;
+    const moves = movesToRest(machine, run, move);
+    if (moves.length) this.branch(moves);
+  }
 
   goOn(moves) { if (this.possible) this.branch(moves); }
 

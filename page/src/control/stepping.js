@@ -2,7 +2,6 @@
 
 import { byId, focusIn, selectOf } from '../lib/elements.js';
 import { texts } from '../texts/texts.js';
-import { isAsked } from '../model/remarks.js';
 import { tell } from '../view/notice.js';
 
 // The speeds that can be chosen, the slowest first, and how many milliseconds a move takes at each.
@@ -15,9 +14,17 @@ function scrollToLane(top, height) {
   box.scrollTop = Math.min(top, Math.max(top + height - box.clientHeight, box.scrollTop));
 }
 
-// Whether the page offers the lesson after this one.
-const isNextShown = () => Boolean(
-  document.querySelector('[data-next]')?.getClientRects().length);
+// Whether the page offers the lesson after this one, or after the last of all what to go on with.
+const isShown = (selector) => Boolean(document.querySelector(selector)?.getClientRects().length);
+const isNextShown = () => isShown('[data-next]');
+const FURTHER = '[data-next], [data-end]';
+
+// The answer comes into view, with its question if there is room for both.
+function revealAnswer() {
+  for (const part of ['', ' details p']) {
+    document.querySelector(`main .question${part}`)?.scrollIntoView({ block: 'nearest' });
+  }
+}
 
 export class Stepping {
   constructor(page) {
@@ -42,22 +49,35 @@ export class Stepping {
   // A step past a question whose answer was not seen stops once, and says what there is to do.
   stopsAtQuestion() {
     const { page } = this;
-    const waits = isAsked(page.session.view({ answered: page.answered }));
-    if (!waits || page.quiz.on || page.reminded) return false;
+    if (!page.isAsked || page.quiz.on || page.reminded) return false;
     page.reminded = true;
     tell(texts.questionWaits);
     page.draw();
     return true;
   }
 
+  // A press of a clicker in a hall: in a lecture through its plans, else the answer, the next move,
+  // and the next lesson.
+  press(by) {
+    const { page } = this;
+    if (page.lecture.isOn) return by > 0 ? page.lecture.forward() : page.lecture.backward();
+    if (by < 0 && page.answered && page.session.remarks.ask.has(page.session.move)) {
+      return this.toggleAnswer();
+    }
+    if (by > 0 && page.isAsked && !page.quiz.on) return this.toggleAnswer();
+    if (by > 0 && document.activeElement?.matches('[data-next]')) return this.openNext();
+    return this.step(by);
+  }
+
   // There is no further move, but perhaps another lesson.
   atEnd() {
-    if (isNextShown()) focusIn(document, '[data-next]');
+    if (isShown(FURTHER)) focusIn(document, FURTHER);
     else tell(texts.lessons.noMore);
   }
 
   openNext() {
     if (isNextShown()) this.page.openLesson(this.page.nextLesson.name);
+    else if (isShown('[data-end]')) this.page.showEnd();
   }
 
   // To the end, or in the quiz to the next question.
@@ -121,6 +141,7 @@ export class Stepping {
     page.answered = !page.answered;
     page.lecture.answer(page.answered);
     page.fit();
+    if (page.answered) revealAnswer();
   }
 
   toggleRunning() {

@@ -93,7 +93,18 @@ export function withoutLines(bytes, lines) {
 
 // Line `number` of the text as letters, without its line feed.
 export function lineOf(bytes, number) {
-  const start = beforeLine(bytes, number).length;
+  return lettersOf(lineFrom(bytes, beforeLine(bytes, number).length)).letters;
+}
+
+// The bytes from there on up to the end of the line.
+export function lineFrom(bytes, start) {
   const end = bytes.indexOf(FEED, start);
-  return lettersOf(bytes.subarray(start, end < 0 ? bytes.length : end)).letters;
+  return bytes.subarray(start, end < 0 ? bytes.length : end);
+}
+
+// Where each line begins.
+export function lineStarts(bytes) {
+  const starts = [0];
+  for (let at = bytes.indexOf(FEED); at >= 0; at = bytes.indexOf(FEED, at + 1)) starts.push(at + 1);
+  return starts;
 }

@@ -4,7 +4,7 @@
 import { LOCK_NAMES, NO_WORD } from '../machine/codes.js';
 import { wordNamed } from '../machine/word_names.js';
 import { fill, say, texts } from '../texts/texts.js';
-import { lastWrite, placeText } from '../model/trace_check.js';
+import { lastWrite, wordText } from '../model/trace_advice.js';
 
 /** @typedef {import('../model/session.js').Session} Session */
 
@@ -17,7 +17,7 @@ const BY_MEMORY = ['FoundOther', 'WroteOther', 'OtherOutcome'];
 // Who wrote a word last, and which value it has.
 /** @param {Session} session */
 function wordSentence({ run, names }, word) {
-  const values = { word: placeText(run, word), value: run.state(run.count).word(word) };
+  const values = { word: wordText(run, word), value: run.state(run.count).word(word) };
   const move = lastWrite(run, word);
   if (!move) return fill(T.unwritten, values);
   const Thread = say(names.of(run.records.thread(move)), {});
@@ -59,7 +59,7 @@ export function traceSentences(session, due) {
   const { run } = session;
   const { refusal } = run;
   const { name, given, own, word: step, touched } = refusal;
-  const word = touched === NO_WORD ? '' : placeText(run, touched);
+  const word = touched === NO_WORD ? '' : wordText(run, touched);
   return [
     fill(T[name], { step, word, given, own }),
     ...wordsOf(session, due).map((one) => wordSentence(session, one)), guess(refusal, due),

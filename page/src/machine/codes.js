@@ -36,6 +36,20 @@ export const REFUSALS = [
   '', 'NoSuchThread', 'WrongLock', 'Busy', 'NotHolder', 'AlreadyHolds', 'NoCall', 'WrongStep',
   // end
 ];
+// The words of locks that a line of a trace may name.
+export const WORDS = [
+  '',
+  // generated: places
+  'next_ticket', 'now_serving', 'tail', 'next', 'locked',
+  // end
+];
+// The faults of a trace that are differences from its lock.
+export const DIFFERENCES = {
+  // generated: differences
+  8: 'OtherWord', 9: 'FoundOther', 10: 'LeftOther', 11: 'WroteOther', 12: 'CountNotAbove',
+  13: 'OtherOutcome',
+  // end
+};
 // The words that may come next in a header or a move.
 export const EXPECTED = [
   // generated: expected by number

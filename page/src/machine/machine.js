@@ -37,6 +37,10 @@ const recordsAsked = (text) => Math.min(linesIn(text), MOST_MOVES);
  * @property {Call} expected
  * @property {Call} find_moment
  * @property {Call} soon
+ * @property {Call} finishing_move
+ * @property {Call} finish
+ * @property {Call} trace_line
+ * @property {(...numbers: bigint[]) => number} lt_check
  * @property {Call} kinds
  * @property {Call} kind_text
  */
@@ -61,22 +65,29 @@ export class Machine {
     return new Uint8Array(memory.buffer);
   }
 
-  // Plays at most `most` moves of the text's first `length` bytes. The text stays in the
-  // machine's memory from play to play.
-  play(text, most, withRecords, length = text.length) {
-    const recordsAt = STATE_BYTES + ((text.length + 7) & ~7);
-    const room = withRecords ? recordsAsked(text) * RECORD_BYTES : 0;
-    const memory = this.lend(recordsAt + room);
-    if (this.text !== text) memory.set(text, this.base + STATE_BYTES);
+  // Where a text is held. The bytes of a state are before it.
+  get textAt() { return this.base + STATE_BYTES; }
+
+  // Holds a text, which stays in the memory from call to call, and lends `room` bytes after it.
+  // Returns where these begin.
+  hold(text, room) {
+    const after = STATE_BYTES + ((text.length + 7) & ~7);
+    const memory = this.lend(after + room);
+    if (this.text !== text) memory.set(text, this.textAt);
     this.text = text;
-    const base = BigInt(this.base);
-    const size = BigInt(STATE_BYTES);
-    this.exports.play(base + size, BigInt(length), BigInt(most), base + BigInt(recordsAt),
-      BigInt(room), base, size);
-    const bytes = new Uint8Array(this.exports.memory.buffer, this.base, recordsAt + room);
-    const state = new State(bytes.slice(0, STATE_BYTES));
+    return this.base + after;
+  }
+
+  // Plays at most `most` moves of the text's first `length` bytes.
+  play(text, most, withRecords, length = text.length) {
+    const room = withRecords ? recordsAsked(text) * RECORD_BYTES : 0;
+    const recordsAt = this.hold(text, room);
+    this.exports.play(BigInt(this.textAt), BigInt(length), BigInt(most), BigInt(recordsAt),
+      BigInt(room), BigInt(this.base), BigInt(STATE_BYTES));
+    const { buffer } = this.exports.memory;
+    const state = new State(new Uint8Array(buffer, this.base, STATE_BYTES).slice());
     const played = withRecords ? state.played * RECORD_BYTES : 0;
-    return { state, records: bytes.slice(recordsAt, recordsAt + played) };
+    return { state, records: new Uint8Array(buffer, recordsAt, played).slice() };
   }
 
   // Where a line stops being a header, or a move: the column, in bytes from 1, and what is expected

@@ -37,7 +37,7 @@ function lendSlices(machine, shapes) {
 const asked = (slices) => slices.flatMap(({ at, length }) => [BigInt(at), BigInt(length)]);
 
 // A move of a run, whose code is 512 times the code of the move plus its thread.
-const moveOf = (code) => `${code & 255} ${MOVES[code >> 9]}`;
+export const moveOf = (code) => `${code & 255} ${MOVES[code >> 9]}`;
 
 // The answer of a search from a state of this lock, its number, and the run that it found, as lines
 // of a schedule. `call` gives the module the text and the memory.

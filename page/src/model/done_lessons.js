@@ -1,6 +1,8 @@
 // Which lessons were stepped through to their end, as this browser remembers it.
 
 const KEY = 'lockreplay.done';
+// It counts as a lesson before all.
+export const PROLOGUE = 'prologue';
 
 export function doneLessons() {
   try {
@@ -12,7 +14,11 @@ export function doneLessons() {
 
 // The lesson is done once its last move is shown.
 export function noteDone({ lesson, place, run }) {
-  if (!lesson || place < run.last || !run.last || doneLessons().has(lesson)) return;
+  if (lesson && run.last && place === run.last) tickOff(lesson);
+}
+
+export function tickOff(lesson) {
+  if (doneLessons().has(lesson)) return;
   try {
     localStorage.setItem(KEY, JSON.stringify([...doneLessons(), lesson]));
   } catch {

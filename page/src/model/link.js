@@ -26,9 +26,9 @@ export function fragmentOf(session) {
 }
 
 /**
- * What a link asks for: one of a lesson, the name of a kept schedule and a text, and a move; or
- * what is wrong with it. `play` has moves to go on with, `compare` says whether the run is compared
- * then, and `cut` whether the link has no end.
+ * What a link asks for: one of a lesson, the name of a kept schedule and a text, and a move,
+ * without which a lesson opens where it begins; or what is wrong with it. `play` has moves to go
+ * on with, `compare` says whether the run is compared then, and `cut` whether the link has no end.
  * @typedef {object} Asked
  * @property {string} [lesson]
  * @property {string} [kept]
@@ -47,7 +47,7 @@ export function fragmentOf(session) {
  */
 export function readFragment(fragment) {
   const parts = new URLSearchParams(fragment.replace(/^#/, ''));
-  const move = Number(parts.get('move') ?? 0);
+  const move = parts.has('move') ? Number(parts.get('move')) : undefined;
   // A language or a look alone names no schedule, and needs none.
   if (fragment.length < 2 || isLooksAlone([...parts.keys()])) return null;
   for (const what of ['lesson', 'kept']) {

@@ -3,17 +3,30 @@
 import { texts } from '../texts/texts.js';
 
 const FEW = 4;
+// What a name has that cannot be seen.
+const UNSEEN = /[\p{C}\p{Z}\p{Default_Ignorable_Code_Point}]/gu;
+const seenOf = (name) => name.replace(UNSEEN, '');
+
+// The names that tell threads apart: one that cannot be seen is none, and equal ones get their
+// numbers.
+function told(given) {
+  const seen = [...given].filter(([, name]) => seenOf(name));
+  const isAlone = (name) => seen.filter(([, one]) => seenOf(one) === seenOf(name)).length === 1;
+  return new Map(seen.map(([thread, name]) => (
+    [thread, isAlone(name) ? name : `${name} (${thread})`])));
+}
 
 export class Names {
   constructor(given = new Map()) {
-    this.given = given;
+    this.given = told(given);
   }
 
   has(thread) { return this.given.has(thread); }
   of(thread) { return this.given.get(thread) ?? texts.thread(thread); }
   // Of a thread with a name also its number.
   numbered(thread) {
-    return this.has(thread) ? `${this.of(thread)} (${thread})` : this.of(thread);
+    const [name, number] = [this.of(thread), ` (${thread})`];
+    return this.has(thread) && !name.endsWith(number) ? name + number : name;
   }
   // For a small mark: the number, or a name's first letter if no other name begins with it.
   mark(thread) {
@@ -25,10 +38,11 @@ export class Names {
   }
   short(thread) { return this.given.get(thread) ?? texts.shortThread(thread); }
   // Only the first few of many, and how many more.
-  few(threads) {
+  few(threads, say = (thread) => this.of(thread)) {
     const more = threads.length - FEW;
-    if (more < 2) return this.list(threads);
-    return `${this.list(threads.slice(0, FEW))}, ${texts.folded(more)}`;
+    const list = (some) => some.map((thread) => say(thread)).join(', ');
+    if (more < 2) return list(threads);
+    return `${list(threads.slice(0, FEW))}, ${texts.folded(more)}`;
   }
   list(threads) { return threads.map((thread) => this.of(thread)).join(', '); }
 }

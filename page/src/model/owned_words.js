@@ -1,6 +1,10 @@
 // In an MCS lock: whose a word is, and whose record a value names. The module says of each thread
 // which words its record has and which value names it; the tail is the word that is nobody's.
 
+// The words of each record.
+const FIELDS = ['next', 'locked'];
+export const isField = (word) => FIELDS.includes(word);
+
 export class OwnedWords {
   // The words and values of a state's threads.
   constructor(state) {

@@ -1,6 +1,6 @@
 // What a schedule's comments say to this page: `#! title ..`, `#! learn ..`, `#! name 0 ..`,
-// `#! say 3 ..`, `#! ask 15 ..`, `#! answer 15 ..`. To the reader of schedules they are skipped
-// lines like all that begin with `#`. Several lines of the same kind and number are one
+// `#! begin 18`, `#! say 3 ..`, `#! ask 15 ..`, `#! answer 15 ..`. To the reader of schedules they
+// are skipped lines like all that begin with `#`. Several lines of the same kind and number are one
 // text.
 
 import { lettersOf } from '../lib/bytes.js';
@@ -10,6 +10,7 @@ import { translatedText } from '../texts/language.js';
 
 const HASH = '#'.charCodeAt(0);
 const WHOLE = /^#! (?<what>title|learn) (?<text>.+)$/;
+const BEGIN = /^#! begin (?<move>0|[1-9][0-9]{0,4})$/;
 const REMARK = /^#! (?<what>say|ask|answer|name) (?<number>0|[1-9][0-9]{0,4}) (?<text>.+)$/;
 // The parts that a question hides until its answer; by default `memory`.
 const PARTS = ['sentence', 'facts', 'memory', 'values', 'standing'];
@@ -55,11 +56,13 @@ function note(remarks, { what, number, text }) {
 
 export function remarksOf(text) {
   const maps = ['say', 'ask', 'answer', 'name', 'hide'].map((what) => [what, new Map()]);
-  const remarks = { title: '', learn: '', about: '', ...Object.fromEntries(maps) };
+  const remarks = { title: '', learn: '', about: '', begin: 0, ...Object.fromEntries(maps) };
   const plain = [];
   for (const line of comments(text)) {
     const whole = line.match(WHOLE)?.groups;
     const remark = remarkOf(line);
+    const begin = line.match(BEGIN)?.groups.move;
+    if (begin) remarks.begin = Number(begin);
     if (whole?.what === 'title') remarks.title = whole.text;
     else if (whole) remarks.learn = remarks.learn ? `${remarks.learn} ${whole.text}` : whole.text;
     else if (remark) note(remarks, remark);

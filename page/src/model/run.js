@@ -2,16 +2,18 @@
 
 import { lastUpTo, placeAfter } from '../lib/ascending.js';
 import {
-  beforeLine, beginsWith, lineOf, linesIn, sameBytes, throughLine, withoutLines,
+  beforeLine, beginsWith, lettersOf, lineFrom, lineOf, linesIn, lineStarts, sameBytes, throughLine,
+  withoutLines,
 } from '../lib/bytes.js';
 import {
   ANSWER, CALLS, FAULTS, MOST_BYTES, MOST_MOVES, MOVES, REFUSALS,
 } from '../machine/codes.js';
 import { answerInLines, Records } from '../machine/machine.js';
+import { saidIn } from '../machine/traces.js';
 import { joinedByMove, movesByThread, movesByWord } from './move_lists.js';
 import { OwnedWords } from './owned_words.js';
 import { StateAfter } from './state_after.js';
-import { firstDifference, refusalBy } from './trace_check.js';
+import { refusalBy } from './trace_advice.js';
 import { lineWithout, traceOf, traceWithout } from './trace_text.js';
 
 /**
@@ -40,14 +42,16 @@ export function runOf(machine, text, known) {
 }
 
 // The run of a trace up to the step at which it differs from its lock; of any other text the whole
-// run.
+// run. Moves beyond those that the page plays are not shown, nor what differs there.
 /** @param {Run} run */
 function runOfTrace(run, answerTo) {
-  const trace = VALUED.includes(run.fault?.name) ? traceOf(run.text) : null;
+  const { machine, text, fault } = run;
+  const trace = VALUED.includes(fault?.name) && !machine.stored ? traceOf(machine, text) : null;
   if (!trace) return run;
-  const whole = new Run(run.machine, run.text, answerTo, trace);
-  const difference = firstDifference(whole);
-  return difference ? whole.refusedAt(difference.move, refusalBy(whole, difference)) : whole;
+  const whole = new Run(machine, text, answerTo, trace);
+  const { difference } = trace;
+  return difference?.move <= whole.count
+    ? whole.refusedAt(difference.move, refusalBy(whole, difference)) : whole;
 }
 
 export class Run {
@@ -80,6 +84,7 @@ export class Run {
     this.movesOf = movesByThread(this.records);
     // Found when they are asked for.
     this.first = null;
+    this.starts = null;
     this.owners = null;
     this.touches = null;
     this.joins = null;
@@ -127,7 +132,6 @@ export class Run {
     const answer = answerInLines(this.end, this.records, lineNow);
     const trace = this.trace && {
       ...this.trace, schedule: withoutLines(this.played, lines),
-      said: this.trace.said.filter((_, at) => !lines.includes(at + 1)),
       places: new Map([...this.trace.places].map(([line, place]) => [lineNow(line), place])),
     };
     return new Run(this.machine, this.textWithout(lines), () => answer, trace);
@@ -151,12 +155,18 @@ export class Run {
   // The line of a move, or of the refused one after the last.
   lineAt(move) { return move > this.count ? this.refusal.line : this.records.line(move); }
 
-  // The parts of a trace's line after the move, and the place in the source where it was noted.
-  said(move) { return this.trace?.said[this.lineAt(move) - 1] ?? null; }
+  // The bytes of the move's line.
+  lineBytes(move) {
+    this.starts ??= lineStarts(this.text);
+    return lineFrom(this.text, this.starts[this.lineAt(move) - 1]);
+  }
+
+  // What a trace's line says besides its move, and the place in the source where it was noted.
+  said(move) { return this.trace && saidIn(this.machine, this.lineBytes(move)); }
   sourceOf(move) { return this.trace?.places.get(this.lineAt(move)) ?? ''; }
   // The line of the trace, if it has one of these parts.
   recorded(move) {
-    return this.said(move) || this.sourceOf(move) ? lineOf(this.text, this.lineAt(move)) : '';
+    return this.said(move) || this.sourceOf(move) ? lettersOf(this.lineBytes(move)).letters : '';
   }
 
   // How many moves the lines up to this one have.

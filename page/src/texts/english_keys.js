@@ -18,6 +18,7 @@ export const keys = {
     ['G', 'play: choose yourself which thread moves next'],
     ['0 to 9', 'in Play: this thread’s step; of several choices the first, Tab to the others'],
     ['W', 'in Play: every move, also those that are refused'],
+    ['R', 'in Play: let all threads finish'],
     ['U, Ctrl Z', 'undo: a choice, an edit, another schedule'],
     ['Q', 'quiz: say what a move does before it is shown'],
     ['C', 'compare with what this was branched off from, the other read-write lock, or another '

@@ -4,8 +4,11 @@
 import { MOST_BYTES, MOST_MOVES } from '../machine/codes.js';
 import { germanKeys } from './german_keys.js';
 import { germanKinds } from './german_kinds.js';
+import { germanLessons } from './german_lessons.js';
 import { germanLocks } from './german_locks.js';
 import { germanLoops } from './german_loops.js';
+import { germanPlay } from './german_play.js';
+import { germanPrologue } from './german_prologue.js';
 import { germanTraces } from './german_traces.js';
 import { germanChanges, germanWhy } from './german_why.js';
 
@@ -66,17 +69,24 @@ export const german = {
     hall: { noFullScreen: 'Der Browser hat das Vollbild nicht erlaubt.' },
     plans: {
       title: 'Unterrichtspläne',
-      hint: 'Zehn Minuten je Sperre, im Saalmodus. N geht zum nächsten Schritt, A zeigt die '
-        + 'Antwort.',
+      hint: 'Zehn Minuten je Sperre, im Saalmodus. Bild ab, wie ein Klicker es sendet, zeigt die '
+        + 'Antwort und geht dann weiter, durch einen Plan nach dem anderen. Taste 2 öffnet ein '
+        + 'Fenster für dich, mit der Uhr.',
       minutes: (from, to) => `${from} bis ${to} min`,
       place: (title, move) => `${title}, ${move}`,
       step: (at, count) => `Schritt ${at} von ${count}`,
-      homework: 'Hausaufgabe:', sheet: 'Übungsblatt', next: 'Weiter N', last: 'Letzter Schritt',
+      homework: 'Hausaufgabe:', sheet: 'Übungsblatt', next: 'Weiter N', last: 'Ende des Plans N',
       back: 'Ein Schritt zurück', left: 'Verbleibende Minuten',
+      after: 'Nach dem Plan', ended: (lock) => `Das war der Plan zu: ${lock}.`,
+      nextPlan: (lock) => `Nächster Plan: ${lock}`, end: 'Den Vortrag beenden',
     },
     presenter: {
       title: 'lockreplay: für den Vortrag', now: 'Dieser Zug', next: 'Der nächste Zug',
       following: (title, move) => `Nächster Schritt: ${title}, ${move}`,
+      waits: 'Der Saal sieht die Antwort noch nicht.',
+      keys: 'Tasten hier: Bild ab oder → geht weiter, Bild auf oder ← zurück, A zeigt die Antwort, '
+        + 'N geht zum nächsten Schritt, ein Punkt macht die Leinwand schwarz, Escape beendet den '
+        + 'Vortrag.',
       blocked: 'Der Browser hat kein zweites Fenster erlaubt.',
     },
     find: {
@@ -127,6 +137,7 @@ export const german = {
       source: 'Der Quelltext ist im Repository von lockreplay: page/src, crates/lk_page. Dort sagt '
         + 'docs/PROOF.md, was bewiesen ist, und docs/GUIDE.md ist für den Unterricht.',
       licence: 'Lizenz: Apache-2.0 OR MIT.',
+      notices: 'Hinweise anderer, deren Code darin ist',
       browsers: 'Sie braucht WebAssembly-Speicher mit 64 Bit: Chromium ab 133 oder Firefox ab 134. '
         + 'Ein anderer Browser zeigt die Lektionen, wie sie vorher gespielt wurden.',
       language: 'Sprache:',
@@ -199,36 +210,6 @@ export const german = {
       ask: (question) => `Frage: ${question}`,
       hidden: 'Was aus dem nächsten Zug wird, ist gefragt, bevor es gezeigt wird.',
     },
-    lessons: {
-      title: 'Lektionen',
-      what: [
-        'Diese Seite spielt vier Sperren aus Lehrbüchern durch, einen atomaren Schritt nach dem '
-          + 'anderen: wer die Sperre hält, wer wartet, was im Speicher steht.',
-        'Wähle eine Lektion (Enter) und drücke → für jeden Zug.',
-      ],
-      teaches: {
-        ticket: 'Wer zuerst kommt, tritt zuerst ein. Fang hier an.',
-        mcs: 'Jeder Thread wartet an einem eigenen Wort.',
-        'rw-simple': 'Leser teilen sich die Sperre. Ein Schreiber kann verhungern.',
-        'rw-fifo': 'Ein Schreiber kündigt sich an. Spätere Leser warten auf ihn.',
-      },
-      ways: {
-        own: ['Eigenes', 'Einen Ablauf schreiben, öffnen oder hierher ziehen.'],
-        play: ['Spielen', 'Wählen, wer den nächsten Zug macht.'],
-        find: ['Eine Situation suchen', 'Einen kürzesten Lauf mit einem Zug suchen.'],
-        plans: ['Unterricht', 'Vier Unterrichtspläne von zehn Minuten.'],
-      },
-      size: (moves, minutes) => `${moves} Züge, etwa ${minutes} min`,
-      done: 'fertig',
-      refusals: 'Was abgelehnt wird: falsche Züge, und Texte, die keine Abläufe sind',
-      ended: 'Ende. Zum Merken:', next: (title) => `Weiter: ${title}`,
-      noMore: 'Das war der letzte Zug.',
-      allDone: 'Das war die letzte Lektion. Weiter geht es mit Spielen, mit dem Quiz, oder damit, '
-        + 'warum eine Zeile da ist.',
-      groups: { refused: 'Abgelehnte Züge', fault: 'Texte, die keine Abläufe sind' },
-      kept: (most) => `In diesem Browser aufgehoben, höchstens die letzten ${most}`,
-      keptMove: (place) => `bei Zug ${place}`,
-    },
     own: {
       title: 'Der Ablauf',
       hint: 'Tippe oder füge einen Ablauf ein, öffne eine Datei, oder ziehe sie auf die Seite.',
@@ -262,22 +243,6 @@ export const german = {
         : `${count} Kommentarzeilen gehören zu anderen Zügen. Sie werden weder gezeigt noch `
           + 'gespeichert, auch nicht im Link.'),
       keep: 'Behalten',
-    },
-    play: {
-      title: 'Spielen',
-      hint: 'Wähle, wer den nächsten Zug macht. Die Maschine spielt, was du wählst.',
-      branch: (move) => `Wähle, wer als Nächstes zieht, statt der Züge nach Zug ${move}.`,
-      every: 'Jeder Zug, auch die, die abgelehnt werden',
-      undo: 'Rückgängig',
-      nextKinds: 'Was als Nächstes geschehen kann',
-      inMoves: (count) => (count === 1 ? 'in 1 Zug' : `in ${count} Zügen`),
-      nextKindsCut: 'Was weiter weg ist, wurde nicht gesucht.',
-      newLock: 'Neuer Ablauf',
-      lock: 'Sperre', threads: 'Threads', bits: 'Bits', begin: 'Beginnen',
-      full: `Ein Ablauf hat höchstens ${grouped(MOST_MOVES)} Züge.`,
-      long: `Ein Ablauf hat höchstens ${grouped(MOST_BYTES)} Bytes.`,
-      faulty: 'Der Text hat einen Fehler. Behebe ihn, oder beginne einen neuen Ablauf.',
-      noMachine: 'Zum Spielen braucht der Browser WebAssembly-Speicher mit 64 Bit.',
     },
     quiz: {
       title: 'Was geschieht als Nächstes?',
@@ -352,7 +317,8 @@ export const german = {
       could: 'Hier könnte {thread} {moves}.', step: 'den Schritt „{word}“ tun',
       call: '„{word}“ aufrufen', or: ' oder ',
     },
-    keys: germanKeys, loops: germanLoops, traces: germanTraces, why: germanWhy,
+    keys: germanKeys, lessons: germanLessons, loops: germanLoops, play: germanPlay,
+    prologue: germanPrologue, traces: germanTraces, why: germanWhy,
     faults: {
       could: 'Erwartet: {could}.', meant: 'War „{meant}“ gemeint?',
       returns: 'Die Zeile endet mit einem Wagenrücklauf (CR). Zeilen enden nur mit Zeilenvorschub.',

@@ -18,6 +18,7 @@ export const germanKeys = {
     ['G', 'spielen: selbst wählen, welcher Thread den nächsten Zug macht'],
     ['0 bis 9', 'beim Spielen: der Schritt dieses Threads; bei mehreren der erste, dann Tab'],
     ['W', 'beim Spielen: jeder Zug, auch die, die abgelehnt werden'],
+    ['R', 'beim Spielen: alle Threads fertig werden lassen'],
     ['U, Strg Z', 'rückgängig: eine Wahl, eine Änderung, ein anderer Ablauf'],
     ['Q', 'Quiz: sagen, was ein Zug tut, bevor er zu sehen ist'],
     ['C', 'vergleichen: mit dem Original, der anderen Schreib-Lese-Sperre oder einem anderen '

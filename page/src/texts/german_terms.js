@@ -22,6 +22,16 @@ export const germanTerms = {
     + 'kein Leser vor ihm ein',
   Linearisierungspunkt: 'der Schritt, mit dem eine Operation für alle Threads wirkt, zwischen '
     + 'ihrem Aufruf und ihrem Ende',
+  Sperre: 'Wörter im Speicher, und Regeln, nach denen ein Thread eintritt, wartet und geht, damit '
+    + 'sich Threads nicht stören',
+  Thread: 'ein Teil eines Programms, der neben anderen läuft, mit demselben Speicher',
+  atomar: 'in einem Stück: Kein anderer Thread kommt dazwischen',
+  add: 'ein atomarer Schritt, der ein Wort liest und um 1 größer zurückschreibt (fetch-and-add)',
+  swap: 'ein atomarer Schritt, der ein Wort liest und einen anderen Wert hineinschreibt',
+  'compare-and-swap': 'ein atomarer Schritt, der ein Wort nur schreibt, wenn es den Wert hat, den '
+    + 'der Thread erwartet (cas)',
+  nil: 'kein Record',
+  Monitor: 'lässt immer nur einen Thread einen Abschnitt tun',
 };
 
 export const germanForms = {
@@ -33,5 +43,7 @@ export const germanForms = {
   Halter: 'hält, halten', Record: 'Records', Link: 'verknüpft',
   'später Link': 'späte Link, späten Link',
   Abschnitt: 'Abschnitte, Abschnitten, Abschnitts, Abschnittes',
+  Sperre: 'Sperren', Thread: 'Threads', atomar: 'atomare, atomaren, atomarer, atomarem',
+  swap: 'swaps',
   ankündigen: 'ankündigt, angekündigt, angekündigte, angekündigten, angekündigter',
 };

@@ -5,6 +5,8 @@ import { MOST_BYTES, MOST_MOVES } from '../machine/codes.js';
 import { keys } from './english_keys.js';
 import { hall, lessons, plans, presenter } from './english_lessons.js';
 import { loops } from './english_loops.js';
+import { play } from './english_play.js';
+import { prologue } from './english_prologue.js';
 import { traces } from './english_traces.js';
 import { why } from './english_why.js';
 import { translated } from './language.js';
@@ -109,6 +111,7 @@ const english = {
     source: 'The source is in the repository of lockreplay: page/src, crates/lk_page. There '
       + 'docs/PROOF.md says what is proved, and docs/GUIDE.md has the guide for teachers.',
     licence: 'Licence: Apache-2.0 OR MIT.',
+    notices: 'Notices of others whose code is in it',
     browsers: 'It needs 64-bit WebAssembly memory: Chromium from 133 or Firefox from 134 on. '
       + 'Another browser shows the lessons as they were played before.',
     language: 'Language:',
@@ -191,7 +194,7 @@ const english = {
     hidden: 'What comes of the next move is asked before it is shown.',
   },
 
-  lessons, why,
+  lessons, prologue, why,
 
   own: {
     title: 'The schedule',
@@ -227,23 +230,6 @@ const english = {
       ? 'One line of comment belongs to other moves. It is not shown, saved or linked.'
       : `${count} lines of comment belong to other moves. They are not shown, saved or linked.`),
     keep: 'Keep them',
-  },
-
-  play: {
-    title: 'Play',
-    hint: 'Choose who moves next. The machine plays what you choose.',
-    branch: (move) => `Choose who moves next, in place of the moves after move ${move}.`,
-    every: 'Every move, also those that are refused',
-    undo: 'Undo',
-    newLock: 'New schedule',
-    nextKinds: 'What can happen next',
-    inMoves: (count) => (count === 1 ? 'in 1 move' : `in ${count} moves`),
-    nextKindsCut: 'What is further away was not searched.',
-    lock: 'lock', threads: 'threads', bits: 'bits', begin: 'Begin',
-    full: `A schedule has at most ${grouped(MOST_MOVES)} moves.`,
-    long: `A schedule has at most ${grouped(MOST_BYTES)} bytes.`,
-    faulty: 'The text has a fault. Correct it, or begin a new schedule.',
-    noMachine: 'Playing needs a browser with 64-bit WebAssembly memory.',
   },
 
   quiz: {
@@ -282,7 +268,7 @@ const english = {
     whyQueue: 'In the queue is who has taken a place there and has not left, the oldest first.',
   },
 
-  keys, loops, traces,
+  keys, loops, play, traces,
 
   noMachine: 'This browser has no 64-bit WebAssembly memory, so it cannot run the machine here. '
     + 'The lessons are shown as the machine played them; a schedule of your own needs a newer '

@@ -3,6 +3,7 @@
 import { html } from '../lib/markup.js';
 import { texts } from '../texts/texts.js';
 import { choicesOf, hasRoom, mayGoOn } from '../model/choices.js';
+import { standstillOf } from '../model/standstill.js';
 import { LOCKS } from '../locks/locks.js';
 import { movingThread, standingIn } from '../locks/shapes.js';
 
@@ -44,6 +45,21 @@ export function nextKindsView({ ways, whole }) {
   const rows = ways.map(([name, moves], at) => html`<li><button type="button"
     data-next-kind="${at}">${T.inMoves(moves.length)}</button> ${name}</li>`);
   return html`<ul>${rows}</ul>${!whole && html`<p class="hint">${T.nextKindsCut}</p>`}`;
+}
+
+// Why nobody moves: who waits, and for whom.
+/** @param {Session} session */
+export function standstillView(session) {
+  if (session.machine.stored) return T.noMachine;
+  const { names } = session;
+  const { words, going, waiting } = standstillOf(session);
+  if (!going.length) return T.allIdle;
+  const waits = names.few(waiting);
+  if (waiting.length && going.length === 1) {
+    return T.allWait(names.of(going[0]), words[going[0]], waits);
+  }
+  const can = names.few(going, (thread) => T.canGoOn(names.of(thread), words[thread]));
+  return waiting.length ? T.someWait(can, waits) : T.nobodyWaits(can);
 }
 
 const headerOf = (lock, threads, bits) => (

@@ -4,7 +4,7 @@ import { buttonOf, byId, elementOf, inputOf } from '../lib/elements.js';
 import { html, show } from '../lib/markup.js';
 import { looks } from '../model/looks.js';
 import { arrange } from './arrange.js';
-import { choicesView, nextKindsView } from './choices_view.js';
+import { choicesView, nextKindsView, standstillView } from './choices_view.js';
 import { drawPictures, measured } from './draw_pictures.js';
 import { drawHead, drawTexts, emptyTexts } from './draw_texts.js';
 import { paper } from './paper.js';
@@ -36,14 +36,15 @@ export function drawPage(page, reveals) {
   return drawPictures({ page, view, state, reveals }, sizes);
 }
 
-// What can happen next is searched for while its list is open. Of a text without a lock there is
-// none.
+// What can happen next, and who waits for whom, is asked while it is open. Of a text without a lock
+// there is nothing to say.
 function drawChoices({ session, playing, answered }) {
   show(byId('choices'), choicesView(session, playing.every, answered));
   inputOf('every').checked = playing.every;
-  const { open } = elementOf('next-kinds', HTMLDetailsElement);
-  show(byId('next-kinds-list'), html`${open && session.run.hasLock
+  const isAsked = (id) => elementOf(id, HTMLDetailsElement).open && session.run.hasLock;
+  show(byId('next-kinds-list'), html`${isAsked('next-kinds')
     && nextKindsView(playing.nextKinds.after(session))}`);
+  show(byId('standstill-says'), html`${isAsked('standstill') && standstillView(session)}`);
 }
 
 function drawSide(page) {

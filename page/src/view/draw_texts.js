@@ -10,7 +10,6 @@ import { isCovered } from '../model/remarks.js';
 import { lockOf } from '../locks/locks.js';
 import { refusalFacts } from '../locks/refusal_facts.js';
 import { codeView, linesMade } from './code_view.js';
-import { lectureView } from './lecture_view.js';
 import { loopView } from './loop_view.js';
 import { moveView, questionView, spokenText, whoRows } from './move_view.js';
 import { endView, quizForm, resultView, scoreView } from './quiz_view.js';
@@ -59,7 +58,7 @@ function drawBar(page, view, state, lines) {
   const asks = Boolean(quiz && quiz.form);
   const move = isShown && currentView({ ...view, asks }, state, lines, facts);
   show(byId('current'), html`${move}${quiz && html`<div class="bar-quiz">${quiz.score}${
-    quiz.form}${quiz.came}</div>`}${isShown && lectureView(page)}`);
+    quiz.form}${quiz.came}</div>`}`);
 }
 
 // The points, the question on the next move, and what came of the last answer.

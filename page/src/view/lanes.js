@@ -103,6 +103,11 @@ function unlinkedLines(view, layout, thread, middle) {
 export const casFails = (records, move) => MOVES[records.action(move)] === 'cas'
   && records.left(move) === records.found(move);
 
+// The outcome in a word, as the mark shows it.
+/** @param {Records} records */
+export const outcomeText = (records, move) => (casFails(records, move) ? texts.marks.fails
+  : texts.outcomes[OUTCOMES[records.outcome(move)]]);
+
 const SHAPES = {
   [OUTCOME.waits]: (x, y) => html`<circle class="step waits" cx="${x}" cy="${y}" r="7.5"/>`,
   [OUTCOME.moved]: (x, y) => html`<circle class="step" cx="${x}" cy="${y}" r="7.5"/>`,
@@ -241,10 +246,10 @@ function laneOption(view, layout, index, drawn) {
   const { records } = view.run;
   const moves = (view.run.movesOf.get(thread) ?? [])
     .filter((move) => move >= layout.first && move <= Math.min(layout.now, view.run.count))
-    .map((move) => `${move} ${MOVES[records.action(move)]} ${
-      texts.outcomes[OUTCOMES[records.outcome(move)]]}`);
+    .map((move) => `${move} ${MOVES[records.action(move)]} ${outcomeText(records, move)}`);
   const chosen = thread === layout.chosen;
-  const standing = texts.standing[standingIn(view, thread)];
+  const standing = thread < view.run.threads ? texts.standing[standingIn(view, thread)]
+    : texts.refused.noSuch;
   const label = `${view.names.of(thread)}, ${standing}. ${moves.join(', ')}`;
   return html`<g role="option" id="lane-${thread}" aria-selected="${chosen}"
     aria-label="${label}">${chosen && html`<rect class="chosen" x="3"

@@ -1,31 +1,31 @@
-// A lecture in the page: its bar with the clock, and the question of a step.
+// A lecture in the page: its bar, and what there is after a plan. The clock and what the lecturer
+// says are in the presenter's window alone.
 
 import { byId } from '../lib/elements.js';
-import { html, show, write } from '../lib/markup.js';
+import { html, show } from '../lib/markup.js';
 import { texts } from '../texts/texts.js';
 import { lockTitle } from '../locks/locks.js';
 
 const T = texts.plans;
 
-export function drawLecture({ isOn, plan, at, step, following, clock }) {
+export function drawLecture({ isOn, plan, at, following }) {
   if (!isOn) {
     show(byId('lecture'), html``);
     return;
   }
   show(byId('lecture'), html`<span title="${lockTitle(plan.lock)}">${
-  T.step(at + 1, plan.steps.length)}</span> <span>${T.minutes(step.from, step.to)}</span>
-    <b id="lecture-clock" title="${T.left}">${clock}</b>
+  T.step(at + 1, plan.steps.length)}</span>
     <button type="button" data-lecture="back" aria-label="${T.back}">‹</button>
     <button type="button" data-lecture="next">${following ? T.next : T.last}</button>`);
 }
 
-export function drawClock({ clock }) {
-  const box = byId('lecture-clock');
-  if (box) write(box, clock);
-}
+const wayView = (way, name) => html`<button type="button" data-end-way="${way}">${name}</button> `;
 
-// The step's sentence above the parts: that on a comparison comes with it.
-export function lectureView({ lecture: { isOn, step }, comparing }) {
-  return isOn && step.say && (comparing.isOn || !step.compare)
-    && html`<p class="plan-say">${step.say}</p>`;
+// The next plan before all; without one the end.
+export function lectureEndView({ plan, nextPlan }) {
+  const sheet = wayView('sheet', T.sheet);
+  const end = wayView('end', T.end);
+  return html`<p>${T.ended(lockTitle(plan.lock))}</p><p>${plan.aim}</p><div class="row">${nextPlan
+    ? html`${wayView('next', T.nextPlan(lockTitle(nextPlan.lock)))}${sheet}${end}`
+    : html`${end}${sheet}`}</div>`;
 }

@@ -10,6 +10,15 @@ const T = texts.plans;
 
 export const minutesOf = ({ steps }) => steps[steps.length - 1].to;
 
+const MINUTE = 60;
+
+// Minutes and seconds; after the end with a minus.
+export function clockText(seconds) {
+  const all = Math.abs(seconds);
+  const rest = String(all % MINUTE).padStart(2, '0');
+  return `${seconds < 0 ? '−' : ''}${Math.floor(all / MINUTE)}:${rest}`;
+}
+
 // Each step with the minute in which it begins, its lesson's title, and what it asks: that of its
 // lesson at its move, if it has no question of its own.
 function stepsOf(plan, lessons) {

@@ -10,7 +10,7 @@ import { reportLine } from '../model/report.js';
 import { unlinkedAfter } from '../model/spans.js';
 import { sentence, writtenWords } from '../locks/sentences.js';
 import { movingThread, standingIn, useOf } from '../locks/shapes.js';
-import { casFails } from './lanes.js';
+import { casFails, outcomeText } from './lanes.js';
 import { loopSaid, loopView } from './loop_view.js';
 import { recordedRows } from './recorded_view.js';
 import { withTerms } from './terms.js';
@@ -155,7 +155,8 @@ function saidOf(view) {
   return {
     own: own && html`<p class="say own-say" ${hidden}>${withTerms(own)}</p>`, hidden,
     plain: html`<p class="plain">${plainWords(run.records, move)}</p>`,
-    machine: html`<p class="${own ? 'aside' : 'say'}" ${hidden}>${sentence(view, move)}</p>`,
+    machine: html`<p class="${own ? 'aside' : 'say'}" ${hidden}>${
+      withTerms(sentence(view, move))}</p>`,
     report: html`<p class="report-line" title="${texts.facts.report}" ${
       isCovered(view, 'facts') && 'hidden'}><code>${reportLine(run, move)}</code></p>`,
   };
@@ -188,14 +189,15 @@ function lastView({ remarks, lesson, place, run, next, answered, move, loop }) {
   if (place < run.last || !learn || due) return null;
   return html`<div class="last"><p>${!loop && html`<b>${texts.lessons.ended}</b> `}${learn}</p>
     ${next && html`<button type="button" class="strong" data-next="${next.name}">${
-  texts.lessons.next(next.title)}<kbd>Enter</kbd></button>`}${
-  lesson && !next && html`<p class="all-done">${texts.lessons.allDone}</p>`}</div>`;
+  texts.lessons.next(next.title)}<kbd>Enter</kbd></button>`}${lesson && !next && html`<button
+    type="button" class="strong" data-end="all">${
+  texts.lessons.allDone.open}<kbd>Enter</kbd></button>`}</div>`;
 }
 
 function spokenMove({ run: { records }, names }, move) {
   const who = names.of(records.thread(move));
   const word = MOVES[records.action(move)];
-  return texts.spoken.did(who, word, OUTCOMES[records.outcome(move)]);
+  return texts.spoken.did(who, word, outcomeText(records, move));
 }
 
 // The same as a text, for a screen reader.

@@ -14,6 +14,9 @@ export function tell(text) {
   hiding = setTimeout(() => { box.hidden = true; }, SHOWN);
 }
 
+// Takes away what was told before the reader went on.
+export const untellAll = () => { byId('notice').hidden = true; };
+
 // Takes away a notice that no longer holds.
 export function untell(text) {
   const box = byId('notice');

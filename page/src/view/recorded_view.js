@@ -3,7 +3,7 @@
 import { html } from '../lib/markup.js';
 import { MOVES, NO_WORD, OUTCOMES } from '../machine/codes.js';
 import { texts } from '../texts/texts.js';
-import { placeText, resultText } from '../model/trace_check.js';
+import { resultText, wordText } from '../model/trace_advice.js';
 
 /** @typedef {import('../model/run.js').Run} Run */
 /** @typedef {import('../model/session.js').View} View */
@@ -18,7 +18,7 @@ function lockText(run, move) {
   const outcome = OUTCOMES[records.outcome(move)];
   if (step === 'section' || records.touched(move) === NO_WORD) return outcome;
   const result = step === 'cas' ? resultText(records, move) : '';
-  const parts = [placeText(run, records.touched(move)), `found ${records.found(move)}`];
+  const parts = [wordText(run, records.touched(move)), `found ${records.found(move)}`];
   if (step !== 'read' && result !== 'failed') parts.push(`left ${records.left(move)}`);
   return `${[...parts, result].join(' ').trim()}, ${outcome}`;
 }

@@ -7,6 +7,8 @@ import { translatedTerms } from '../texts/language.js';
 // Other forms of a term, in English.
 const FORMS = {
   holder: 'holds', word: 'words', step: 'steps', move: 'moves', poll: 'polls', link: 'linked',
+  lock: 'locks', thread: 'threads', add: 'adds', swap: 'swaps', section: 'sections',
+  announce: 'announced, announces', record: 'records',
 };
 let meanings = {};
 // By each form of a term, in small letters, the term.
@@ -29,10 +31,13 @@ const termOf = (text) => terms[text.toLowerCase()];
 const termView = (text) => html`<span class="term" role="button" tabindex="0" data-term="${
   termOf(text)}">${text}</span>`;
 
-// The text with its terms marked.
+// The text with its terms marked, each where it is first.
 export function withTerms(text) {
   if (!pattern) return html`${text}`;
-  return html`${text.split(pattern).map((part, at) => (at % 2 ? termView(part) : part))}`;
+  const parts = text.split(pattern);
+  const found = parts.map((part, at) => (at % 2 ? termOf(part) : null));
+  return html`${parts.map((part, at) => (
+    found[at] && found.indexOf(found[at]) === at ? termView(part) : part))}`;
 }
 
 function showMeaning(target) {

@@ -125,8 +125,9 @@ impl RunBuilder {
     /// Runs with fewer preemptions come first. Each has to be run before the next one is asked for,
     /// with a new lock. If none is refused and none hangs, no run of these threads with at most
     /// this many preemptions is wrong: a run that is left out differs from one that is made only in
-    /// the order of [independent](RunBuilder::reduced) steps. Begin with two threads and a round
-    /// each: there are many runs.
+    /// the order of [independent](RunBuilder::reduced) steps, or in further polls in vain. If
+    /// [polls were left out](Explore::leaves_out_polls), a lock that counts its looks may be wrong.
+    /// Begin with two threads and a round each: there are many runs.
     ///
     /// ```
     /// use lockreplay_record::{AtomicU8, Ending, Error, Lock, Run};

@@ -1,6 +1,6 @@
 //! Checks a run in the process, without a file, by `locktrace.c`, which the build script compiles.
 //!
-//! It is the check of `locktrace`, as `record/locktrace.h` declares it for C.
+//! It is the check of `locktrace`, as `built/locktrace.h` declares it for C.
 // SPDX-License-Identifier: Apache-2.0 OR MIT
 
 use crate::error::Error;
@@ -37,8 +37,6 @@ pub(crate) const WAITS: u32 = 2;
 /// The outcomes with which a call is over.
 const ENTERED: u32 = 3;
 const LEFT: u32 = 4;
-/// The fault of a trace with more moves than are checked: those that were are right.
-const TOO_LONG: u32 = 21;
 /// More than the text of any fault has.
 const MOST_BYTES: usize = 256;
 
@@ -56,8 +54,7 @@ extern "C" {
 impl Run {
     /// Checks the run's trace as `locktrace check` does, in this process. The run is refused too if
     /// a thread was stopped inside a call that the lock's machine has completed, or if a thread has
-    /// ended inside a call. Of a run with more than 65,536 moves these are checked, and a message
-    /// on standard error says so.
+    /// ended inside a call.
     ///
     /// With the feature `check` alone, for which the build needs a C compiler.
     ///
@@ -97,14 +94,6 @@ impl Run {
         let mut steps = vec![Step::default(); self.0.turns.stage().order().len() + 1];
         let answer = answer_to(&self.trace()?, &mut steps);
         let moves = steps.len() - 1;
-        if answer.fault == TOO_LONG {
-            eprintln!(
-                "lockreplay_record: a run was checked up to its move {}, and accepted until then: \
-                 `locktrace check` checks all of its moves",
-                answer.moves
-            );
-            return Ok(moves);
-        }
         if answer.fault != 0 {
             let moves = moves_of(&self.0);
             let published = published::told(self.0.header.lock, &moves, &steps, &answer);
@@ -160,7 +149,7 @@ fn move_at(moves: &[Made], index: u64) -> String {
 fn answer_to(text: &str, steps: &mut [Step]) -> Answer {
     let mut answer = Answer::default();
     // SAFETY: the check reads the bytes of the text, and writes at most `steps.len()` records and
-    // the answer, which have the layouts of record/locktrace.h. It keeps no pointer.
+    // the answer, which have the layouts of built/locktrace.h. It keeps no pointer.
     unsafe { lt_check(text.as_ptr(), text.len(), steps.as_mut_ptr(), steps.len(), &mut answer) };
     answer
 }

@@ -99,6 +99,8 @@ pub(crate) struct Path {
     has_moved: bool,
     stuck: Stuck,
     has_strayed: bool,
+    /// Whether a thread that had polled in vain could have polled again.
+    leaves_out: bool,
     /// `None` if each order of independent steps is tried.
     record: Option<Record>,
 }
@@ -118,7 +120,8 @@ impl Path {
     pub(crate) fn of(way: Way, wakes: bool, reduces: bool) -> Path {
         let (made, stuck) = (Vec::new(), Stuck::default());
         let record = reduces.then(Record::default);
-        Path { way, wakes, made, has_moved: false, stuck, has_strayed: false, record }
+        let (has_moved, has_strayed, leaves_out) = (false, false, false);
+        Path { way, wakes, made, has_moved, stuck, has_strayed, leaves_out, record }
     }
 
     /// The footprint of the step that is made, if steps have one.
@@ -172,6 +175,7 @@ impl Path {
         if free.is_empty() {
             return after(ready, holder);
         }
+        self.leaves_out |= free.len() < ready.len();
         let running = runs_on.filter(|thread| free.contains(thread));
         let first = running.or_else(|| self.first_of(&free, holder))?;
         let (asleep, step) = (if self.wakes { asleep.to_vec() } else { Vec::new() }, self.step());
@@ -232,6 +236,10 @@ impl Path {
     /// repeat what they did before.
     pub(crate) fn has_strayed(&self) -> bool {
         self.has_strayed || self.made.len() < self.way.len()
+    }
+
+    pub(crate) fn leaves_out(&self) -> bool {
+        self.leaves_out
     }
 
     /// The ways that leave this run after its own way, each with whether it has one more

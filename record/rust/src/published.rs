@@ -7,7 +7,7 @@ use crate::lock::Lock;
 use crate::moves::{self, Call, Move, Outcome, Word};
 use crate::tape::Source;
 
-/// The faults of record/locktrace.h that are explained further.
+/// The faults of built/locktrace.h that are explained further.
 const BUSY: u32 = 3;
 const NO_CALL: u32 = 6;
 const OTHER_WORD: u32 = 8;

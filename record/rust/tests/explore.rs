@@ -48,6 +48,23 @@ fn each_run_comes_once_and_those_with_fewer_preemptions_first() -> Result<(), Er
     Ok(())
 }
 
+/// Those of a thread that found the same twice in a row.
+#[test]
+fn polls_that_are_left_out() {
+    for (waits, reduces) in [(false, true), (false, false), (true, true), (true, false)] {
+        let mut explored = Run::of(Lock::Ticket, 2).reduced(reduces).explore(0);
+        for run in explored.by_ref() {
+            let word = AtomicU8::new(0).noted(Word::NowServing);
+            let ending = run.unwrap().threads(LIMIT, |log| match log.thread() {
+                0 => word.store(1, SeqCst),
+                _ => while word.load(SeqCst) == 0 && waits {},
+            });
+            assert_eq!(ending.unwrap(), Ending::Complete);
+        }
+        assert_eq!(explored.leaves_out_polls(), waits, "reduces: {reduces}");
+    }
+}
+
 /// The orders in which two threads can make two steps each: whose each move is.
 const ALL: [&str; 6] = ["0011", "0101", "0110", "1001", "1010", "1100"];
 

@@ -3,8 +3,7 @@ use Rattle.std.proofs.Common.{◌≡◌, List, ℕ, length, drop, ◌++◌, Opti
 use Rattle.std.proofs.Common.{sym, ap, ◌∙◌, length-take-le}
 use Rattle.std.specs.Int.{from_bool}
 use Rattle.lk_locks.specs.declared.kinds.Refusal.{Refusal}
-use Rattle.lk_replay.specs.Schedule.{plan_of}
-use Rattle.lk_page.specs.Playing.{moves_left}
+use Rattle.lk_replay.specs.Schedule.{moves_left, plan_of}
 use Rattle.lk_page.specs.Written.{answer_of}
 use Rattle.lk_page.proofs.Ends.{plays}
 use Rattle.lk_page.proofs.play.Goals as goal

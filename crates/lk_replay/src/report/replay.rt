@@ -1,66 +1,34 @@
-//! Plays the moves of a schedule and prints the report's lines: a move is played when its line is
-//! printed. No line asks for memory.
+//! Prints the lines of a schedule's report: a move is played when its line is printed. No line asks
+//! for memory.
 
 ghost use Rattle.std.specs.Prelude.{◌≡◌, ◌≤◌, length, take, ◌+◌, ◌++◌, [], MatchOption, ◌<◌};
-ghost use Rattle.lk_locks.specs.Sequential.{nobody};
-ghost use Rattle.lk_locks.specs.invariants.Kept.{IsTracked};
 ghost use Rattle.lk_replay.specs.Ending.{ending_by};
 ghost use Rattle.lk_replay.specs.Replay.{replay_from, replay_of};
-ghost use Rattle.lk_replay.specs.Report.{line_start, replay_text};
+ghost use Rattle.lk_replay.specs.Report.{replay_text};
 ghost use Rattle.lk_replay.specs.ReportRest.{ReportRest, rest_of};
 
 use crate::ending::Ending;
-use crate::played::Accepted;
 use crate::report::closings::put_last;
-use crate::report::numerals::{put_count, put_number};
-use crate::report::occupancy::OccupancyText;
-use crate::report::text::{put, put_block};
+use crate::report::printer::{LEAST_PLACE, Printer};
 use crate::{Line, Schedule};
-use lk_lines::{move_block, outcome_block};
-use lk_locks::Machine;
-use lk_words::WordArray;
 use std::marker::Model;
 
-/// The bytes of the smallest place that lines are put into. A line has at most 64 bytes that
-/// describe the move, and 384 that show who holds and who waits.
-pub const LEAST_PLACE: usize = 448;
-
-/// The moves of a schedule that are left, how many were printed, the lock on which they were
-/// played, and how the report ends, once its last line is printed.
+/// The moves of a schedule that are left, the lock on which the others were played and printed, and
+/// how the report ends, once its last line is printed.
 #[derive(Drop)]
 pub struct Replay<'a> {
     moves: &'a [Line],
-    count: u32,
-    machine: Machine<WordArray>,
-    occupancy: OccupancyText,
+    printer: Printer,
     ending: Option<Ending>,
 }
 
 impl<'a> Model for Replay<'a> {
     ghost Value = { ReportRest };
 
-    ghost view = { λ a. rest_of a.ending a.occupancy a.count (replay_from a.machine a.moves.now) };
+    ghost view = { λ a. rest_of a.ending a.printer.occupancy a.printer.count
+        (replay_from a.printer.state a.moves.now) };
 
-    ghost invariant = { λ a. (a.count + length a.moves.now ≤ 65536)
-        × IsTracked a.machine a.occupancy.sequential };
-}
-
-// Writes `K T WORD OUTCOME hold ` of an accepted move, and returns where it ends.
-#[tactic(auto, unfolding(crate::specs::Report::line_start))]
-fn put_start(line: &mut [u8], count: u32, accepted: &Accepted) -> usize
-    requires { 80 ≤ length line.old }
-    ensures text { take result line.new ≡ line_start count accepted.now }
-    ensures short { result ≤ 64 }
-{
-    let at = put_count(line, count);
-    let at = put(line, at, b" ");
-    let at = put_number(line, at, accepted.thread);
-    let at = put(line, at, b" ");
-    let (block, len) = move_block(accepted.action);
-    let at = put_block::<16>(line, at, block, len);
-    let (block, len) = outcome_block(accepted.outcome);
-    let at = put_block::<16>(line, at, block, len);
-    put(line, at, b"hold ")
+    ghost invariant = { λ a. a.printer.count + length a.moves.now ≤ 65536 };
 }
 
 impl<'a> Replay<'a> {
@@ -72,9 +40,7 @@ impl<'a> Replay<'a> {
     {
         Replay {
             moves: schedule.moves(),
-            count: 0,
-            machine: Machine::at_start(schedule.shape()),
-            occupancy: OccupancyText::new(schedule.kind()),
+            printer: Printer::new(schedule.shape()),
             ending: None,
         }
     }
@@ -91,27 +57,19 @@ impl<'a> Replay<'a> {
     {
         let Some((line, rest)) = self.moves.split_first() else {
             self.ending = Some(Ending::Accepted);
-            return put_last(place, self.count, None);
+            return put_last(place, self.printer.count(), None);
         };
         let line = *line;
-        let (outcome, added) = match self.machine.play(line.thread, line.action) {
-            Ok((outcome, added)) => (outcome, added),
+        match self.printer.print_move(line, place) {
+            Ok(len) => {
+                self.moves = rest;
+                len
+            }
             Err(refusal) => {
                 self.ending = Some(Ending::Refused);
-                return put_last(place, self.count, Some((line.number, refusal)));
+                put_last(place, self.printer.count(), Some((line.number, refusal)))
             }
-        };
-        self.occupancy.follow(line.thread, added);
-        self.moves = rest;
-        self.count += 1;
-        let accepted = Accepted {
-            line: line.number,
-            thread: line.thread,
-            action: line.action,
-            outcome,
-        };
-        let at = put_start(place, self.count, &accepted);
-        self.occupancy.put(place, at)
+        }
     }
 
     /// Prints the next lines into a place, as many as have room whatever their length, and returns

@@ -48,10 +48,11 @@ fn explore<L: Tested>(
         (false, true) => "all of them accepted, and there are more",
         (false, false) => "not all of them",
     };
+    let but = if is_complete && runs.leaves_out_polls() { "repeated polls left out, " } else { "" };
     let preemptions = match runs.preemptions() {
         1 => "1 preemption".to_owned(),
         many => format!("{many} preemptions"),
     };
-    println!("{made} run{} with up to {preemptions}, {all}", if made == 1 { "" } else { "s" });
+    println!("{made} run{} with up to {preemptions}, {but}{all}", if made == 1 { "" } else { "s" });
     Ok(refusal.map_or_else(|| told(&ending), |said| (1, said)))
 }

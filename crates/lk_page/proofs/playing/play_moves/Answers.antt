@@ -1,7 +1,7 @@
 -- One move more, or the refused one.
 use Rattle.std.proofs.Common.{sym, ap, ◌∙◌, ◌+◌, arith}
 use Rattle.lk_locks.specs.Steps.{refused_with}
-use Rattle.lk_page.specs.Playing.{moves_left}
+use Rattle.lk_replay.specs.Schedule.{moves_left}
 use Rattle.lk_page.proofs.Turns.{next_read, same_threads, same_words, turn_made, turn_refused}
 use Rattle.lk_page.proofs.playing.play_moves.Goals as goal
 

@@ -1,6 +1,7 @@
 -- So many of the moves that are asked for were made, and the others are left.
 use Rattle.std.proofs.Common.{◌≡◌, ◌-◌, ◌≤◌, length, take}
-use Rattle.lk_page.specs.Playing.{AreMoves, ArePlaying, moves_left}
+use Rattle.lk_replay.specs.Schedule.{AreMoves, moves_left}
+use Rattle.lk_page.specs.Playing.{ArePlaying}
 use Rattle.lk_page.proofs.playing.play_moves.Given as goal
 
 abbrev pub invariant-loop-count : goal.invariant-loop-count
