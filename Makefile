@@ -232,6 +232,7 @@ bench: $(PROGRAM)
 
 ## bench-search | counts the states of the locks' schedules with SPIN, beside the worked rows
 bench-search:
+	@command -v spin > /dev/null || { echo 'make bench-search needs spin of Debian' >&2; exit 1; }
 	bench/count.py
 
 ## bench-instructions | counts what a move takes, beside the replayer written by hand

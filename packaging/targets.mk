@@ -42,11 +42,18 @@ release: $(BUILT)
 SITE := out/site
 ## site | the documents as static HTML with search, and the page at its root, in out/site
 site:
-	@command -v sphinx-build > /dev/null || \
-	    { echo 'make site needs furo and python3-myst-parser of Debian' >&2; exit 1; }
+	@command -v sphinx-build > /dev/null && command -v mandoc > /dev/null || \
+	    { echo 'make site needs furo, mandoc and python3-myst-parser of Debian' >&2; exit 1; }
 	rm -rf '$(SITE)'
 	read=$$(mktemp -d) && trap 'rm -rf "$$read"' EXIT && \
 	    sphinx-build -q -W --keep-going -c packaging/site -d "$$read" . '$(SITE)'
+
+## sheet | a page on schedules and reports, from the manual pages: out/sheet.html and out/sheet.pdf
+sheet:
+	mkdir -p out
+	packaging/site/manuals.py out/sheet.html
+	chromium --headless --no-sandbox --disable-gpu --no-pdf-header-footer \
+	    --print-to-pdf=out/sheet.pdf out/sheet.html 2> /dev/null
 
 $(PAGE): $(MODULE) VERSION docs/LOCKS.md $(wildcard page/build.mjs page/build/* built/why/* \
 	page/src/*.* page/src/*/* examples/*.schedule examples/README.md)

@@ -3,7 +3,8 @@ its root, usable from disk.
 
 The table of contents is the index by reader at the end of README.md: each document at its first
 place there, and all others at the end. A link to the page leads to the copy at the root, and the
-lessons of examples/README.md are such links. Theme, search and dark mode are Furo's.
+lessons of examples/README.md are such links. The manual pages are in the folder `man`, with a sheet
+of their parts. Theme, search and dark mode are Furo's.
 """
 import re
 import sys
@@ -15,6 +16,7 @@ from pygments.lexers.special import TextLexer
 
 sys.path.insert(0, str(Path(__file__).parent))
 from api import calls_of  # noqa: E402
+from manuals import html_of, manuals, sheet  # noqa: E402
 
 TOP = Path(__file__).resolve().parents[2]
 PAGE = "lockreplay.html"
@@ -75,6 +77,13 @@ def read(app, document, source):
                        lambda it: f'<a href="{up}{PAGE}{it[2] or ""}">{it[1]}</a>', text)
 
 
+def other_pages(_):
+    """The pages that no document has: the manual pages, and the sheet of their parts."""
+    bodies = {name: html_of(text) for name, text in manuals().items()} | {"sheet": sheet()}
+    for name, body in bodies.items():
+        yield f"man/{name}", {"title": name, "body": body}, "page.html"
+
+
 def mend(path, change):
     path.write_text(change(path.read_text(encoding="utf-8")), encoding="utf-8")
 
@@ -103,4 +112,5 @@ def setup(app):
     for language in set(re.findall(r"^```([\w-]+)$", text, re.MULTILINE)) - {"console"}:
         app.add_lexer(language, TextLexer)
     app.connect("source-read", read)
+    app.connect("html-collect-pages", other_pages)
     app.connect("build-finished", finish)

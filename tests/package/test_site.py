@@ -9,7 +9,7 @@ import pytest
 
 from installs import make
 from recorders import once
-from tree import EXAMPLES, output
+from tree import EXAMPLES, TOP, output
 
 # The attributes from which a browser loads files by itself. A reader follows all other links.
 LOADING = {("script", "src"), ("img", "src"), ("link", "href"), ("iframe", "src"),
@@ -93,6 +93,32 @@ def test_one_click(documents, site):
         assert due <= {(path.parent / lead).resolve() for lead in leads}, path
     lessons = {lead for _, _, lead in documents[site / "examples" / "README.html"].leads}
     assert "../lockreplay.html#lesson=mcs-late-link" in lessons
+
+
+def test_manuals(documents, site):
+    """Each manual page has its parts as headings, and leads to the others; the sheet has the steps
+    of each call, the columns of a report and each refusal."""
+    for name, other in (("lockreplay.1", "locktrace.1"), ("locktrace.1", "locktrace-trace.5"),
+                        ("lockreplay-schedule.5", "lockreplay.1"),
+                        ("locktrace-trace.5", "lockreplay-schedule.5")):
+        page = documents[site / "man" / f"{name}.html"]
+        assert {"NAME", "DESCRIPTION", "EXAMPLES"} <= page.anchors
+        assert f"{other}.html" in {lead for _, _, lead in page.leads}, name
+    sheet = documents[site / "man" / "sheet.html"].path.read_text("utf-8")
+    shown = re.sub(r"\s+", " ", re.sub(r"<[^>]*>", "", sheet))
+    for part in ("K T word outcome hold H queue Q", "NotHolder A release", "mcs, release read;",
+                 "1 Some report ends with a refused move"):
+        assert part in shown, part
+
+
+def test_sheet(tmp_path):
+    """The sheet is one page of paper."""
+    (tmp_path / "sheet.html").write_text(output(TOP / "packaging" / "site" / "manuals.py",
+                                                "/dev/stdout"))
+    printed = tmp_path / "sheet.pdf"
+    output(*CHROMIUM, "--no-pdf-header-footer", f"--print-to-pdf={printed}",
+           f"file://{tmp_path}/sheet.html", stderr=None)
+    assert re.search(r"^Pages: +1$", output("pdfinfo", printed), re.MULTILINE)
 
 
 def test_search(site):
