@@ -3,7 +3,7 @@
 #![allow(unsafe_code)]
 
 use std::ffi::{c_void, CStr};
-use std::os::raw::{c_char, c_int, c_uint};
+use std::os::raw::{c_char, c_int, c_long, c_uint, c_ulong};
 use std::panic::Location;
 use std::ptr::{self, NonNull};
 use std::slice;
@@ -118,6 +118,8 @@ extern "C" {
     pub(crate) static lr_engine_follow: Engine;
     pub(crate) static lr_engine_explore: Engine;
     pub(crate) static lr_engine_explore_all: Engine;
+    fn lr_keep_processor(pin: *mut Pin);
+    fn lr_free_processor(pin: *const Pin);
     fn lr_close_run(run: *mut CRun);
     fn lr_stop_run(run: *mut CRun);
     fn lr_is_stopped(run: *const CRun) -> c_int;
@@ -138,6 +140,30 @@ extern "C" {
     fn lr_free_text(text: *mut u8);
     pub(crate) fn lr_own(record: *const c_void, length: usize);
     pub(crate) fn lr_owner_of(log: *const CLog, address: usize) -> c_uint;
+}
+
+/// Keeps the thread, and those that it starts, on one processor until this is dropped: with one
+/// thread at a time a turn then takes another processor's wakeup no more.
+#[repr(C)]
+pub(crate) struct Pin {
+    before: [c_ulong; 16],
+    size: c_long,
+}
+
+impl Pin {
+    pub(crate) fn take() -> Pin {
+        let mut pin = Pin { before: [0; 16], size: -1 };
+        // SAFETY: it has the layout of `lr_pin`, or is larger.
+        unsafe { lr_keep_processor(&mut pin) };
+        pin
+    }
+}
+
+impl Drop for Pin {
+    fn drop(&mut self) {
+        // SAFETY: as above.
+        unsafe { lr_free_processor(self) };
+    }
 }
 
 /// Writes a place of the source for C, which ends it with a 0.

@@ -6,6 +6,10 @@ void lr_stop_run(lr_run *run) { host_stop(run); }
 int lr_is_stopped(const lr_run *run) { return host_is_over(run); }
 lr_log *lr_log_at(lr_run *run, unsigned thread) { return &run->logs[thread]; }
 
+/* The thread, and those that it starts, keep to one processor; see pin.h. */
+void lr_keep_processor(lr_pin *pin) { lr_take_processor(pin); }
+void lr_free_processor(const lr_pin *pin) { lr_leave_processor(pin); }
+
 /* Waits until all threads have gone or the run is over. Returns whether it came to that in time. */
 int lr_wait_until_gone(lr_run *run, uint64_t milliseconds)
 {

@@ -13,7 +13,7 @@ use std::thread::{self, Builder, ScopedJoinHandle};
 use std::time::{Duration, Instant};
 
 use crate::builder::RunBuilder;
-use crate::engine::{RunOfC, State, NO_HOLDER};
+use crate::engine::{Pin, RunOfC, State, NO_HOLDER};
 use crate::error::Error;
 use crate::follow::Departure;
 use crate::kept::Kept;
@@ -174,6 +174,7 @@ impl Run {
             work(&log);
             Ok(())
         };
+        let _pin = self.0.is_by_turns().then(Pin::take);
         thread::scope(|scope| {
             let started: Result<Vec<_>, Error> = (0..self.0.header.threads)
                 .map(|thread| {
