@@ -123,7 +123,7 @@ impl RunBuilder {
     /// use std::{sync::atomic::Ordering::SeqCst, time::Duration};
     ///
     /// let mut counts = Vec::new();
-    /// for run in Run::of(Lock::Ticket, 2).explore(1) {
+    /// for run in Run::builder(Lock::Ticket, 2).explore(1) {
     ///     let count = AtomicU8::new(0);
     ///     let ending = run?.threads(Duration::from_secs(10), |_log| {
     ///         count.store(count.load(SeqCst) + 1, SeqCst);

@@ -76,7 +76,7 @@ impl Run {
     /// use lockreplay_record::{call, Call, Error, Lock, Mode, Run};
     /// use std::time::Duration;
     ///
-    /// let run = Run::of(Lock::Mcs, 1).mode(Mode::Seed(1)).open()?;
+    /// let run = Run::builder(Lock::Mcs, 1).mode(Mode::Seed(1)).open()?;
     /// run.threads(Duration::from_secs(10), |_log| {
     ///     let _call = call(Call::Release); // of a lock that nobody has
     /// })?;

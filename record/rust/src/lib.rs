@@ -46,7 +46,7 @@
 //!         next_ticket: AtomicU8::new(0).noted(Word::NextTicket),
 //!         now_serving: AtomicU8::new(0).noted(Word::NowServing),
 //!     };
-//!     let run = Run::of(Lock::Ticket, 3).bits(8).mode(Mode::Seed(17)).open()?;
+//!     let run = Run::builder(Lock::Ticket, 3).bits(8).mode(Mode::Seed(17)).open()?;
 //!     let ending = run.threads(Duration::from_secs(60), |_log| {
 //!         for _ in 0..100 {
 //!             lock.acquire();

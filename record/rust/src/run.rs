@@ -135,7 +135,7 @@ pub enum Ending {
 ///
 /// static NEXT_TICKET: AtomicU8 = AtomicU8::new(0).noted(Word::NextTicket);
 ///
-/// let run = Run::of(Lock::Ticket, 1).bits(8).mode(Mode::Seed(17)).open()?;
+/// let run = Run::builder(Lock::Ticket, 1).bits(8).mode(Mode::Seed(17)).open()?;
 /// let ending = run.threads(Duration::from_secs(10), |_log| {
 ///     let _call = call(Call::Acquire);
 ///     NEXT_TICKET.fetch_add(1, SeqCst);
@@ -150,8 +150,14 @@ pub struct Run(pub(crate) Arc<Shared>);
 
 impl Run {
     /// A run of this lock by 1 to 64 threads.
-    pub fn of(lock: Lock, threads: usize) -> RunBuilder {
+    pub fn builder(lock: Lock, threads: usize) -> RunBuilder {
         RunBuilder::of(Header { lock, threads, bits: MOST_BITS })
+    }
+
+    /// As [`Run::builder`], which its name does not say.
+    #[deprecated(note = "call `Run::builder`")]
+    pub fn of(lock: Lock, threads: usize) -> RunBuilder {
+        Run::builder(lock, threads)
     }
 
     /// Starts the run's threads, does the work on each, and waits until all have ended. If they
@@ -338,7 +344,7 @@ impl Log {
     ///
     /// let schedule: Schedule = "lock ticket threads 2\n0 acquire\n1 acquire\n0 add\n".parse()?;
     /// let next = AtomicU8::new(0).noted(Word::NextTicket);
-    /// let setup = Run::of(schedule.lock(), schedule.threads()).bits(8);
+    /// let setup = Run::builder(schedule.lock(), schedule.threads()).bits(8);
     /// let run = setup.mode(Mode::Follow(schedule)).open()?;
     /// let ending = run.threads(Duration::from_secs(10), |log| {
     ///     while let Some(due) = log.next_call() {
