@@ -97,11 +97,9 @@ impl RunBuilder {
         self.header.checked()?;
         match &self.mode {
             Mode::Follow(schedule) if !schedule.is_of(&self.header) => {
-                return Err(Error::OtherRun { run: self.header.to_string() });
+                Err(Error::OtherRun { run: self.header.to_string() })
             }
-            mode if mode.seed().is_none() && self.spurious.unwrap_or(0) > 0 => {
-                return Err(Error::NoSeed);
-            }
+            mode if mode.seed().is_none() && self.spurious.unwrap_or(0) > 0 => Err(Error::NoSeed),
             _ => self.open_on(None, 0),
         }
     }

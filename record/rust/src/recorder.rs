@@ -2,7 +2,10 @@
 //!
 //! A thread that has no log, or that unwinds, records nothing: its operations are made as they are.
 // SPDX-License-Identifier: Apache-2.0 OR MIT
-#![allow(unsafe_code)] // for calls of the engine with the thread's own log
+#![allow(unsafe_code)]
+// for calls of the engine with the thread's own log
+// clippy of Rust 1.63 takes the initial value in `thread_local!` for a constant of this module.
+#![allow(clippy::declare_interior_mutable_const)]
 
 use std::cell::{Cell, RefCell};
 use std::os::raw::c_int;

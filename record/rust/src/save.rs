@@ -100,18 +100,18 @@ fn write_part(
 
 /// The header, after comments that identify the run and say how to repeat it.
 fn head(run: &Shared) -> String {
-    let mut head = format!("# run {:016x}\n", run.of_c.state().number);
-    head += &match run.mode {
+    let seed = match run.mode {
         Mode::Seed(seed) => format!("# seed {seed}\n"),
         Mode::Pct { seed, depth, steps } => format!("# seed {seed} depth {depth} steps {steps}\n"),
         Mode::Noise(seed) => format!("# noise {seed}\n"),
         Mode::Free | Mode::Ordered | Mode::Follow(_) => String::new(),
     };
-    head += &run.spurious.map_or_else(String::new, |one_in| format!("# spurious {one_in}\n"));
-    if run.start > 0 {
-        head += &format!("# counters began at {}, here at 0\n", run.start);
-    }
-    head + &run.header.to_string()
+    let spurious = run.spurious.map_or_else(String::new, |one_in| format!("# spurious {one_in}\n"));
+    let start = match run.start {
+        0 => String::new(),
+        start => format!("# counters began at {start}, here at 0\n"),
+    };
+    format!("# run {:016x}\n{seed}{spurious}{start}{}", run.of_c.state().number, run.header)
 }
 
 fn head_of_log(run: &Shared, thread: usize) -> String {
