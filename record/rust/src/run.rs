@@ -76,13 +76,13 @@ impl Shared {
 
     /// Waits until all threads have gone or the run was stopped. Stops it when the time is over.
     fn wait(&self, limit: Duration) {
-        let until = Instant::now() + limit;
+        let begun = Instant::now();
         loop {
-            let left = until.saturating_duration_since(Instant::now());
+            let left = limit.saturating_sub(begun.elapsed());
             if self.of_c.wait(left.as_millis().min(1 << 30) as u64) {
                 return;
             }
-            if Instant::now() >= until {
+            if begun.elapsed() >= limit {
                 self.look_who_blocks();
                 self.of_c.say_late_line();
                 self.of_c.stop();
