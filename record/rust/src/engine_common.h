@@ -1,5 +1,7 @@
-/* What is known of a run in any mode, its texts, its check, and a search. Each run has the same
-   fields, so these functions are there once. */
+/* What is known of a run in any mode, its texts, its check, and a search.
+   SPDX-License-Identifier: Apache-2.0 OR MIT
+
+   Each run has the same fields, so these functions are there once. */
 
 void lr_close_run(lr_run *run) { lr_close(run); }
 void lr_stop_run(lr_run *run) { host_stop(run); }
