@@ -33,13 +33,16 @@ static inline unsigned lr_go(lr_run *run, const lr_driver *driver, unsigned roun
                              unsigned seconds)
 {
     unsigned started = 0;
+    lr_pin pin;
     run->driver = driver;
     run->rounds = rounds;
     if (driver->reset) driver->reset();
+    lr_take_processor(&pin);
     while (started < run->threads &&
            !pthread_create(&run->logs[started].id, NULL, lr_work, &run->logs[started]))
         started++;
     if (started < run->threads) {
+        lr_leave_processor(&pin);
         lr_tell(run->said, "no memory for thread %u", started);
         run->lacks = EAGAIN;
         run->is_left = 1;
@@ -53,6 +56,7 @@ static inline unsigned lr_go(lr_run *run, const lr_driver *driver, unsigned roun
             pthread_join(run->logs[t].id, NULL);
         else
             pthread_detach(run->logs[t].id);
+    lr_leave_processor(&pin);
     return missing;
 }
 

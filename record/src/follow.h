@@ -26,6 +26,19 @@ static inline unsigned lr_choose_waiter(lr_run *run, uint64_t waiters)
 
 static inline void lr_wake_for_nothing(lr_run *run) { (void)run; }
 
+/* Keeps for a layer in another language where a lock first left its schedule. */
+static inline void lr_depart(lr_run *run, unsigned did, unsigned thread, unsigned word)
+{
+#if LR_HOSTED
+    if (run->did) return;
+    run->did = did;
+    run->by = thread;
+    run->made_word = word;
+#else
+    (void)run, (void)did, (void)thread, (void)word;
+#endif
+}
+
 static inline unsigned lr_choose(lr_run *run, uint64_t ready, unsigned current)
 {
     (void)current;
@@ -33,6 +46,7 @@ static inline unsigned lr_choose(lr_run *run, uint64_t ready, unsigned current)
     if (run->is_at_end) return ready ? lr_after(ready, LR_NOBODY) : (unsigned)LR_NOBODY;
     const lr_line *line = &run->lines[run->at];
     if (run->inside >> line->thread & 1) return line->thread;
+    lr_depart(run, LR_DID_end, line->thread, 0);
     lr_tell(run->said, "line %u is '%u %s', and thread %u has ended", line->number,
             (unsigned)line->thread, lr_word(line->word), (unsigned)line->thread);
     return LR_NOBODY;
@@ -52,12 +66,14 @@ static inline void lr_made(lr_log *log, unsigned word)
     lr_run *run = log->run;
     const lr_line *line = &run->lines[run->at];
     char at[LR_LINE];
+    if (run->at < run->lines_count && line->thread == log->thread && line->word == word) {
+        run->at++;
+        return;
+    }
+    lr_depart(run, LR_DID_make, log->thread, word);
     if (run->at == run->lines_count) {
         lr_tell(run->said, "thread %u made '%s' after the last line, at %s", log->thread,
                 lr_word(word), lr_where(at, log, &log->noted));
-    } else if (line->thread == log->thread && line->word == word) {
-        run->at++;
-        return;
     } else {
         lr_tell(run->said, "line %u is '%u %s', and thread %u made '%s' at %s", line->number,
                 (unsigned)line->thread, lr_word(line->word), log->thread, lr_word(word),

@@ -146,6 +146,7 @@
 #include "published.h"
 #include "check.h"
 #endif
+#include "pin.h"
 #include "driver.h"
 #if LR_RECORDS
 #include "ways.h"

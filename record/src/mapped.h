@@ -91,6 +91,26 @@ static inline void lr_close_notes(lr_run *run)
     run->notes = -1;
 }
 
+#if LR_HOSTED
+/* Memory of this process alone. With one thread at a time no note has to be fast, so its pages are
+   touched as they are needed. */
+static inline lr_run *lr_memory_of(unsigned threads, size_t moves, const char *folder)
+{
+    size_t all = threads * (moves + 2), size = lr_size_of(threads, moves);
+    int zero = open("/dev/zero", O_RDWR);
+    void *memory = mmap(NULL, size, PROT_READ | PROT_WRITE, MAP_PRIVATE, zero, 0);
+    (void)folder;
+    close(zero);
+    if (memory == MAP_FAILED) return NULL;
+    lr_run *run = (lr_run *)memory;
+    run->notes = -1;
+    run->size = size;
+    run->moves = (lr_move *)(run + 1);
+    run->order = (unsigned char *)(run->moves + all);
+    if (LR_FREE) memset(run->moves, 0xFF, all * sizeof(lr_move));
+    return run;
+}
+#else
 /* Memory that another process shares: each page of the logs is touched before the run. A note that
    was never made is not taken for one (recover.h). */
 static inline lr_run *lr_memory_of(unsigned threads, size_t moves, const char *folder)
@@ -118,3 +138,4 @@ static inline lr_run *lr_memory_of(unsigned threads, size_t moves, const char *f
     memset(run->moves, 0xFF, all * sizeof(lr_move));
     return run;
 }
+#endif

@@ -76,8 +76,16 @@
 #define LR_START 0
 #endif
 
+/* LR_HOSTED: a layer in another language makes the runs (record/rust). A thread of a run that is over
+   then goes back to it, where a thread of a driver in C stays; and a turn ends before operations
+   alone. */
+#ifndef LR_HOSTED
+#define LR_HOSTED 0
+#endif
+
 /* LR_POINTS: each atomic operation has a point before it, at which another thread may be next. */
-#if (LR_SEEDED || LR_EXPLORES || defined LR_NOISE) && (!defined LR_ATOMICS || LR_ATOMICS + 0)
+#if !LR_HOSTED && (LR_SEEDED || LR_EXPLORES || defined LR_NOISE) &&                                \
+    (!defined LR_ATOMICS || LR_ATOMICS + 0)
 #define LR_POINTS 1
 #else
 #define LR_POINTS 0
@@ -87,6 +95,12 @@
 #define LR_REDUCES 1
 #else
 #define LR_REDUCES 0
+#endif
+/* LR_WAKES: with EXPLORE threads are also woken without a signal. */
+#if !defined LR_SPURIOUS || LR_SPURIOUS + 0
+#define LR_WAKES 1
+#else
+#define LR_WAKES 0
 #endif
 #if LR_EXPLORES || defined LR_CHECK
 #define LR_CHECKS 1

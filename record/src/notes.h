@@ -65,7 +65,7 @@ LR_AT_ONCE int lr_is_same(lr_move move, const lr_move *other)
 LR_AT_ONCE int lr_is_left_out(const lr_log *log, const lr_move *end, lr_move move)
 {
     if (LR_FOLLOWS) return 0;
-    if (LR_TURNS && lr_waits(move) && log->turn.seen != log->run->ordered) return 0;
+    if (lr_has_order(log->run) && lr_waits(move) && log->turn.seen != log->run->ordered) return 0;
     return lr_is_same(move, &end[-1]) && lr_is_same(move, &end[-2]);
 }
 
@@ -104,7 +104,7 @@ __attribute__((cold)) static inline void lr_drop(lr_log *log, lr_move move)
     log->last[0] = log->last[1];
     log->last[1] = lr_filed(log, move);
     lr_set_count(log->dropped, dropped + 1);
-    if (LR_TURNS) log->run->is_cut = 1;
+    if (lr_has_order(log->run)) log->run->is_cut = 1;
 }
 
 /* Writes a move, unless it is left out or dropped. */
@@ -119,7 +119,7 @@ LR_AT_ONCE void lr_append(lr_log *log, lr_move move)
     *end = lr_filed(log, move);
     lr_set_count(log->end, end + 1);
     lr_run *run = log->run;
-    if (!LR_TURNS || run->is_cut) return;
+    if (!lr_has_order(run) || run->is_cut) return;
     run->order[run->ordered] = (unsigned char)log->thread;
     lr_set_count(run->ordered, run->ordered + 1);
 }

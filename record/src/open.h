@@ -34,6 +34,7 @@ static inline void lr_close(lr_run *run)
     pthread_cond_destroy(&run->changed);
     pthread_mutex_destroy(&run->mutex);
     free(run->lines);
+    free(run->changes);
     free(run->choices);
     free(run->steps);
     munmap(run, run->size);
@@ -86,9 +87,13 @@ static inline lr_run *lr_open(const char *lock, unsigned threads, unsigned bits,
     for (unsigned t = 0; t < threads; t++) lr_open_log(run, t, moves);
 #if LR_SEEDED
     run->spurious = lr_spurious_of(seed);
-#endif
-#ifdef LR_PCT
-    lr_draw_priorities(run);
+    if (!LR_HOSTED && !lr_draw_priorities(run, LR_DEPTH, LR_STEPS)) {
+        lr_say("no memory for the turns at which priorities change");
+        lr_close(run);
+        return NULL;
+    }
+#elif LR_EXPLORES
+    run->spurious = LR_WAKES;
 #endif
     lr_make_stamp(run->stamp);
     lr_watch(run);

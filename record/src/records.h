@@ -26,8 +26,11 @@ static inline void lr_set_record(const void *pointer, size_t length)
     uintptr_t first = (uintptr_t)pointer;
     uintptr_t before = __atomic_load_n(&record->first, __ATOMIC_RELAXED);
     if (lr_self == &lr_outside || (before == first && record->length == length)) return;
-    /* Another thread reads this when it notes a pointer. */
     if (lr_take_record(lr_self->run, first, length) || before) lr_touch_all(lr_self->run);
+    /* Another thread reads this when it notes a pointer into the record. A right lock has given it
+       that pointer by an operation after these stores, which orders them before the reads. A thread
+       with a pointer from elsewhere may read a new `first` with an old `length`: it then names
+       another owner, or none, in the note of a lock that is wrong already. */
     __atomic_store_n(&record->length, length, __ATOMIC_RELAXED);
     __atomic_store_n(&record->first, first, __ATOMIC_RELAXED);
 }

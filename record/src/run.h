@@ -29,12 +29,19 @@ enum { LR_FILES = 256, LR_STAMP = 64, LR_NAME = 16, LR_PATH = 4096 };
 typedef struct lr_move {
     uint64_t value; /* what was found or left; the count of a section */
     uint64_t kind;
+#if LR_HOSTED
+    uint64_t left; /* with LR_LEFT_TOO: what was left, and `value` is what was found */
+    const void *place;
+#endif
 } lr_move;
 
 /* A move takes its own bytes, one for its thread, and with EXPLORE one for a choice. */
 #define LR_MOVE_SIZE (sizeof(lr_move) + 1 + LR_EXPLORES)
 
 enum { LR_AT_PLACE = 8, LR_AT_PART = 16, LR_AT_OWNER = 24, LR_AT_FILE = 40, LR_AT_LINE = 48 };
+
+/* In a part: the value is what was found, and what was left is there too. */
+enum { LR_PART_BITS = 0x3F, LR_FOUND_TOO = 0x40, LR_LEFT_TOO = 0x80 };
 
 static inline unsigned lr_move_word(const lr_move *m) { return m->kind & 0xFF; }
 static inline unsigned lr_move_place(const lr_move *m) { return m->kind >> LR_AT_PLACE & 0xFF; }
@@ -43,15 +50,23 @@ static inline unsigned lr_move_owner(const lr_move *m) { return m->kind >> LR_AT
 static inline unsigned lr_move_file(const lr_move *m) { return m->kind >> LR_AT_FILE & 0xFF; }
 static inline unsigned lr_move_line(const lr_move *m) { return (unsigned)(m->kind >> LR_AT_LINE); }
 
+/* The bytes of a word, or of a thread's record, of which its words are fields. */
+typedef struct lr_extent {
+    uintptr_t first;
+    size_t length;
+} lr_extent;
+
 /* What a step touches, if EXPLORE leaves out orders of independent steps. A step is all that a
-   thread does in one turn. */
+   thread does in one turn: in C one operation with its note, elsewhere also a section of a monitor
+   with its mutex and its signals. */
+enum { LR_TOUCHED = LR_HOSTED ? 4 : 1 };
 typedef struct lr_footprint {
-    uintptr_t word; /* of its atomic operation */
-    size_t size;    /* of that word, or 0 if it has no such operation */
-    unsigned noted; /* the word that its note names, or 0 */
-    int writes;     /* it may do more than load the word */
-    int is_all;     /* it may touch anything */
-    int is_vain;    /* it is a poll that found what the one before it did */
+    lr_extent words[LR_TOUCHED];
+    unsigned names[LR_TOUCHED]; /* the words that its notes name */
+    unsigned touched, named;    /* how many of these it has */
+    int writes;                 /* it may do more than load the words */
+    int is_all;                 /* it may touch anything */
+    int is_vain;                /* it is a poll that found what the one before it did */
 } lr_footprint;
 
 typedef struct lr_step {
@@ -70,15 +85,14 @@ typedef struct lr_turn {
     const void *awaits; /* the condition for which the thread waits */
     size_t seen;        /* how many moves of all threads were written at the last note */
     size_t next_call;   /* the line of its schedule at which its next call is looked for */
-    unsigned priority;  /* with LR_PCT: the greatest goes first */
+    size_t priority;    /* the greatest goes first */
     lr_footprint poll;  /* of a thread that is stuck */
+#if LR_HOSTED
+    int is_gone;    /* it has ended, or was cut */
+    unsigned polls; /* how many of its last notes are polls that found the same */
+    uintptr_t look; /* where it last looked without a note, until a step may have changed that */
+#endif
 } lr_turn;
-
-/* The record of a thread's own, of which its words are fields. */
-typedef struct lr_extent {
-    uintptr_t first;
-    size_t length;
-} lr_extent;
 
 typedef struct lr_log {
     char apart[LR_APART]; /* keeps two threads' logs on cache lines of their own */
@@ -111,6 +125,9 @@ typedef struct lr_signal {
     lr_place place;
     uint64_t woke;
 } lr_signal;
+
+/* What a thread did in place of the move of a schedule's line. */
+enum { LR_DID_nothing = 1, LR_DID_end, LR_DID_make };
 
 /* A line of a schedule that is followed. */
 typedef struct lr_line {
@@ -162,7 +179,8 @@ typedef struct lr_run {
     size_t ordered;
     int is_cut;        /* a move was dropped */
     unsigned spurious; /* one turn in this many has a spurious wakeup */
-    size_t *changes;   /* with LR_PCT: at which turns the thread that runs becomes the last */
+    size_t depth;      /* with priorities: one more than the turns at which they change */
+    size_t *changes;   /* these turns */
     lr_line *lines;    /* of the schedule that is followed */
     size_t lines_count, at;
     int is_at_end;            /* every line was made: each thread may come to its end */
@@ -178,6 +196,17 @@ typedef struct lr_run {
     uint64_t preempted; /* those that made no step since they lost their turn */
     int leaves_out;     /* a thread that had polled in vain could have polled again */
     lr_place unseen;    /* of the first note of a step whose operation had no point */
+    int has_strayed;    /* a choice of its way was not possible, or did not come up */
+#if LR_HOSTED
+    int is_ordered;        /* of free threads: one operation at a time, so their order is known */
+    pthread_cond_t vacant; /* nobody makes an operation */
+    int has_moved;         /* something was done since the turn was given */
+    unsigned gone;         /* how many threads have ended, or were cut */
+    uint64_t start;        /* the number at which the lock's counters begin */
+    const void *signalled; /* where the last signal was given */
+    unsigned did, by, made_word; /* where the schedule was left: LR_DID_.., by whom, and its move */
+    void (*tell_place)(char *text, size_t room, const void *place);
+#endif
 } lr_run;
 
 /* The log of the thread that runs, one variable for all files of a program. A thread that has none
@@ -211,6 +240,16 @@ static inline size_t lr_length_of(const lr_log *log)
     return (size_t)(lr_count_of(log->end) - log->moves);
 }
 static inline size_t lr_room_of(const lr_log *log) { return (size_t)(log->limit - log->moves); }
+
+/* Whether the moves of all threads are in one order. */
+static inline int lr_has_order(const lr_run *run)
+{
+#if LR_HOSTED
+    return LR_TURNS || run->is_ordered;
+#else
+    return (void)run, LR_TURNS;
+#endif
+}
 
 static inline uint64_t lr_bit(unsigned thread) { return UINT64_C(1) << thread; }
 

@@ -13,14 +13,26 @@
 #if LR_REDUCES
 static inline void lr_touch_all(lr_run *run) { run->footprint.is_all = 1; }
 
-/* A step has one operation, unless it is in a monitor. */
+/* A step that touches more words than a footprint has room for may touch anything. */
 static inline void lr_touch(lr_log *log, uintptr_t word, size_t size, int writes)
 {
     lr_footprint *own = &log->run->footprint;
-    own->is_all |= own->size || log->turn.in_monitor;
-    own->word = word;
-    own->size = size;
+    lr_extent touched = {word, size};
     own->writes |= writes;
+    if (own->touched == LR_TOUCHED || log->turn.in_monitor)
+        own->is_all = 1;
+    else
+        own->words[own->touched++] = touched;
+}
+
+static inline void lr_name(lr_footprint *own, unsigned name)
+{
+    for (unsigned i = 0; i < own->named; i++)
+        if (own->names[i] == name) return;
+    if (own->named == LR_TOUCHED)
+        own->is_all = 1;
+    else
+        own->names[own->named++] = name;
 }
 
 /* The note of a step names a word, which the trace has whatever the step touched. The note of a
@@ -31,15 +43,34 @@ static inline void lr_touch_noted(lr_log *log, const lr_move *move)
     unsigned place = lr_move_place(move), owner = lr_move_owner(move);
     int is_of_a_record = place == LR_PLACE_next || place == LR_PLACE_locked;
     if (owner == LR_OWN) owner = is_of_a_record ? log->thread : 0;
-    unsigned noted = place | owner << LR_AT_PLACE;
     if (lr_move_word(move) < LR_STEP_read) return;
-    if (LR_POINTS && !own->size && place && !log->run->unseen.line) {
+    if (LR_POINTS && !own->touched && place && !log->run->unseen.line) {
         log->run->unseen.file = log->file;
         log->run->unseen.line = lr_move_line(move);
     }
-    own->is_all |= !own->size || (own->noted && own->noted != noted);
-    own->noted = noted;
+    own->is_all |= !own->touched;
+    lr_name(own, place | owner << LR_AT_PLACE);
     own->writes |= lr_move_word(move) != LR_STEP_read;
+}
+
+static inline int lr_meets(const lr_extent *one, const lr_extent *other)
+{
+    return one->first < other->first + other->length && other->first < one->first + one->length;
+}
+
+/* Whether a step touches these bytes. */
+static inline int lr_touches(const lr_footprint *step, const lr_extent *word)
+{
+    for (unsigned i = 0; i < step->touched; i++)
+        if (lr_meets(&step->words[i], word)) return 1;
+    return 0;
+}
+
+static inline int lr_names(const lr_footprint *step, unsigned name)
+{
+    for (unsigned i = 0; i < step->named; i++)
+        if (step->names[i] == name) return 1;
+    return 0;
 }
 
 /* Whether steps of two threads are dependent. */
@@ -47,8 +78,11 @@ static inline int lr_depends(const lr_footprint *one, const lr_footprint *other)
 {
     if (one->is_all || other->is_all) return 1;
     if (!one->writes && !other->writes) return 0;
-    if (one->noted && one->noted == other->noted) return 1;
-    return one->word < other->word + other->size && other->word < one->word + one->size;
+    for (unsigned i = 0; i < one->named; i++)
+        if (lr_names(other, one->names[i])) return 1;
+    for (unsigned i = 0; i < one->touched; i++)
+        if (lr_touches(other, &one->words[i])) return 1;
+    return 0;
 }
 
 /* A poll in vain finds the same until a step comes on which it is dependent. */
@@ -65,10 +99,21 @@ static inline void lr_loosen(lr_run *run)
             run->stuck &= ~lr_bit(t);
 }
 
+#if LR_HOSTED
+/* Forgets the looks at what the step may have changed: the next one is not in vain. */
+static inline void lr_forget_changed(lr_run *run)
+{
+    const lr_footprint *step = &run->footprint;
+    for (unsigned t = 0; t < run->threads; t++) {
+        const lr_extent look = {run->logs[t].turn.look, 1};
+        if (step->is_all || (step->writes && lr_touches(step, &look))) run->logs[t].turn.look = 0;
+    }
+}
+#endif
+
 /* Keeps the step of the thread whose turn ends. */
 static inline void lr_end_step(lr_run *run)
 {
-    const lr_footprint none = {0, 0, 0, 0, 0, 0};
     if (run->holder == LR_NOBODY) return;
     if (run->stepped == run->steps_room) {
         size_t room = run->steps_room * 2 + 256;
@@ -86,7 +131,10 @@ static inline void lr_end_step(lr_run *run)
         run->logs[run->holder].turn.poll = run->footprint;
     else
         lr_loosen(run);
-    run->footprint = none;
+#if LR_HOSTED
+    lr_forget_changed(run);
+#endif
+    memset(&run->footprint, 0, sizeof run->footprint);
 }
 #else
 static inline void lr_touch_all(lr_run *run) { (void)run; }

@@ -10,7 +10,40 @@ static inline uint64_t lr_value_of(const lr_log *log, const lr_move *move)
     return is_counter ? (move->value - (uint64_t)(LR_START)) & log->mask : move->value;
 }
 
-/* Writes a move without its thread into at most LR_LINE bytes. */
+/* Appends a text, and a number, at a place in a line. They return its end. */
+static inline char *lr_put_text(char *at, const char *text)
+{
+    size_t length = strlen(text);
+    memcpy(at, text, length + 1);
+    return at + length;
+}
+
+static inline char *lr_put_number(char *at, uint64_t number)
+{
+    char digits[24], *first = digits + sizeof digits;
+    *--first = '\0';
+    do *--first = (char)('0' + number % 10);
+    while (number /= 10);
+    return lr_put_text(at, first);
+}
+
+/* Appends the values of a step. */
+static inline char *lr_put_values(char *at, const lr_log *log, const lr_move *move)
+{
+    unsigned part = lr_move_part(move);
+#if LR_HOSTED
+    (void)log;
+    if (part & LR_FOUND_TOO) at = lr_put_number(lr_put_text(at, " found "), move->value);
+    if (part & LR_LEFT_TOO) at = lr_put_number(lr_put_text(at, " left "), move->left);
+#else
+    if (part == LR_PART_found || part == LR_PART_left)
+        at = lr_put_number(lr_put_text(at, " "), lr_value_of(log, move));
+#endif
+    return at;
+}
+
+/* Writes a move without its thread into at most LR_LINE bytes. A trace costs most of what a run of
+   EXPLORE does beside its turns, so this uses no format. */
 static inline const char *lr_text_of(char *line, const lr_log *log, const lr_move *move)
 {
     static const char *const places[] = {
@@ -29,14 +62,15 @@ static inline const char *lr_text_of(char *line, const lr_log *log, const lr_mov
         /* clang-format on */
         /* end */
     };
-    unsigned word = lr_move_word(move), part = lr_move_part(move), of = lr_move_owner(move);
-    int has_value = part == LR_PART_found || part == LR_PART_left;
-    char owner[16] = "", count[24] = "", value[24] = "";
-    if (of != LR_OWN) snprintf(owner, sizeof owner, " of %u", of);
-    if (word == LR_STEP_section) snprintf(count, sizeof count, " %" PRIu64, move->value);
-    if (has_value) snprintf(value, sizeof value, " %" PRIu64, lr_value_of(log, move));
-    snprintf(line, LR_LINE, "%s%s%s%s%s%s", lr_word(word), places[lr_move_place(move)], owner,
-             count, parts[part], value);
+    unsigned of = lr_move_owner(move), part = lr_move_part(move) & LR_PART_BITS;
+    char *at =
+        lr_put_text(lr_put_text(line, lr_word(lr_move_word(move))), places[lr_move_place(move)]);
+    if (of != LR_OWN) at = lr_put_number(lr_put_text(at, " of "), of);
+    if (lr_move_word(move) == LR_STEP_section)
+        at = lr_put_number(lr_put_text(at, " "), move->value);
+    if (LR_HOSTED) at = lr_put_values(at, log, move);
+    at = lr_put_text(at, parts[part]);
+    if (!LR_HOSTED) lr_put_values(at, log, move);
     return line;
 }
 
@@ -52,7 +86,12 @@ static inline const char *lr_at(char *text, const char *file, unsigned line)
 /* Writes where a move of a log was noted. */
 static inline const char *lr_where(char *text, const lr_log *log, const lr_move *move)
 {
+#if LR_HOSTED
+    log->run->tell_place(text, LR_LINE, move->place);
+    return text;
+#else
     return lr_at(text, log->files[lr_move_file(move)], lr_move_line(move));
+#endif
 }
 
 /* The last note of a thread, also one that was left out or dropped; NULL if it made none. */

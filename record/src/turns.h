@@ -55,6 +55,8 @@ static inline void lr_tell_signal(lr_run *run)
 /* Says what each thread that has not ended does, since none of them makes progress any more. */
 static inline void lr_hang(lr_run *run)
 {
+    run->hangs = 1;
+    if (LR_HOSTED) return;
     lr_tell(run->said, "the run hangs:");
     for (unsigned t = 0; t < run->threads; t++) {
         if (!(run->inside >> t & 1)) continue;
@@ -63,7 +65,17 @@ static inline void lr_hang(lr_run *run)
         lr_tell(run->said, "%s", run->inside >> t >> 1 ? "," : "");
     }
     if (run->parked) lr_tell_signal(run);
-    run->hangs = 1;
+}
+
+/* Counts the turns in a row that were in vain, and returns whether there were too many. A layer in
+   another language knows which operations are, and counts these. */
+static inline int lr_is_weary(lr_run *run)
+{
+#if LR_HOSTED
+    return run->in_vain >= LR_PATIENCE;
+#else
+    return run->in_vain++ >= LR_PATIENCE;
+#endif
 }
 
 /* Who is next, or LR_NOBODY. A thread that comes late finds that its run was given up. */
@@ -74,20 +86,25 @@ static inline unsigned lr_next(lr_run *run, unsigned current)
     lr_wake_for_nothing(run);
     uint64_t ready = run->inside & ~run->parked;
     lr_set_count(run->turns, run->turns + 1);
-    run->in_vain++;
+#if LR_HOSTED
+    run->has_moved = 0;
+#endif
 #if !LR_FOLLOWS
-    if (run->inside && (!ready || run->in_vain > LR_PATIENCE)) lr_hang(run);
+    int is_weary = lr_is_weary(run);
+    if (run->inside && (!ready || is_weary)) lr_hang(run);
     if (!ready || run->hangs) return LR_NOBODY;
 #endif
     return lr_choose(run, ready, current);
 }
 
+/* Nobody gets a turn any more. A hosted thread that waits for its own goes on, and finds that. */
 static inline void lr_end_run(lr_run *run)
 {
     pthread_mutex_lock(&run->mutex);
     lr_set_count(run->is_over, 1);
     pthread_cond_broadcast(&run->changed);
     pthread_mutex_unlock(&run->mutex);
+    for (unsigned t = 0; LR_HOSTED && t < run->threads; t++) sem_post(&run->logs[t].turn.comes);
 }
 
 static inline void lr_give(lr_run *run, unsigned next)
@@ -105,11 +122,11 @@ static inline void lr_await_turn(lr_log *log)
     while (sem_wait(&log->turn.comes)) {}
 }
 
-/* Ends the run: the thread stays where it is. */
+/* Ends the run: the thread stays where it is, unless it is hosted. */
 static inline void lr_stop(lr_log *log)
 {
     lr_give(log->run, LR_NOBODY);
-    for (;;) lr_await_turn(log);
+    while (!LR_HOSTED) lr_await_turn(log);
 }
 
 static inline void lr_pass(lr_log *log)

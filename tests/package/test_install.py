@@ -18,7 +18,7 @@ BUILDS = {BUILT["lockreplay"][0]: "cd crates/lockreplay && rt run",
           "built/lockreplay.html": "node page/build.mjs"}
 DOCUMENTS = """*.md CITATION.cff VERSION LICENSE-* THIRD-PARTY HANDLES crates.txt docs/*.md
     docs/pictures/* */lockreplay.html examples/*.* examples/recording/* examples/bindings/*
-    built/*.[ch] record/rust/Cargo.* record/rust/build.rs record/rust/README.md record/rust/src/*.rs
+    built/*.[ch] record/rust/Cargo.* record/rust/build.rs record/rust/README.md record/rust/src/*.*
     record/rust/examples/**/*.rs
     crates/*/specs/**/*.antt crates/*/README.md crates/*.md
     crates/surface/src/*.rt"""

@@ -36,7 +36,7 @@ fn main() -> Result<(), Error> {
         serving.store(served.wrapping_add(1), SeqCst);
     };
     let rounds: usize = words[2].parse().unwrap();
-    let run = Run::of(Lock::Ticket, 2).bits(8).kept_in(&words[1]).open()?;
+    let run = Run::builder(Lock::Ticket, 2).bits(8).kept_in(&words[1]).open()?;
     run.threads(Duration::from_secs(60), |log| {
         for round in 0..rounds {
             acquire();

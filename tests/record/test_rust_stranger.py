@@ -56,12 +56,13 @@ def test_package(package):
     """The package has every file that its build, its user and its licences need."""
     files = {str(file.relative_to(package)) for file in package.rglob("*") if file.is_file()}
     assert files >= {"README.md", "LICENSE-APACHE", "LICENSE-MIT", "build.rs", "locktrace.c",
-                     "src/lib.rs"}
-    assert (package / "locktrace.c").read_text() == (TOP / "built/locktrace.c").read_text()
+                     "lockreplay_record.h", "src/engine.c", "src/lib.rs"}
+    for name in ("locktrace.c", "lockreplay_record.h"):
+        assert (package / name).read_text() == (TOP / "built" / name).read_text()
 
 
 def test_crate_alone(tmp_path):
-    """A copy of the crate's folder has no check, and its build says what to do."""
+    """A copy of the crate's folder has no check and no engine, and its build says what to do."""
     crate = tmp_path / "lockreplay-record"
     shutil.copytree(CRATE, crate, ignore=shutil.ignore_patterns("target"))
     done = made("build", "--features", "check", folder=crate)
@@ -70,6 +71,10 @@ def test_crate_alone(tmp_path):
             "Cargo.toml of lockreplay-record, or take the package that packaging/crate.sh writes"
             ) in done.stderr
     shutil.copy(TOP / "built" / "locktrace.c", crate)
+    done = made("build", "--features", "check", folder=crate)
+    assert done.returncode != 0
+    assert "copy built/lockreplay_record.h of the repository" in done.stderr
+    shutil.copy(TOP / "built" / "lockreplay_record.h", crate)
     assert made("build", "--features", "check", folder=crate).returncode == 0
 
 

@@ -61,11 +61,9 @@ def lock_of(variant, name):
     """A lock, and the words of its steps in C and in Rust. A section is a step on no word."""
     own, of_record = words_of(name)
     own = [] if is_monitor(name) else list(own)
-    variants = {text: variant for variant, text in PLACES.items()}
-    rust = [Words(f"Word::{variants[text]}" for text in words) for words in (own, of_record)]
     return word(name, variant=variant, own=len(own), of_record=len(of_record),
                 texts=Words(f'"{text}"' for text in own + of_record) or Words(["NULL"]),
-                rust=rust, title=title_of(name) + ", a monitor" * is_monitor(name))
+                title=title_of(name) + ", a monitor" * is_monitor(name))
 
 
 # The page's names for the bits of a record's thread.
@@ -133,15 +131,13 @@ REGIONS = {
     "record/src/texts.h": (("places", '" {word}",'), ("parts, outcomes", '" {word}",')),
     "record/src/open.h": (("locks", 'static const char locks[] = "{others:, } or {last}";'),),
     "record/rust/src/moves.rs": (
-        ("calls", "Call::{variant},\n"), ("calls", "Call" + ARM), ("places", "Word" + ARM),
-        ("outcomes", "Outcome" + ARM)),
-    "record/rust/src/kind.rs": (("steps", "Kind::{variant},\n"), ("steps", "Kind" + ARM)),
-    "record/rust/src/published.rs": (("outcomes", "Outcome::{variant},\n"),),
+        ("steps", '"{word}",'), ("calls", "Call::{variant},\n"), ("calls", "Call" + ARM),
+        ("places", "Word" + ARM), ("outcomes", "Outcome" + ARM)),
     "record/rust/src/lock.rs": (
         ("locks", "/// The {title}.\n{variant},\n"),
         ("number of locks", "const LOCKS: usize = {word};"),
         ("locks", "Lock::{variant},\n"), ("locks", "Lock" + ARM),
-        ("locks", "Lock::{variant} => (&[{rust[0]:, }], &[{rust[1]:, }]),\n")),
+        ("locks", "Lock::{variant} => {own},\n")),
     "record/rust/Cargo.toml": (("version", 'version = "{word}"'),),
     "CITATION.cff": (("version", "version: {word}\ndate-released: {day}\n"),),
     "page/src/machine/codes.js": (

@@ -1,35 +1,32 @@
 //! The options of a run, and how it is opened.
 // SPDX-License-Identifier: Apache-2.0 OR MIT
 
+use std::ffi::{CStr, CString};
 use std::path::PathBuf;
-use std::sync::{Arc, Mutex};
+use std::ptr;
+use std::sync::Arc;
 
-use crate::chooser::Chooser;
-use crate::draw::Draw;
+use crate::engine::{self, Engine, RunOfC, Setup};
 use crate::error::Error;
 use crate::explore::Explore;
-use crate::follow::Following;
 use crate::lock::Header;
 use crate::mode::Mode;
-use crate::number;
-use crate::path::{Path, Way};
-use crate::priorities::Priorities;
-use crate::records::Records;
 use crate::run::{Run, Shared};
 use crate::save;
-use crate::tape::{Tape, POLLS_WRITTEN};
-use crate::turns::{Rule, Turns};
-use crate::wakes::Wakes;
+use crate::search::Way;
+
+/// One turn in so many is hardly ever one of a run.
+const MOST_WAKES: usize = i32::MAX as usize;
 
 /// The options of a run before it is opened.
 #[derive(Clone, Debug)]
 #[must_use = "a run is opened by `open`"]
 pub struct RunBuilder {
-    header: Header,
-    mode: Mode,
+    pub(crate) header: Header,
+    pub(crate) mode: Mode,
     room: usize,
-    spurious: Option<usize>,
-    start: u64,
+    pub(crate) spurious: Option<usize>,
+    pub(crate) start: u64,
     folder: Option<PathBuf>,
     reduces: bool,
 }
@@ -98,23 +95,13 @@ impl RunBuilder {
     /// be [kept](RunBuilder::kept_in).
     pub fn open(self) -> Result<Run, Error> {
         self.header.checked()?;
-        let (rule, chooser) = match &self.mode {
-            Mode::Free | Mode::Noise(_) => (Rule::AtOnce, Chooser::Seed(Draw::new(0))),
-            Mode::Ordered => (Rule::Alone, Chooser::Seed(Draw::new(0))),
-            Mode::Seed(seed) => (Rule::ByTurns, Chooser::Seed(Draw::new(*seed))),
-            Mode::Pct { seed, depth, steps } => {
-                let drawn = Priorities::of(*seed, self.header.threads, *depth, *steps);
-                (Rule::ByTurns, Chooser::Priorities(drawn))
-            }
+        match &self.mode {
             Mode::Follow(schedule) if !schedule.is_of(&self.header) => {
-                return Err(Error::OtherRun { run: self.header.to_string() });
+                Err(Error::OtherRun { run: self.header.to_string() })
             }
-            Mode::Follow(schedule) => {
-                (Rule::ByLines, Chooser::Lines(Following::of(schedule.clone())))
-            }
-        };
-        let number = number::of(&self.mode);
-        self.open_by(rule, chooser, number)
+            mode if mode.seed().is_none() && self.spurious.unwrap_or(0) > 0 => Err(Error::NoSeed),
+            _ => self.open_on(None, 0),
+        }
     }
 
     /// All runs with at most this many *preemptions*: turns taken from a thread that could go on.
@@ -134,7 +121,7 @@ impl RunBuilder {
     /// use std::{sync::atomic::Ordering::SeqCst, time::Duration};
     ///
     /// let mut counts = Vec::new();
-    /// for run in Run::of(Lock::Ticket, 2).explore(1) {
+    /// for run in Run::builder(Lock::Ticket, 2).explore(1) {
     ///     let count = AtomicU8::new(0);
     ///     let ending = run?.threads(Duration::from_secs(10), |_log| {
     ///         count.store(count.load(SeqCst) + 1, SeqCst);
@@ -151,34 +138,70 @@ impl RunBuilder {
         Explore::new(self.mode(Mode::Ordered), preemptions)
     }
 
-    /// Whether orders of independent steps are left out.
-    pub(crate) fn reduces(&self) -> bool {
-        self.reduces
+    pub(crate) fn lacks_memory(&self) -> Error {
+        Error::OutOfMemory { logs: self.header.threads, room: self.room }
     }
 
-    /// Opens a run that is explored, which begins with these choices and has this number.
-    pub(crate) fn open_on(self, way: Way, number: u64) -> Result<Run, Error> {
-        let path = Path::of(way, self.spurious != Some(0), self.reduces);
-        let setup = RunBuilder { spurious: self.spurious.filter(|&one_in| one_in == 0), ..self };
-        setup.open_by(Rule::ByTurns, Chooser::Path(path), number)
-    }
-
-    fn open_by(self, rule: Rule, chooser: Chooser, number: u64) -> Result<Run, Error> {
-        let RunBuilder { header, mode, room, spurious, start, folder, .. } = self;
-        let Header { threads, .. } = header.checked()?;
-        let refused = |_| Error::OutOfMemory { logs: threads, room };
-        let polls = if rule == Rule::ByLines { u32::MAX } else { POLLS_WRITTEN };
-        let moves = room.saturating_mul(threads);
-        let wakes = Wakes::of(&mode, spurious)?;
-        let turns = Turns::new(rule, chooser, wakes, threads, moves).map_err(refused)?;
-        let new_tape = |_| Tape::with_room(room, polls).map(Some).map(Mutex::new);
-        let tapes: Result<Vec<_>, _> = (0..threads).map(new_tape).collect();
-        let tapes = tapes.map_err(refused)?;
-        let records = Records::of(threads);
-        let run = Shared { number, header, mode, spurious, start, turns, records, tapes };
+    /// Opens a run, also one that is explored, which begins with these choices and has this number.
+    pub(crate) fn open_on(self, way: Option<Way>, number: u64) -> Result<Run, Error> {
+        let name = CString::new(self.header.lock.name()).unwrap_or_default();
+        let engine = engine_of(&self.mode, way.is_some(), self.reduces);
+        let has_room = self.room < usize::MAX >> 16;
+        let setup = self.setup(&name, way.as_ref(), number);
+        let of_c = has_room.then(|| RunOfC::open(engine, &setup)).flatten();
+        let of_c = of_c.ok_or_else(|| self.lacks_memory())?;
+        let folder = self.folder.clone();
+        let run = Shared::of(of_c, self, way);
         if let Some(folder) = folder {
             save::begin(&run, &folder)?;
         }
         Ok(Run(Arc::new(run)))
+    }
+
+    /// The options as the engine takes them.
+    fn setup(&self, name: &CStr, way: Option<&Way>, number: u64) -> Setup {
+        let (depth, steps) = match self.mode {
+            Mode::Pct { depth, steps, .. } => (depth.max(1), steps.max(1)),
+            _ => (0, 0),
+        };
+        let (seed, lines) = match &self.mode {
+            Mode::Follow(schedule) => (schedule.seed(), schedule.lines()),
+            mode => (mode.seed().unwrap_or(0), &[][..]),
+        };
+        let choices = way.map_or(&[][..], Way::choices);
+        let spurious = self.spurious.filter(|&one_in| way.is_none() || one_in == 0);
+        Setup {
+            lock: name.as_ptr(),
+            threads: self.header.threads as u32,
+            bits: self.header.bits,
+            room: self.room,
+            seed,
+            number,
+            depth,
+            steps,
+            spurious: spurious.map_or(-1, |one_in| one_in.min(MOST_WAKES) as i64),
+            start: self.start,
+            lines: lines.as_ptr(),
+            lines_count: lines.len(),
+            way: if choices.is_empty() { ptr::null() } else { choices.as_ptr() },
+            way_length: choices.len(),
+            is_ordered: (self.mode == Mode::Ordered && way.is_none()).into(),
+            tell_place: engine::tell_place,
+        }
+    }
+}
+
+/// The engine of a mode.
+#[allow(unsafe_code)]
+fn engine_of(mode: &Mode, explores: bool, reduces: bool) -> &'static Engine {
+    // SAFETY: these are constants.
+    unsafe {
+        match mode {
+            _ if explores && reduces => &engine::lr_engine_explore,
+            _ if explores => &engine::lr_engine_explore_all,
+            Mode::Free | Mode::Noise(_) | Mode::Ordered => &engine::lr_engine_values,
+            Mode::Seed(_) | Mode::Pct { .. } => &engine::lr_engine_seed,
+            Mode::Follow(_) => &engine::lr_engine_follow,
+        }
     }
 }

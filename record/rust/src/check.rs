@@ -2,53 +2,67 @@
 //!
 //! It is the check of `locktrace`, as `built/locktrace.h` declares it for C.
 // SPDX-License-Identifier: Apache-2.0 OR MIT
+#![allow(unsafe_code)]
 
+use std::os::raw::{c_char, c_int};
+use std::slice;
+use std::sync::atomic::Ordering;
+
+use crate::engine::{self, CRun, RunOfC};
 use crate::error::Error;
+use crate::lock::MOST_THREADS;
 use crate::mode::Mode;
-use crate::published::{self, Made};
 use crate::run::{Run, Shared};
-use crate::tape::Tape;
 
-/// A move that was made, as the check writes it.
-#[repr(C)]
-#[derive(Clone, Copy, Debug, Default)]
-pub(crate) struct Step {
-    pub(crate) line: u64,
-    pub(crate) found: u64,
-    pub(crate) left: u64,
-    pub(crate) thread: u32,
-    pub(crate) action: u32,
-    pub(crate) outcome: u32,
-    pub(crate) word: u32,
-}
-
-/// The answer of the check. A fault of 0 is none.
-#[repr(C)]
-#[derive(Debug, Default)]
-pub(crate) struct Answer {
-    line: u64,
-    pub(crate) moves: u64,
-    pub(crate) fault: u32,
-    threads: u32,
-}
-
-/// The outcome of a poll in vain.
-pub(crate) const WAITS: u32 = 2;
 /// The outcomes with which a call is over.
 const ENTERED: u32 = 3;
 const LEFT: u32 = 4;
-/// More than the text of any fault has.
-const MOST_BYTES: usize = 256;
+
+const SAID: usize = 1024;
 
 extern "C" {
-    fn lt_check(
-        text: *const u8,
-        length: usize,
-        steps: *mut Step,
-        room: usize,
-        answer: *mut Answer,
-    ) -> u32;
-    fn lt_fault_text(fault: u32, text: *mut u8, room: usize) -> usize;
+    fn lr_check_run(run: *mut CRun, text: *const u8, length: usize, fault: *mut Fault) -> c_int;
+    fn lr_order_of(run: *const CRun) -> *const u8;
+}
+
+/// The fault of a run, as the engine writes it.
+#[repr(C)]
+struct Fault {
+    line: u64,
+    at: u64,
+    fault: u32,
+    is_empty: u32,
+    last: [u32; MOST_THREADS],
+    why: [c_char; SAID],
+}
+
+impl Fault {
+    fn why(&self) -> String {
+        engine::text_of(&self.why)
+    }
+}
+
+impl RunOfC {
+    /// `None` if memory is refused.
+    fn check_text(&self, text: &str) -> Option<Fault> {
+        let mut fault = Fault {
+            line: 0,
+            at: 0,
+            fault: 0,
+            is_empty: 0,
+            last: [0; MOST_THREADS],
+            why: [0; SAID],
+        };
+        // SAFETY: the text has these bytes, and the fault the layout that C takes it to have.
+        let is_checked =
+            unsafe { lr_check_run(self.run.as_ptr(), text.as_ptr(), text.len(), &mut fault) };
+        (is_checked != 0).then_some(fault)
+    }
+    /// The thread of each of the first moves.
+    fn order(&self, ordered: u64) -> &[u8] {
+        // SAFETY: so many moves are in the order, and no later one changes that.
+        unsafe { slice::from_raw_parts(lr_order_of(self.run.as_ptr()), ordered as usize) }
+    }
 }
 
 impl Run {
@@ -56,13 +70,13 @@ impl Run {
     /// a thread was stopped inside a call that the lock's machine has completed, or if a thread has
     /// ended inside a call.
     ///
-    /// With the feature `check` alone, for which the build needs a C compiler.
+    /// With the feature `check` alone.
     ///
     /// ```
     /// use lockreplay_record::{call, Call, Error, Lock, Mode, Run};
     /// use std::time::Duration;
     ///
-    /// let run = Run::of(Lock::Mcs, 1).mode(Mode::Seed(1)).open()?;
+    /// let run = Run::builder(Lock::Mcs, 1).mode(Mode::Seed(1)).open()?;
     /// run.threads(Duration::from_secs(10), |_log| {
     ///     let _call = call(Call::Release); // of a lock that nobody has
     /// })?;
@@ -78,7 +92,7 @@ impl Run {
     /// nothing was noted by threads that have all ended, though no schedule said so, or the threads
     /// ran as they like: then `locktrace order` finds their order.
     pub fn check(&self) -> Result<(), Error> {
-        let is_empty = self.check_moves()? == 0 && self.0.turns.stage().missing().is_empty();
+        let is_empty = self.check_moves()? == 0 && self.0.of_c.state().missing == 0;
         if is_empty && !matches!(self.0.mode, Mode::Follow(_)) {
             return Err(Error::Empty);
         }
@@ -90,19 +104,17 @@ impl Run {
         if !self.0.mode.has_order() {
             return Err(Error::NoOrder);
         }
-        // One more, for the step of the published lock in place of a move that is refused.
-        let mut steps = vec![Step::default(); self.0.turns.stage().order().len() + 1];
-        let answer = answer_to(&self.trace()?, &mut steps);
-        let moves = steps.len() - 1;
-        if answer.fault != 0 {
-            let moves = moves_of(&self.0);
-            let published = published::told(self.0.header.lock, &moves, &steps, &answer);
-            let (made, fault) = (move_at(&moves, answer.moves), text_of(answer.fault));
-            let reason = format!("{fault}{published}");
-            return Err(Error::Refused { line: answer.line, made, reason });
+        let (trace, ordered) = (self.trace()?, self.0.of_c.state().ordered);
+        let lacks = || Error::OutOfMemory { logs: 1, room: ordered as usize };
+        let fault = self.0.of_c.check_text(&trace).ok_or_else(lacks)?;
+        if fault.fault == 0 {
+            return beside(&self.0, &fault).map_or(Ok(ordered as usize), Err);
         }
-        steps.pop();
-        beside(&self.0, &steps).map_or(Ok(moves), Err)
+        let made = moves_of(&self.0).nth(fault.at as usize);
+        let made = made.map_or_else(String::new, |(thread, made, place)| {
+            format!("{place}, '{thread} {made}'")
+        });
+        Err(Error::Refused { line: fault.line, made, reason: fault.why() })
     }
 
     /// The moves of the run in their order, each with its line in the trace and its place in the
@@ -111,71 +123,38 @@ impl Run {
         let lines = self.trace()?;
         let head = lines.lines().take_while(|line| !line.starts_with(|it: char| it.is_numeric()));
         let first = head.count() + 1;
-        let shown =
-            moves_of(&self.0).into_iter().enumerate().map(|(at, (thread, made, source))| {
-                let place = format!("{}:{}", source.file(), source.line());
-                // A width is of a text alone.
-                let made = made.to_string();
-                format!("\n{:5} {thread} {made:36} {place}", at + first)
-            });
+        let shown = moves_of(&self.0).enumerate().map(|(at, (thread, made, place))| {
+            format!("\n{:5} {thread} {made:36} {place}", at + first)
+        });
         Ok(shown.collect())
     }
 }
 
 /// The moves of all threads in their order, and where in the source each was made.
-fn moves_of(run: &Shared) -> Vec<Made> {
-    let order = run.turns.stage().order().to_vec();
-    let mut made = vec![0; run.header.threads];
-    let next = |thread: u8| {
-        let thread = usize::from(thread);
-        let at = made.get_mut(thread)?;
+fn moves_of(run: &Shared) -> impl Iterator<Item = (u8, String, String)> + '_ {
+    let state = run.of_c.state();
+    let mut next = [0; MOST_THREADS];
+    let order = run.of_c.order(state.ordered).iter();
+    let known = order.take_while(move |&&thread| state.absent >> thread & 1 == 0);
+    known.map(move |&thread| {
+        let at = &mut next[usize::from(thread)];
         *at += 1;
-        let tape = run.tape(thread)?;
-        let (made, source) = tape.as_ref()?.at(*at - 1)?;
-        Some((thread, *made, source))
-    };
-    order.into_iter().map_while(next).collect()
-}
-
-/// The move at a place in the order, and where in the source it was made.
-fn move_at(moves: &[Made], index: u64) -> String {
-    let found = usize::try_from(index).ok().and_then(|at| moves.get(at));
-    found.map_or_else(String::new, |(thread, made, source)| {
-        format!("{}:{}, '{thread} {made}'", source.file(), source.line())
+        let (made, source) = run.of_c.made(usize::from(thread), *at - 1);
+        (thread, made, format!("{}:{}", source.file(), source.line()))
     })
 }
 
-#[allow(unsafe_code)]
-fn answer_to(text: &str, steps: &mut [Step]) -> Answer {
-    let mut answer = Answer::default();
-    // SAFETY: the check reads the bytes of the text, and writes at most `steps.len()` records and
-    // the answer, which have the layouts of built/locktrace.h. It keeps no pointer.
-    unsafe { lt_check(text.as_ptr(), text.len(), steps.as_mut_ptr(), steps.len(), &mut answer) };
-    answer
-}
-
-#[allow(unsafe_code)]
-fn text_of(fault: u32) -> String {
-    let mut text = [0; MOST_BYTES];
-    // SAFETY: the check writes at most `text.len()` bytes.
-    let length = unsafe { lt_fault_text(fault, text.as_mut_ptr(), text.len()) };
-    String::from_utf8_lossy(text.get(..length).unwrap_or(&text)).into_owned()
-}
-
 /// The fault of how a thread ended: inside a call, or not at all though that call is over.
-fn beside(run: &Shared, steps: &[Step]) -> Option<Error> {
-    let stage = run.turns.stage();
-    let (missing, is_cut) = (stage.missing(), stage.is_cut);
-    drop(stage);
-    if is_cut {
+fn beside(run: &Shared, fault: &Fault) -> Option<Error> {
+    let (state, in_call) = (run.of_c.state(), run.in_call.load(Ordering::Relaxed));
+    if state.is_cut != 0 {
         return None; // the last moves are not known
     }
+    let is_in = |threads: u64, thread: usize| threads >> thread & 1 == 1;
     (0..run.header.threads).find_map(|thread| {
-        let is_own = |step: &&Step| usize::try_from(step.thread) == Ok(thread);
-        let last = steps.iter().rev().find(is_own)?;
-        let goes_on = || run.tape(thread)?.as_ref().map(Tape::is_stopped_in_call);
-        match (matches!(last.outcome, ENTERED | LEFT), missing.contains(&thread)) {
-            (true, true) if goes_on() == Some(true) => Some(Error::GoesOn { thread }),
+        let is_over = matches!(fault.last[thread], ENTERED | LEFT);
+        match (is_over, is_in(state.missing, thread)) {
+            (true, true) if is_in(in_call, thread) => Some(Error::GoesOn { thread }),
             (false, false) => Some(Error::EndsInCall { thread }),
             _ => None,
         }

@@ -1,25 +1,11 @@
-//! The log of the thread that runs, and what a lock says into it.
-//!
-//! A thread that has no log, or that unwinds, records nothing: its operations are made as they are.
+//! What a lock says into the log of the thread that runs.
 // SPDX-License-Identifier: Apache-2.0 OR MIT
 
-// clippy of Rust 1.63 takes the initial value in `thread_local!` for a constant of this module.
-#![allow(clippy::declare_interior_mutable_const)]
-
-use std::cell::RefCell;
 use std::panic::Location;
-use std::sync::Arc;
-use std::thread;
 
-use crate::draw::Draw;
-use crate::footprint::Footprint;
-use crate::kind::Kind;
-use crate::moves::{Call, Move, Outcome, Step, Word};
-use crate::noise;
-use crate::records::Extent;
-use crate::run::Shared;
-use crate::tape::{Source, Tape};
-use crate::turns::Place;
+use crate::engine::Source;
+use crate::moves::{Call, Outcome, Step, Word};
+use crate::recorder::{place, with, Recorder};
 pub(crate) use crate::waiters::Waiters;
 
 /// The word that an atomic is, and its values in a trace.
@@ -51,114 +37,6 @@ impl<V> Name<V> {
     }
 }
 
-/// The means by which a thread records.
-#[derive(Debug)]
-pub(crate) struct Recorder {
-    pub(crate) shared: Arc<Shared>,
-    pub(crate) thread: usize,
-    pub(crate) tape: Tape,
-    pub(crate) noise: Option<Draw>,
-    record: Extent,
-    /// How deep turns are nested.
-    depth: usize,
-    /// How many operations on atomics were made in the turn.
-    operations: usize,
-    /// How many monitors the thread is in, and whether it is in a call.
-    monitors: usize,
-    pub(crate) in_call: bool,
-}
-
-thread_local! {
-    static CURRENT: RefCell<Option<Recorder>> = const { RefCell::new(None) };
-}
-
-/// The recorder's place, also while the thread unwinds. A thread that ends may have lost it.
-fn place<R>(look: impl FnOnce(&mut Option<Recorder>) -> R) -> Option<R> {
-    let looked = CURRENT.try_with(|current| Some(look(&mut *current.try_borrow_mut().ok()?)));
-    looked.ok().flatten()
-}
-
-/// Does something with the recorder, if this thread records.
-pub(crate) fn with<R>(record: impl FnOnce(&mut Recorder) -> R) -> Option<R> {
-    if thread::panicking() {
-        return None;
-    }
-    place(|current| current.as_mut().map(record)).flatten()
-}
-
-/// Begins to record, in place of any recorder before.
-pub(crate) fn install(recorder: Recorder) {
-    place(|current| *current = Some(recorder));
-}
-
-/// Ends recording.
-pub(crate) fn remove() -> Option<Recorder> {
-    place(Option::take).flatten()
-}
-
-impl Recorder {
-    pub(crate) fn of(
-        shared: Arc<Shared>,
-        thread: usize,
-        tape: Tape,
-        noise: Option<Draw>,
-    ) -> Recorder {
-        let (record, depth, operations) = (Extent::default(), 0, 0);
-        let (monitors, in_call) = (0, false);
-        Recorder { shared, thread, tape, noise, record, depth, operations, monitors, in_call }
-    }
-
-    /// Other threads look records up, and find another owner from now on.
-    fn own(&mut self, record: Extent) {
-        let was_anothers = self.shared.records.set(self.thread, record);
-        if was_anothers || self.record.is_left_for(&record) {
-            self.shared.turns.touch(Footprint::touch_all);
-        }
-        self.record = record;
-    }
-
-    /// The thread in whose record an address is.
-    fn owner_of(&self, address: usize) -> usize {
-        self.shared.records.owner_of(address, self.thread, &self.record)
-    }
-
-    fn note(&mut self, made: Move, source: Source) {
-        let made = match made {
-            Move::Step(step) => {
-                Move::Step(step.in_bits(self.shared.header.bits, self.shared.start))
-            }
-            other => other,
-        };
-        let is_later = made.is_wait() && self.shared.turns.others_moved(self.thread);
-        let added = self.tape.add(made, source, is_later);
-        self.shared.turns.touch(|step| step.note(self.thread, &made));
-        self.shared.turns.noted(self.thread, Kind::of_move(&made), added);
-    }
-
-    fn take_turn(&mut self, may_be_step: bool) {
-        if self.depth == 0 {
-            if let Some(draw) = &mut self.noise {
-                noise::make(draw);
-            }
-            let is_step = may_be_step && self.in_call;
-            let place = Place { is_step, in_monitor: self.monitors > 0 };
-            self.shared.turns.take(self.thread, place);
-            self.operations = 0;
-            if self.monitors > 0 {
-                self.shared.turns.touch(Footprint::touch_all); // its data may be anywhere
-            }
-        }
-        self.depth += 1;
-    }
-
-    fn give_turn(&mut self) {
-        self.depth -= 1;
-        if self.depth == 0 {
-            self.shared.turns.give();
-        }
-    }
-}
-
 /// An operation and its notes, between which no other thread gets its turn.
 #[derive(Debug)]
 pub(crate) struct Turn {
@@ -168,6 +46,7 @@ pub(crate) struct Turn {
 
 /// Lets others go first, and begins an operation. It may be a step of the lock, or is none.
 #[track_caller]
+#[inline]
 pub(crate) fn turn(may_be_step: bool) -> Turn {
     let source = Location::caller();
     Turn { is_recorded: with(|recorder| recorder.take_turn(may_be_step)).is_some(), source }
@@ -179,11 +58,12 @@ pub(crate) fn turn(may_be_step: bool) -> Turn {
 ///
 /// If it is the second one in a turn, as in an [`operation`] that is really two.
 #[track_caller]
+#[inline]
 pub(crate) fn turn_of_atomic(may_be_step: bool) -> Turn {
     let turn = turn(may_be_step);
     let count = with(|recorder| {
-        recorder.operations += 1;
-        recorder.operations
+        recorder.operations.set(recorder.operations.get() + 1);
+        recorder.operations.get()
     });
     if count > Some(1) {
         panic!("two operations on atomics in one `operation`: other threads can come between them");
@@ -197,20 +77,23 @@ pub(crate) fn pause() {
 }
 
 impl Turn {
+    #[inline]
     pub(crate) fn is_recorded(&self) -> bool {
         self.is_recorded
     }
 
     /// Writes a step, made where the turn began.
+    #[inline]
     pub(crate) fn note(&self, step: Step) {
-        with(|recorder| recorder.note(Move::Step(step), self.source));
+        with(|recorder| recorder.note(&step.noted(self.source)));
     }
 }
 
 impl Drop for Turn {
+    #[inline]
     fn drop(&mut self) {
         if self.is_recorded {
-            place(|current| current.as_mut().map(Recorder::give_turn));
+            place(Recorder::give_turn);
         }
     }
 }
@@ -235,15 +118,15 @@ pub struct InCall(());
 pub fn call(call: Call) -> InCall {
     let turn = turn(true);
     with(|recorder| {
-        recorder.note(Move::Call(call), turn.source);
-        recorder.in_call = true;
+        recorder.note(&call.noted(turn.source));
+        recorder.in_call.set(true);
     });
     InCall(())
 }
 
 impl Drop for InCall {
     fn drop(&mut self) {
-        with(|recorder| recorder.in_call = false);
+        with(|recorder| recorder.in_call.set(false));
         switch();
     }
 }
@@ -251,22 +134,23 @@ impl Drop for InCall {
 /// Another thread may have its turn here, though no step was taken.
 pub fn switch() {
     pause();
-    with(|recorder| recorder.shared.turns.switched());
+    with(Recorder::switched);
 }
 
 /// The step that is made touches what is at an address.
+#[inline]
 pub(crate) fn touch(address: usize, writes: bool) {
-    with(|recorder| recorder.shared.turns.touch(|step| step.touch(address, writes)));
+    with(|recorder| recorder.touch(address, writes));
 }
 
 /// An operation without a note was made at an address. One that changed nothing may be a poll.
 pub(crate) fn unnoted(address: usize, changed: bool) {
-    with(|recorder| recorder.shared.turns.unnoted(recorder.thread, address, changed));
+    with(|recorder| recorder.unnoted(address, changed));
 }
 
 /// A look was made at an address, which in an [`operation`] is a part of that.
 pub(crate) fn looked(address: usize) {
-    if with(|recorder| recorder.depth) == Some(1) {
+    if with(|recorder| recorder.depth.get()) == Some(1) {
         unnoted(address, false);
     }
 }
@@ -292,7 +176,7 @@ pub(crate) fn looked(address: usize) {
 #[track_caller]
 pub fn note(step: Step) {
     let source = Location::caller();
-    with(|recorder| recorder.note(Move::Step(step), source));
+    with(|recorder| recorder.note(&step.noted(source)));
 }
 
 /// Makes one operation of several parts, such as an atomic operation and its notes: no other thread
@@ -313,7 +197,9 @@ pub fn operation<R>(parts: impl FnOnce() -> R) -> R {
 /// of this thread. It may be on the stack, on the heap, in an array or from a pool, and another at
 /// each call.
 pub fn own_record<T: ?Sized>(record: &T) {
-    with(|recorder| recorder.own(Extent::of(record)));
+    let first = (record as *const T).cast::<u8>();
+    let length = std::mem::size_of_val(record).max(1);
+    with(|recorder| recorder.own(first, length));
 }
 
 /// The sections of a monitor, counted by all threads together.
@@ -337,13 +223,13 @@ impl Held {
 
 /// The thread has got a monitor.
 pub(crate) fn hold() -> Held {
-    with(|recorder| recorder.monitors += 1);
+    with(|recorder| recorder.monitors.set(recorder.monitors.get() + 1));
     Held(())
 }
 
 impl Drop for Held {
     fn drop(&mut self) {
-        with(|recorder| recorder.monitors = recorder.monitors.saturating_sub(1));
+        with(|recorder| recorder.monitors.set(recorder.monitors.get().saturating_sub(1)));
     }
 }
 
@@ -352,13 +238,13 @@ impl Drop for Held {
 pub(crate) fn section(sections: &mut Sections, outcome: Outcome) {
     sections.0 += 1;
     let (count, source) = (sections.0, Location::caller());
-    with(|recorder| recorder.note(Move::Section { count, outcome }, source));
+    with(|recorder| recorder.note(&outcome.noted(count, source)));
 }
 
 /// By turns: waits until the thread is woken at an address.
 pub(crate) fn sleep(address: usize) {
     touch(address, true);
-    with(|recorder| recorder.shared.turns.sleep(recorder.thread, address));
+    with(|recorder| recorder.park(address));
     touch(address, true);
 }
 
@@ -366,8 +252,8 @@ pub(crate) fn sleep(address: usize) {
 #[track_caller]
 pub(crate) fn wake(address: usize, all: bool) {
     touch(address, true);
-    let at = Location::caller();
-    with(|recorder| recorder.shared.turns.wake(address, all, at));
+    let at: Source = Location::caller();
+    with(|recorder| recorder.wake(address, all, at));
 }
 
 /// The thread's number in its run, if this thread records.
@@ -377,12 +263,12 @@ pub(crate) fn thread() -> Option<usize> {
 
 /// Whether one thread runs at a time.
 pub(crate) fn is_by_turns() -> bool {
-    with(|recorder| recorder.shared.turns.is_by_turns()).unwrap_or(false)
+    with(|recorder| recorder.is_by_turns).unwrap_or(false)
 }
 
 /// Unwinds if the run was stopped.
 pub(crate) fn go_on() {
-    with(|recorder| recorder.shared.turns.go_on());
+    with(Recorder::go_on);
 }
 
 /// The thread in whose record an address is, unless it is the own one.

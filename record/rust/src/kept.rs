@@ -21,6 +21,8 @@ pub(crate) struct Kept {
     /// The part of the file in which the log goes on: two pieces, in the first of which it ends.
     part: Option<Part>,
     length: u64,
+    /// Whether a line was refused: then the log has no further ones.
+    is_full: bool,
 }
 
 impl Kept {
@@ -28,17 +30,30 @@ impl Kept {
     pub(crate) fn begin(path: &Path, head: &[u8]) -> io::Result<Kept> {
         let mut file = OpenOptions::new().read(true).write(true).create_new(true).open(path)?;
         file.write_all(head)?;
-        let mut kept = Kept { path: path.to_owned(), file, part: None, length: head.len() as u64 };
+        let mut kept = Kept {
+            path: path.to_owned(),
+            file,
+            part: None,
+            length: head.len() as u64,
+            is_full: false,
+        };
         kept.go_on()?;
         Ok(kept)
     }
 
-    pub(crate) fn path(&self) -> &Path {
-        &self.path
+    /// Adds a line, if none was refused. Says why one is.
+    pub(crate) fn keep(&mut self, line: &str) {
+        if self.is_full {
+            return;
+        }
+        if let Err(error) = self.put(line) {
+            eprintln!("lockreplay_record: {}: {error}", self.path.display());
+            self.is_full = true;
+        }
     }
 
     /// Adds a line. If the process is killed meanwhile, the file has all of it or nothing.
-    pub(crate) fn put(&mut self, line: &str) -> io::Result<()> {
+    fn put(&mut self, line: &str) -> io::Result<()> {
         let part = match &self.part {
             Some(part) => part,
             None => return self.file.write_all(line.as_bytes()),

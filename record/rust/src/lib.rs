@@ -46,7 +46,7 @@
 //!         next_ticket: AtomicU8::new(0).noted(Word::NextTicket),
 //!         now_serving: AtomicU8::new(0).noted(Word::NowServing),
 //!     };
-//!     let run = Run::of(Lock::Ticket, 3).bits(8).mode(Mode::Seed(17)).open()?;
+//!     let run = Run::builder(Lock::Ticket, 3).bits(8).mode(Mode::Seed(17)).open()?;
 //!     let ending = run.threads(Duration::from_secs(60), |_log| {
 //!         for _ in 0..100 {
 //!             lock.acquire();
@@ -78,8 +78,8 @@
 //! threads with few preemptions. Each run's [trace](Run::trace) is for `locktrace check`.
 //!
 //! Threads of a monitor may have spurious wakeups ([`RunBuilder::spurious`]). With the feature
-//! `check`, for which the build needs a C compiler, `Run::check` checks a run in the process, and
-//! `explore` all runs of a lock's test: no other tool is needed.
+//! `check`, `Run::check` checks a run in the process, and `explore` all runs of a lock's test: no
+//! other tool is needed. The engine of all this is the recorder for C, which the build compiles.
 //!
 //! A run that hangs ends all the same: a seeded one when nothing but failed polls was seen for
 //! 20,000 turns ([`Ending::Hangs`]), others when their time is over ([`Ending::Stopped`]). The
@@ -113,7 +113,7 @@
 //! notes is left. A lock's own crate depends on this one with `default-features = false`, and its
 //! tests with them.
 // SPDX-License-Identifier: Apache-2.0 OR MIT
-#![deny(unsafe_code)] // but for calls of C: the check in `check`, and memory in `mapped`
+#![deny(unsafe_code)] // but for calls of C
 #![cfg_attr(not(feature = "record"), forbid(unsafe_code))]
 #![warn(missing_docs)]
 // The text above is about the crate with its feature.
@@ -132,9 +132,7 @@ mod builder;
 #[cfg(feature = "check")]
 mod check;
 #[cfg(feature = "record")]
-mod chooser;
-#[cfg(feature = "record")]
-mod draw;
+mod engine;
 #[cfg(feature = "record")]
 mod error;
 #[cfg(feature = "record")]
@@ -142,11 +140,7 @@ mod explore;
 #[cfg(feature = "record")]
 mod follow;
 #[cfg(feature = "record")]
-mod footprint;
-#[cfg(feature = "record")]
 mod kept;
-#[cfg(feature = "record")]
-mod kind;
 #[cfg(feature = "record")]
 mod lock;
 #[cfg(feature = "record")]
@@ -156,17 +150,7 @@ mod mode;
 #[cfg(feature = "record")]
 mod noise;
 #[cfg(feature = "record")]
-mod number;
-#[cfg(feature = "record")]
-mod path;
-#[cfg(feature = "record")]
-mod priorities;
-#[cfg(feature = "check")]
-mod published;
-#[cfg(feature = "record")]
-mod records;
-#[cfg(feature = "record")]
-mod reduce;
+mod recorder;
 #[cfg(feature = "record")]
 mod run;
 #[cfg(feature = "record")]
@@ -174,15 +158,9 @@ mod save;
 #[cfg(feature = "record")]
 mod schedule;
 #[cfg(feature = "record")]
-mod stage;
-#[cfg(feature = "record")]
-mod tape;
-#[cfg(feature = "record")]
-mod turns;
+mod search;
 #[cfg(feature = "record")]
 mod waiters;
-#[cfg(feature = "record")]
-mod wakes;
 
 pub use atomic::{
     Atomic, AtomicBool, AtomicI16, AtomicI32, AtomicI64, AtomicI8, AtomicIsize, AtomicPtr,

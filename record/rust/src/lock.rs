@@ -5,7 +5,6 @@ use std::fmt;
 use std::str::FromStr;
 
 use crate::error::Error;
-use crate::moves::Word;
 
 /// The threads that a run can have at most.
 pub(crate) const MOST_THREADS: usize = 64;
@@ -64,21 +63,21 @@ impl Lock {
         }
     }
 
-    /// The words of its steps by their numbers in docs/LOCKS.md: first its own, and then those of
-    /// the record of each thread. No step of a lock under a monitor is on one word.
-    pub(crate) fn words(self) -> (&'static [Word], &'static [Word]) {
+    /// How many words it has that are in no thread's record. No step of a lock under a monitor is
+    /// on one word.
+    fn own_words(self) -> usize {
         match self {
             // generated: locks
-            Lock::Ticket => (&[Word::NextTicket, Word::NowServing], &[]),
-            Lock::Mcs => (&[Word::Tail], &[Word::Next, Word::Locked]),
-            Lock::RwSimple => (&[], &[]),
-            Lock::RwFifo => (&[], &[]),
+            Lock::Ticket => 2,
+            Lock::Mcs => 1,
+            Lock::RwSimple => 0,
+            Lock::RwFifo => 0,
             // end
         }
     }
 
     pub(crate) fn is_monitor(self) -> bool {
-        self.words().0.is_empty()
+        self.own_words() == 0
     }
 }
 

@@ -8,16 +8,29 @@
 use std::fmt;
 use std::fs::File;
 use std::io;
+use std::ptr::NonNull;
+use std::slice;
 use std::sync::atomic::{AtomicU8, Ordering};
 
 /// Bytes of a file, until this is dropped. They are atomic, since others may look at the file.
-pub(crate) struct Part(&'static [AtomicU8]);
+pub(crate) struct Part {
+    first: NonNull<AtomicU8>,
+    length: usize,
+}
+
+// SAFETY: it owns its memory, which no thread needs to have mapped itself.
+unsafe impl Send for Part {}
 
 impl Part {
+    fn bytes(&self) -> &[AtomicU8] {
+        // SAFETY: these bytes are mapped as long as this is there.
+        unsafe { slice::from_raw_parts(self.first.as_ptr(), self.length) }
+    }
+
     /// Writes a line over bytes that are all `#`. Its first byte is stored last, so the line is a
     /// comment, as what follows it, until it is whole.
     pub(crate) fn put(&self, at: usize, line: &[u8]) {
-        let places = self.0.get(at..).unwrap_or_default();
+        let places = self.bytes().get(at..).unwrap_or_default();
         for (place, &byte) in places.iter().zip(line).skip(1) {
             place.store(byte, Ordering::Relaxed);
         }
@@ -29,7 +42,7 @@ impl Part {
 
 impl fmt::Debug for Part {
     fn fmt(&self, out: &mut fmt::Formatter<'_>) -> fmt::Result {
-        write!(out, "{} bytes", self.0.len())
+        write!(out, "{} bytes", self.length)
     }
 }
 
@@ -42,10 +55,10 @@ impl Part {
 
 #[cfg(all(target_os = "linux", target_pointer_width = "64"))]
 mod system {
-    use super::{io, AtomicU8, File, Part};
+    use super::{io, AtomicU8, File, NonNull, Part};
     use std::os::raw::{c_int, c_void};
     use std::os::unix::io::AsRawFd;
-    use std::{ptr, slice};
+    use std::ptr;
 
     const READ_AND_WRITE: c_int = 3;
     const SHARED: c_int = 1;
@@ -70,18 +83,17 @@ mod system {
             // SAFETY: without an address the system chooses one where this process has nothing.
             let memory =
                 unsafe { mmap(nowhere, length, READ_AND_WRITE, SHARED, file, first as i64) };
-            if memory as isize == -1 {
-                return Err(io::Error::last_os_error());
+            match NonNull::new(memory.cast::<AtomicU8>()) {
+                Some(first) if memory as isize != -1 => Ok(Part { first, length }),
+                _ => Err(io::Error::last_os_error()),
             }
-            // SAFETY: these bytes are mapped until `drop`, and nobody gets a reference to them.
-            Ok(Part(unsafe { slice::from_raw_parts(memory.cast::<AtomicU8>(), length) }))
         }
     }
 
     impl Drop for Part {
         fn drop(&mut self) {
             // SAFETY: `of` mapped these bytes, and nobody else unmaps them.
-            unsafe { munmap(self.0.as_ptr() as *mut c_void, self.0.len()) };
+            unsafe { munmap(self.first.as_ptr().cast::<c_void>(), self.length) };
         }
     }
 }

@@ -56,4 +56,24 @@ impl Mode {
     pub(crate) fn has_order(&self) -> bool {
         !matches!(self, Mode::Free | Mode::Noise(_))
     }
+
+    /// Whether one thread runs at a time.
+    pub(crate) fn is_by_turns(&self) -> bool {
+        self.has_order() && *self != Mode::Ordered
+    }
+
+    pub(crate) fn noise(&self) -> Option<u64> {
+        match self {
+            Mode::Noise(seed) => Some(*seed),
+            _ => None,
+        }
+    }
+
+    /// The seed of a mode that draws turns.
+    pub(crate) fn seed(&self) -> Option<u64> {
+        match self {
+            Mode::Seed(seed) | Mode::Pct { seed, .. } => Some(*seed),
+            _ => None,
+        }
+    }
 }

@@ -4,7 +4,17 @@
 use std::fmt;
 
 #[cfg(feature = "record")]
-use crate::kind::Kind;
+use crate::engine::{Noted, Source, FOUND_TOO, LEFT_TOO, OWN};
+
+/// The numbers of the engine: of the first step, of a section, and of the parts of a move.
+#[cfg(feature = "record")]
+const READ: u32 = 7;
+#[cfg(feature = "record")]
+const SECTION: u32 = READ + 5;
+#[cfg(feature = "record")]
+const DONE: u32 = 3;
+#[cfg(feature = "record")]
+const FAILED: u32 = 4;
 
 /// A call of a lock.
 #[derive(Clone, Copy, Debug, PartialEq, Eq)]
@@ -38,6 +48,28 @@ pub enum Word {
     Next,
     /// Whether the thread of an MCS record waits.
     Locked,
+}
+
+/// The words of steps in a schedule, by their numbers.
+#[cfg(feature = "record")]
+const STEPS: [&str; 6] = [
+    // generated: steps
+    "read", "write", "swap", "cas", "add", "section",
+    // end
+];
+
+/// The number of a word of a schedule.
+#[cfg(feature = "record")]
+pub(crate) fn number_of(word: &str) -> Option<u8> {
+    let calls = Call::ALL.into_iter().map(Call::name);
+    calls.chain(STEPS).position(|name| name == word).map(|at| at as u8)
+}
+
+/// The word that has a number.
+#[cfg(feature = "record")]
+pub(crate) fn word_of(number: u32) -> &'static str {
+    let mut all = Call::ALL.into_iter().map(Call::name).chain(STEPS);
+    all.nth(number as usize).unwrap_or("")
 }
 
 /// What a section of a monitor did.
@@ -124,38 +156,29 @@ impl Step {
         Step { left: Some(left), ..self }
     }
 
-    /// The same, with the values of a counter of `bits` bits that began at `start`.
+    /// The step as the engine takes it.
     #[cfg(feature = "record")]
-    pub(crate) fn in_bits(self, bits: u32, start: u64) -> Step {
-        let of_counter = |value: u64| value.wrapping_sub(start) & (u64::MAX >> (64 - bits));
-        match self.word {
-            Word::NextTicket | Word::NowServing => {
-                Step { found: self.found.map(of_counter), left: self.left.map(of_counter), ..self }
-            }
-            Word::Tail | Word::Next | Word::Locked => self,
+    #[inline]
+    pub(crate) fn noted(&self, source: Source) -> Noted {
+        let (word, end) = match self.operation {
+            Operation::Read => (READ, 0),
+            Operation::Write => (READ + 1, 0),
+            Operation::Swap => (READ + 2, 0),
+            Operation::Cas { wrote: true } => (READ + 3, DONE),
+            Operation::Cas { wrote: false } => (READ + 3, FAILED),
+            Operation::Add => (READ + 4, 0),
+        };
+        let found = if self.found.is_some() { FOUND_TOO } else { 0 };
+        let left = if self.left.is_some() { LEFT_TOO } else { 0 };
+        Noted {
+            found: self.found.unwrap_or(0),
+            left: self.left.unwrap_or(0),
+            place: (source as *const std::panic::Location<'static>).cast(),
+            word,
+            on: self.word as u32 + 1,
+            owner: self.owner.map_or(OWN, |thread| thread as u32),
+            part: end | found | left,
         }
-    }
-
-    #[cfg(feature = "record")]
-    pub(crate) const fn kind(&self) -> Kind {
-        match self.operation {
-            Operation::Read => Kind::Read,
-            Operation::Write => Kind::Write,
-            Operation::Swap => Kind::Swap,
-            Operation::Add => Kind::Add,
-            Operation::Cas { .. } => Kind::Cas,
-        }
-    }
-
-    /// The word that it is on, and the thread in whose record that is, if another one's.
-    #[cfg(feature = "record")]
-    pub(crate) const fn place(&self) -> (Word, Option<usize>) {
-        (self.word, self.owner)
-    }
-
-    #[cfg(feature = "record")]
-    pub(crate) const fn is_read(&self) -> bool {
-        matches!(self.operation, Operation::Read)
     }
 
     const fn new(operation: Operation, word: Word) -> Step {
@@ -163,30 +186,24 @@ impl Step {
     }
 }
 
-/// What a thread did.
+/// A move without a step.
 #[cfg(feature = "record")]
-#[derive(Clone, Copy, Debug, PartialEq, Eq)]
-pub(crate) enum Move {
-    Call(Call),
-    Step(Step),
-    Section { count: u64, outcome: Outcome },
+fn bare(word: u32, part: u32, count: u64, source: Source) -> Noted {
+    let place = (source as *const std::panic::Location<'static>).cast();
+    Noted { found: count, left: 0, place, word, on: 0, owner: OWN, part }
 }
 
 #[cfg(feature = "record")]
-impl Move {
-    /// Whether this is a poll that found what `last` found.
-    pub(crate) fn repeats(&self, last: &Move) -> bool {
-        match (self, last) {
-            (Move::Step(step), Move::Step(before)) => {
-                step.operation == Operation::Read && step == before
-            }
-            _ => self.is_wait() && last.is_wait(),
-        }
-    }
-
-    /// Whether this is a section after which the thread waits.
-    pub(crate) fn is_wait(&self) -> bool {
-        matches!(self, Move::Section { outcome: Outcome::Waits, .. })
+impl Outcome {
+    /// The end of a section as the engine takes it.
+    pub(crate) fn noted(self, count: u64, source: Source) -> Noted {
+        let part = match self {
+            Outcome::Moved => 5,
+            Outcome::Waits => 6,
+            Outcome::Entered => 7,
+            Outcome::Left => 8,
+        };
+        bare(SECTION, part, count, source)
     }
 }
 
@@ -204,6 +221,12 @@ impl Call {
         Call::Downgrade,
         // end
     ];
+
+    /// The call as the engine takes it.
+    #[cfg(feature = "record")]
+    pub(crate) fn noted(self, source: Source) -> Noted {
+        bare(self as u32, 0, 0, source)
+    }
 
     /// The call's word in a trace.
     pub(crate) fn name(self) -> &'static str {
@@ -282,17 +305,6 @@ impl fmt::Display for Step {
             Operation::Cas { wrote: true } => out.write_str(" done"),
             Operation::Cas { wrote: false } => out.write_str(" failed"),
             _ => Ok(()),
-        }
-    }
-}
-
-#[cfg(feature = "record")]
-impl fmt::Display for Move {
-    fn fmt(&self, out: &mut fmt::Formatter<'_>) -> fmt::Result {
-        match self {
-            Move::Call(call) => write!(out, "{call}"),
-            Move::Step(step) => write!(out, "{step}"),
-            Move::Section { count, outcome } => write!(out, "section {count} {outcome}"),
         }
     }
 }

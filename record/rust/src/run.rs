@@ -2,32 +2,35 @@
 // SPDX-License-Identifier: Apache-2.0 OR MIT
 
 use std::cell::Cell;
+use std::fmt;
 use std::io;
 use std::marker::PhantomData;
 use std::panic;
 use std::path::Path;
-use std::sync::{Arc, Mutex, MutexGuard, PoisonError};
+use std::sync::atomic::{AtomicU64, Ordering};
+use std::sync::{Arc, Mutex, PoisonError};
 use std::thread::{self, Builder, ScopedJoinHandle};
-use std::time::Duration;
+use std::time::{Duration, Instant};
 
 use crate::builder::RunBuilder;
-use crate::current::{self, Recorder};
-use crate::draw::Draw;
+use crate::engine::{Pin, RunOfC, State, NO_HOLDER};
 use crate::error::Error;
 use crate::follow::Departure;
+use crate::kept::Kept;
 use crate::lock::{Header, Lock, MOST_BITS};
 use crate::mode::Mode;
 use crate::moves::Call;
-use crate::path::Path as Choices;
-use crate::records::Records;
+use crate::recorder::{self, Recorder, Stopped};
 use crate::save;
-use crate::tape::Tape;
-use crate::turns::{Stopped, Turns};
+use crate::search::Way;
+
+/// A thread that keeps its turn for so long is said to block.
+const WHILE: Duration = Duration::from_millis(500);
 
 /// Shared by all threads of a run.
 #[derive(Debug)]
 pub(crate) struct Shared {
-    pub(crate) number: u64,
+    pub(crate) of_c: RunOfC,
     pub(crate) header: Header,
     /// `Ordered` for a run that is explored: nothing but its moves says how to repeat it.
     pub(crate) mode: Mode,
@@ -35,16 +38,76 @@ pub(crate) struct Shared {
     pub(crate) spurious: Option<usize>,
     /// The number at which the lock's counters began.
     pub(crate) start: u64,
-    pub(crate) turns: Turns,
-    pub(crate) records: Records,
-    /// The log of each thread, except while the thread itself has it.
-    pub(crate) tapes: Vec<Mutex<Option<Tape>>>,
+    /// A bit for each thread that was stopped in the midst of a call.
+    pub(crate) in_call: AtomicU64,
+    /// The thread that had the turn when the time was over, and did not give it back for a while.
+    blocked: Mutex<Option<usize>>,
+    /// The files that have the logs as well, until the threads take theirs.
+    kept: Mutex<Vec<Option<Kept>>>,
+    /// The choices with which it begins, if it is explored.
+    way: Option<Way>,
 }
 
 impl Shared {
-    pub(crate) fn tape(&self, thread: usize) -> Option<MutexGuard<'_, Option<Tape>>> {
-        let tape = self.tapes.get(thread)?;
-        Some(tape.lock().unwrap_or_else(PoisonError::into_inner))
+    pub(crate) fn of(of_c: RunOfC, setup: RunBuilder, way: Option<Way>) -> Shared {
+        let RunBuilder { header, mode, spurious, start, .. } = setup;
+        let spurious = spurious.filter(|&one_in| way.is_none() || one_in == 0);
+        let (in_call, blocked, kept) = (AtomicU64::new(0), Mutex::default(), Mutex::default());
+        Shared { of_c, header, mode, spurious, start, in_call, blocked, kept, way }
+    }
+
+    pub(crate) fn is_by_turns(&self) -> bool {
+        self.way.is_some() || self.mode.is_by_turns()
+    }
+
+    /// Has each log written to a file too.
+    pub(crate) fn keep_in(&self, files: Vec<Option<Kept>>) {
+        *self.kept.lock().unwrap_or_else(PoisonError::into_inner) = files;
+    }
+
+    pub(crate) fn take_kept(&self, thread: usize) -> Option<Kept> {
+        let mut kept = self.kept.lock().unwrap_or_else(PoisonError::into_inner);
+        kept.get_mut(thread).and_then(Option::take)
+    }
+
+    pub(crate) fn missing(&self, state: &State) -> Vec<usize> {
+        (0..self.header.threads).filter(|thread| state.missing >> thread & 1 == 1).collect()
+    }
+
+    /// Waits until all threads have gone or the run was stopped. Stops it when the time is over.
+    fn wait(&self, limit: Duration) {
+        let begun = Instant::now();
+        loop {
+            let left = limit.saturating_sub(begun.elapsed());
+            if self.of_c.wait(left.as_millis().min(1 << 30) as u64) {
+                return;
+            }
+            if begun.elapsed() >= limit {
+                self.look_who_blocks();
+                self.of_c.say_late_line();
+                self.of_c.stop();
+            }
+        }
+    }
+
+    /// By turns: if the turn does not change for a while, the thread that has it blocks.
+    fn look_who_blocks(&self) {
+        let before = self.of_c.state();
+        if !self.is_by_turns() || before.holder == NO_HOLDER {
+            return;
+        }
+        thread::sleep(WHILE);
+        let now = self.of_c.state();
+        let holder = usize::try_from(now.holder).ok();
+        let is_late = now.turns == before.turns && now.holder != NO_HOLDER;
+        *self.blocked.lock().unwrap_or_else(PoisonError::into_inner) = holder.filter(|_| is_late);
+    }
+
+    fn departure(&self, state: &State) -> Option<Departure> {
+        match &self.mode {
+            Mode::Follow(schedule) => Departure::of(state, schedule),
+            _ => None,
+        }
     }
 }
 
@@ -72,7 +135,7 @@ pub enum Ending {
 ///
 /// static NEXT_TICKET: AtomicU8 = AtomicU8::new(0).noted(Word::NextTicket);
 ///
-/// let run = Run::of(Lock::Ticket, 1).bits(8).mode(Mode::Seed(17)).open()?;
+/// let run = Run::builder(Lock::Ticket, 1).bits(8).mode(Mode::Seed(17)).open()?;
 /// let ending = run.threads(Duration::from_secs(10), |_log| {
 ///     let _call = call(Call::Acquire);
 ///     NEXT_TICKET.fetch_add(1, SeqCst);
@@ -87,8 +150,14 @@ pub struct Run(pub(crate) Arc<Shared>);
 
 impl Run {
     /// A run of this lock by 1 to 64 threads.
-    pub fn of(lock: Lock, threads: usize) -> RunBuilder {
+    pub fn builder(lock: Lock, threads: usize) -> RunBuilder {
         RunBuilder::of(Header { lock, threads, bits: MOST_BITS })
+    }
+
+    /// As [`Run::builder`], which its name does not say.
+    #[deprecated(note = "call `Run::builder`")]
+    pub fn of(lock: Lock, threads: usize) -> RunBuilder {
+        Run::builder(lock, threads)
     }
 
     /// Starts the run's threads, does the work on each, and waits until all have ended. If they
@@ -111,6 +180,7 @@ impl Run {
             work(&log);
             Ok(())
         };
+        let _pin = self.0.is_by_turns().then(Pin::take);
         thread::scope(|scope| {
             let started: Result<Vec<_>, Error> = (0..self.0.header.threads)
                 .map(|thread| {
@@ -126,19 +196,19 @@ impl Run {
             }
             started?.into_iter().try_for_each(ended)
         })?;
-        let stage = self.0.turns.stage();
-        let missing = stage.missing();
-        Ok(match stage.departure() {
-            Some(departure) => Ending::Departed(departure.clone()),
+        let state = self.0.of_c.state();
+        let missing = self.0.missing(&state);
+        Ok(match self.0.departure(&state) {
+            Some(departure) => Ending::Departed(departure),
             None if missing.is_empty() => Ending::Complete,
-            None if stage.has_hung() => Ending::Hangs(missing),
+            None if state.has_hung != 0 => Ending::Hangs(missing),
             None => Ending::Stopped(missing),
         })
     }
 
     /// Which thread blocks in its turn, when the time was over.
     pub(crate) fn blocked(&self) -> Option<String> {
-        let thread = self.0.turns.stage().blocked?;
+        let thread = (*self.0.blocked.lock().unwrap_or_else(PoisonError::into_inner))?;
         let is_monitor = self.0.header.lock.is_monitor();
         let how = if is_monitor { " (its Mutex and Condvar have to be this crate's)" } else { "" };
         Some(format!(
@@ -150,8 +220,12 @@ impl Run {
     /// If the lock is under a monitor: whom the last notification woke, and where it was given.
     #[cfg(feature = "check")]
     pub(crate) fn last_notified(&self) -> Option<String> {
-        match &self.0.turns.stage().last_notified {
-            Some((at, woke)) => {
+        let state = self.0.of_c.state();
+        match state.signalled() {
+            Some(at) => {
+                let woke =
+                    (0..self.0.header.threads).filter(|thread| state.woke >> thread & 1 == 1);
+                let woke: Vec<usize> = woke.collect();
                 Some(format!("the last notification, at {at}, woke threads {woke:?}"))
             }
             None if self.0.header.lock.is_monitor() => Some("nobody was notified".to_string()),
@@ -162,12 +236,12 @@ impl Run {
     /// How many turns the run had, if one thread ran at a time: for [`Mode::Pct`].
     #[must_use]
     pub fn turns(&self) -> usize {
-        self.0.turns.stage().turns
+        self.0.of_c.state().turns as usize
     }
 
-    /// Looks at the decisions of a run that is explored.
-    pub(crate) fn with_path<R>(&self, look: impl FnOnce(&Choices) -> R) -> Option<R> {
-        self.0.turns.stage().path().map(look)
+    /// The choices with which a run that is explored begins.
+    pub(crate) fn way(&self) -> Option<&Way> {
+        self.0.way.as_ref()
     }
 
     /// Begins to record on the calling thread, as this thread of the run. It waits until all
@@ -182,21 +256,19 @@ impl Run {
         if thread >= threads {
             return Err(Error::NoSuchThread { thread, threads });
         }
-        if current::thread().is_some() {
+        if crate::current::thread().is_some() {
             return Err(Error::AlreadyRecorded);
         }
-        self.0.turns.come(thread)?;
-        let tape = self.0.tape(thread).and_then(|mut tape| tape.take());
-        let noise = match self.0.mode {
-            Mode::Noise(seed) => Some(Draw::of_thread(seed, thread)),
-            _ => None,
-        };
-        let tape = tape.ok_or(Error::ThreadTaken(thread))?;
-        current::install(Recorder::of(Arc::clone(&self.0), thread, tape, noise));
-        let shared = Arc::clone(&self.0);
+        if !self.0.of_c.come(thread) {
+            return Err(Error::ThreadTaken(thread));
+        }
+        let recorder = Box::new(Recorder::of(Arc::clone(&self.0), thread));
+        recorder::install(&recorder);
         let (next_line, of_this_thread) = (Cell::new(0), PhantomData);
-        let mut log = Log { shared, thread, next_line, has_begun: false, of_this_thread };
-        self.0.turns.start(thread)?;
+        let mut log = Log { recorder, next_line, has_begun: false, of_this_thread };
+        if !log.recorder.start() {
+            return Err(Error::Stopped);
+        }
         log.has_begun = true;
         Ok(log)
     }
@@ -204,7 +276,8 @@ impl Run {
     /// Waits until all threads have ended, and stops them if they do not end in time. Returns the
     /// threads that have not ended. [`Run::threads`] does this for threads that it starts.
     pub fn wait(&self, limit: Duration) -> Vec<usize> {
-        self.0.turns.wait(limit)
+        self.0.wait(limit);
+        self.0.missing(&self.0.of_c.state())
     }
 
     /// Writes the log of each thread into a folder, which is made if it is missing, and `run.trace`
@@ -228,14 +301,11 @@ impl Run {
     ///
     /// None, as long as there is memory for it.
     pub fn trace(&self) -> Result<String, Error> {
-        let mut text = Vec::new();
-        let written = save::write_trace(&self.0, &mut text);
-        let path = || "the trace".into();
-        written.map_err(|error| Error::Save { path: path(), error })?;
-        String::from_utf8(text).map_err(|error| Error::Save {
-            path: path(),
-            error: io::Error::new(io::ErrorKind::InvalidData, error),
-        })
+        let refused = || Error::Save {
+            path: "the trace".into(),
+            error: io::Error::from(io::ErrorKind::OutOfMemory),
+        };
+        save::trace(&self.0).ok_or_else(refused)
     }
 }
 
@@ -250,10 +320,8 @@ fn ended(handle: ScopedJoinHandle<'_, Result<(), Error>>) -> Result<(), Error> {
 }
 
 /// A thread's log of a run. Until it is dropped, it records what the thread does to its lock.
-#[derive(Debug)]
 pub struct Log {
-    shared: Arc<Shared>,
-    thread: usize,
+    recorder: Box<Recorder>,
     /// At which line of the schedule the next call is looked for.
     next_line: Cell<usize>,
     has_begun: bool,
@@ -264,7 +332,7 @@ impl Log {
     /// The thread's number in the run.
     #[must_use]
     pub fn thread(&self) -> usize {
-        self.thread
+        self.recorder.thread
     }
 
     /// The thread's next call in the schedule that the run follows. Nothing after its last, and in
@@ -276,7 +344,7 @@ impl Log {
     ///
     /// let schedule: Schedule = "lock ticket threads 2\n0 acquire\n1 acquire\n0 add\n".parse()?;
     /// let next = AtomicU8::new(0).noted(Word::NextTicket);
-    /// let setup = Run::of(schedule.lock(), schedule.threads()).bits(8);
+    /// let setup = Run::builder(schedule.lock(), schedule.threads()).bits(8);
     /// let run = setup.mode(Mode::Follow(schedule)).open()?;
     /// let ending = run.threads(Duration::from_secs(10), |log| {
     ///     while let Some(due) = log.next_call() {
@@ -293,24 +361,34 @@ impl Log {
     /// # Ok::<(), Error>(())
     /// ```
     pub fn next_call(&self) -> Option<Call> {
-        let schedule = match &self.shared.mode {
+        let schedule = match &self.recorder.shared.mode {
             Mode::Follow(schedule) => schedule,
             _ => return None,
         };
-        let (next, call) = schedule.call_of(self.thread, self.next_line.get())?;
+        let (next, call) = schedule.call_of(self.thread(), self.next_line.get())?;
         self.next_line.set(next);
         Some(call)
     }
 }
 
+impl fmt::Debug for Log {
+    fn fmt(&self, out: &mut fmt::Formatter<'_>) -> fmt::Result {
+        out.debug_struct("Log").field("thread", &self.thread()).finish_non_exhaustive()
+    }
+}
+
 impl Drop for Log {
     fn drop(&mut self) {
-        let ended = self.has_begun && !thread::panicking();
-        let own = current::remove().zip(self.shared.tape(self.thread));
-        if let Some((Recorder { mut tape, in_call, .. }, mut place)) = own {
-            tape.leave(ended, in_call);
-            *place = Some(tape);
+        let has_ended = self.has_begun && !thread::panicking();
+        let Recorder { shared, thread, in_call, kept, .. } = &*self.recorder;
+        recorder::remove();
+        if !has_ended && in_call.get() {
+            shared.in_call.fetch_or(1 << thread, Ordering::Relaxed);
         }
-        self.shared.turns.leave(self.thread, ended);
+        if let (true, Some(kept)) = (has_ended, &mut *kept.borrow_mut()) {
+            kept.keep(&format!("dropped {}\n", shared.of_c.counts(*thread).1));
+        }
+        drop(kept.take());
+        self.recorder.leave(has_ended);
     }
 }

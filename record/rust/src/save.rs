@@ -5,6 +5,7 @@ use std::fs::{self, File};
 use std::io::{self, BufWriter, Write};
 use std::path::Path;
 
+use crate::engine::State;
 use crate::error::Error;
 use crate::kept::Kept;
 use crate::lock::MOST_THREADS;
@@ -35,15 +36,12 @@ fn clear(folder: &Path, first: usize) -> Result<(), Error> {
 /// Begins the log of each thread in a folder, where its tape goes on with it.
 pub(crate) fn begin(run: &Shared, folder: &Path) -> Result<(), Error> {
     clear(folder, 0)?;
-    for thread in 0..run.header.threads {
+    let begun = (0..run.header.threads).map(|thread| {
         let path = folder.join(name_of_log(thread));
-        let mut head = Vec::new();
-        let begun = write_log_head(run, thread, &mut head).and_then(|()| Kept::begin(&path, &head));
-        let kept = begun.map_err(|error| refused(&path, error))?;
-        if let Some(tape) = run.tape(thread).as_deref_mut().and_then(Option::as_mut) {
-            tape.keep_in(kept);
-        }
-    }
+        let kept = Kept::begin(&path, head_of_log(run, thread).as_bytes());
+        kept.map(Some).map_err(|error| refused(&path, error))
+    });
+    run.keep_in(begun.collect::<Result<_, _>>()?);
     Ok(())
 }
 
@@ -62,7 +60,8 @@ pub(crate) fn save(run: &Shared, folder: &Path) -> Result<(), Error> {
     }
     let path = folder.join(TRACE);
     let written = write_file(&path, |out| {
-        write_trace(run, out)?;
+        let text = trace(run).ok_or_else(|| io::Error::from(io::ErrorKind::OutOfMemory))?;
+        out.write_all(text.as_bytes())?;
         write_ends(run, out)
     });
     written.map_err(|error| refused(&path, error))
@@ -100,34 +99,42 @@ fn write_part(
 }
 
 /// The header, after comments that identify the run and say how to repeat it.
-fn write_header(run: &Shared, out: &mut impl Write) -> io::Result<()> {
-    writeln!(out, "# run {:016x}", run.number)?;
-    match run.mode {
-        Mode::Seed(seed) => writeln!(out, "# seed {seed}")?,
-        Mode::Pct { seed, depth, steps } => {
-            writeln!(out, "# seed {seed} depth {depth} steps {steps}")?;
-        }
-        Mode::Noise(seed) => writeln!(out, "# noise {seed}")?,
-        Mode::Free | Mode::Ordered | Mode::Follow(_) => {}
-    }
-    if let Some(spurious) = run.spurious {
-        writeln!(out, "# spurious {spurious}")?;
-    }
-    if run.start > 0 {
-        writeln!(out, "# counters began at {}, here at 0", run.start)?;
-    }
-    write!(out, "{}", run.header)
+fn head(run: &Shared) -> String {
+    let seed = match run.mode {
+        Mode::Seed(seed) => format!("# seed {seed}\n"),
+        Mode::Pct { seed, depth, steps } => format!("# seed {seed} depth {depth} steps {steps}\n"),
+        Mode::Noise(seed) => format!("# noise {seed}\n"),
+        Mode::Free | Mode::Ordered | Mode::Follow(_) => String::new(),
+    };
+    let spurious = run.spurious.map_or_else(String::new, |one_in| format!("# spurious {one_in}\n"));
+    let start = match run.start {
+        0 => String::new(),
+        start => format!("# counters began at {start}, here at 0\n"),
+    };
+    format!("# run {:016x}\n{seed}{spurious}{start}{}", run.of_c.state().number, run.header)
 }
 
-fn write_log_head(run: &Shared, thread: usize, out: &mut impl Write) -> io::Result<()> {
-    write_header(run, out)?;
-    writeln!(out, " thread {thread}")
+fn head_of_log(run: &Shared, thread: usize) -> String {
+    format!("{} thread {thread}\n", head(run))
+}
+
+/// The words on a thread's end. If the run was stopped, it is unknown whether the thread would have
+/// gone on.
+fn end_of(state: &State, thread: usize) -> &'static str {
+    if state.missing >> thread & 1 == 0 {
+        "has ended"
+    } else if state.has_hung != 0 && state.is_cut == 0 {
+        "has not ended"
+    } else {
+        "was stopped"
+    }
 }
 
 /// Which threads have ended, in comments after a trace's last move.
 fn write_ends(run: &Shared, out: &mut impl Write) -> io::Result<()> {
-    (0..run.header.threads).try_for_each(|thread| match run.tape(thread).as_deref() {
-        Some(Some(_)) => writeln!(out, "# thread {thread} {}", run.turns.stage().end_of(thread)),
+    let state = run.of_c.state();
+    (0..run.header.threads).try_for_each(|thread| match state.absent >> thread & 1 {
+        0 => writeln!(out, "# thread {thread} {}", end_of(&state, thread)),
         _ => write_absence(thread, out),
     })
 }
@@ -139,36 +146,23 @@ fn write_absence(thread: usize, out: &mut impl Write) -> io::Result<()> {
 
 /// A thread's log. It has a last line if the thread came to its end, else a comment that says so.
 fn write_log(run: &Shared, thread: usize, out: &mut impl Write) -> io::Result<()> {
-    write_log_head(run, thread, out)?;
-    let place = run.tape(thread);
-    let tape = match place.as_deref() {
-        Some(Some(tape)) => tape,
-        _ => return write_absence(thread, out),
-    };
-    tape.moves().iter().try_for_each(|made| writeln!(out, "{made}"))?;
-    if tape.has_ended() {
-        writeln!(out, "dropped {}", tape.dropped())
-    } else if tape.dropped() == 0 && !run.mode.has_order() {
+    let (state, (moves, dropped)) = (run.of_c.state(), run.of_c.counts(thread));
+    out.write_all(head_of_log(run, thread).as_bytes())?;
+    if state.absent >> thread & 1 == 1 {
+        return write_absence(thread, out);
+    }
+    (0..moves).try_for_each(|at| writeln!(out, "{}", run.of_c.made(thread, at).0))?;
+    if state.missing >> thread & 1 == 0 {
+        writeln!(out, "dropped {dropped}")
+    } else if dropped == 0 && !run.mode.has_order() {
         writeln!(out, "# thread {thread} has not ended")
     } else {
-        writeln!(out, "# thread {thread} {}", run.turns.stage().end_of(thread))
+        writeln!(out, "# thread {thread} {}", end_of(&state, thread))
     }
 }
 
-/// The moves of all threads in their order, as far as the logs have them.
-pub(crate) fn write_trace(run: &Shared, out: &mut impl Write) -> io::Result<()> {
-    write_header(run, out)?;
-    writeln!(out)?;
-    let places: Vec<_> = (0..run.header.threads).filter_map(|thread| run.tape(thread)).collect();
-    let mut moves: Vec<_> = places
-        .iter()
-        .map(|tape| tape.as_ref().map_or(&[][..], |tape| tape.moves()).iter())
-        .collect();
-    for &thread in run.turns.stage().order() {
-        match moves.get_mut(usize::from(thread)).and_then(Iterator::next) {
-            Some(made) => writeln!(out, "{thread} {made}")?,
-            None => break,
-        }
-    }
-    Ok(())
+/// The moves of all threads in their order, as far as the logs have them; nothing if memory is
+/// refused.
+pub(crate) fn trace(run: &Shared) -> Option<String> {
+    run.of_c.trace(&(head(run) + "\n"), run.of_c.state().absent)
 }

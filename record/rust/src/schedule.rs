@@ -6,11 +6,9 @@ use std::path::Path;
 use std::str::FromStr;
 use std::sync::Arc;
 
-use crate::draw::Draw;
 use crate::error::Error;
-use crate::kind::Kind;
 use crate::lock::{Header, Lock, MOST_BITS};
-use crate::moves::Call;
+use crate::moves::{self, Call};
 
 /// Which thread moves next, and which move that is, for [`Mode::Follow`](crate::Mode::Follow).
 ///
@@ -35,13 +33,21 @@ pub struct Schedule {
     lines: Arc<[Line]>,
 }
 
-/// One move of a schedule.
+/// One move of a schedule, as the engine takes it.
 #[derive(Clone, Copy, Debug, PartialEq, Eq)]
+#[repr(C)]
 pub(crate) struct Line {
+    thread: u8,
+    /// The number of its word.
+    pub(crate) word: u8,
     /// In the text, from 1.
-    pub(crate) number: usize,
-    pub(crate) thread: usize,
-    pub(crate) kind: Kind,
+    pub(crate) number: u32,
+}
+
+impl Line {
+    pub(crate) fn thread(&self) -> usize {
+        usize::from(self.thread)
+    }
 }
 
 impl Schedule {
@@ -86,21 +92,18 @@ impl Schedule {
     }
 
     /// A number of its moves, for its runs.
-    pub(crate) fn number(&self) -> u64 {
+    pub(crate) fn seed(&self) -> u64 {
         self.lines.iter().fold(0, |number, line| {
-            let mix = |sum: u64, byte: u8| Draw::new(sum ^ u64::from(byte)).next();
-            line.kind.word().bytes().fold(number ^ line.thread as u64, mix)
+            let own = u64::from(line.thread) * 16 + u64::from(line.word);
+            number.wrapping_mul(1_000_003).wrapping_add(own + 1)
         })
     }
 
     /// The first call of a thread in the lines from this one on, and the line after it.
     pub(crate) fn call_of(&self, thread: usize, from: usize) -> Option<(usize, Call)> {
         let lines = self.lines.iter().enumerate().skip(from);
-        let mut own = lines.filter(|(_, line)| line.thread == thread);
-        own.find_map(|(at, line)| match line.kind {
-            Kind::Call(call) => Some((at + 1, call)),
-            _ => None,
-        })
+        let mut own = lines.filter(|(_, line)| line.thread() == thread);
+        own.find_map(|(at, line)| Some((at + 1, *Call::ALL.get(usize::from(line.word))?)))
     }
 
     /// Whether a run with this header can follow it.
@@ -149,7 +152,7 @@ fn header_of(line: &str) -> Option<(Lock, usize, Option<u32>)> {
 /// Reads `T WORD`, and ignores the further parts of a trace's line.
 fn move_of(line: &str, number: usize, threads: usize) -> Option<Line> {
     let mut words = line.split(' ');
-    let thread = words.next()?.parse().ok().filter(|&thread| thread < threads)?;
-    let kind = Kind::of_word(words.next()?)?;
-    Some(Line { number, thread, kind })
+    let thread = words.next()?.parse().ok().filter(|&thread| usize::from(thread) < threads)?;
+    let word = moves::number_of(words.next()?)?;
+    Some(Line { thread, word, number: u32::try_from(number).ok()? })
 }

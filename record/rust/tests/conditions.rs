@@ -37,7 +37,7 @@ fn a_missing_notification_is_seen() -> Result<(), Error> {
     for mode in [Mode::Seed(1), Mode::Seed(2), Mode::Free, Mode::Ordered] {
         let (open, changed) = (Mutex::new(false), Condvar::new());
         let limit = if matches!(mode, Mode::Seed(_)) { LIMIT } else { LONG };
-        let run = Run::of(Lock::RwSimple, 2).mode(mode.clone()).open()?;
+        let run = Run::builder(Lock::RwSimple, 2).mode(mode.clone()).open()?;
         let is_asleep = AtomicBool::new(false);
         let ending = run.threads(limit, |log| {
             let mut state = open.lock().unwrap();
@@ -59,7 +59,7 @@ fn a_missing_notification_is_seen() -> Result<(), Error> {
 #[test]
 fn a_mutex_is_tried_in_vain() -> Result<(), Error> {
     let mutex = Mutex::new(());
-    let run = Run::of(Lock::RwSimple, 2).mode(Mode::Seed(1)).open()?;
+    let run = Run::builder(Lock::RwSimple, 2).mode(Mode::Seed(1)).open()?;
     let ending = run.threads(LIMIT, |_| loop {
         if let Ok(held) = mutex.try_lock() {
             break std::mem::forget(held);
@@ -73,7 +73,7 @@ fn a_mutex_is_tried_in_vain() -> Result<(), Error> {
 #[test]
 fn sections_that_wait_are_no_progress() -> Result<(), Error> {
     let state = Mutex::new(());
-    let run = Run::of(Lock::RwSimple, 1).mode(Mode::Seed(1)).open()?;
+    let run = Run::builder(Lock::RwSimple, 1).mode(Mode::Seed(1)).open()?;
     let ending = run.threads(LIMIT, |_| loop {
         state.lock().unwrap().note(Outcome::Waits);
     })?;
@@ -95,7 +95,7 @@ impl Drop for TakesAgain<'_> {
 #[test]
 fn a_thread_that_is_stopped_poisons_nothing() -> Result<(), Error> {
     let (mutex, has_it) = (Mutex::new(()), AtomicBool::new(false));
-    let run = Run::of(Lock::RwSimple, 2).open()?;
+    let run = Run::builder(Lock::RwSimple, 2).open()?;
     let ending = run.threads(LONG, |log| {
         while log.thread() == 1 && !has_it.load(SeqCst) {
             thread::yield_now();
@@ -116,7 +116,7 @@ fn a_thread_that_is_stopped_poisons_nothing() -> Result<(), Error> {
 fn a_panic_in_the_monitor_is_heard_of() -> Result<(), Error> {
     for mode in [Mode::Seed(1), Mode::Ordered, Mode::Free] {
         let mutex = Mutex::new(());
-        let run = Run::of(Lock::RwSimple, 1).mode(mode).open()?;
+        let run = Run::builder(Lock::RwSimple, 1).mode(mode).open()?;
         let ending = run.threads(LIMIT, |_| {
             let panics = || {
                 let _held = mutex.lock().unwrap();
@@ -138,7 +138,7 @@ fn one_or_all_are_woken() -> Result<(), Error> {
         for all in [false, true] {
             let (waiting, changed) = (Mutex::new(0), Condvar::new());
             let woken = AtomicUsize::new(0);
-            let setup = Run::of(Lock::RwSimple, 3).mode(Mode::Seed(seed)).spurious(0);
+            let setup = Run::builder(Lock::RwSimple, 3).mode(Mode::Seed(seed)).spurious(0);
             setup.open()?.threads(LIMIT, |log| {
                 if log.thread() < 2 {
                     let mut state = waiting.lock().unwrap();
@@ -166,7 +166,7 @@ fn one_real_thread_is_woken() -> Result<(), Error> {
     for (notifications, limit, due) in [(1, LONG, 1), (2, LIMIT, 0)] {
         for mode in [Mode::Free, Mode::Ordered] {
             let (waiting, changed) = (Mutex::new(0), Condvar::new());
-            let run = Run::of(Lock::RwSimple, 3).mode(mode).open()?;
+            let run = Run::builder(Lock::RwSimple, 3).mode(mode).open()?;
             let ending = run.threads(limit, |log| {
                 if log.thread() < 2 {
                     let mut state = waiting.lock().unwrap();
@@ -193,7 +193,7 @@ fn one_real_thread_is_woken() -> Result<(), Error> {
 fn a_notification_is_of_one_condition() -> Result<(), Error> {
     for all in [false, true] {
         let (waiting, changed, other) = (Mutex::new(false), Condvar::new(), Condvar::new());
-        let run = Run::of(Lock::RwSimple, 2).mode(Mode::Seed(1)).spurious(0).open()?;
+        let run = Run::builder(Lock::RwSimple, 2).mode(Mode::Seed(1)).spurious(0).open()?;
         let ending = run.threads(LIMIT, |log| {
             if log.thread() == 0 {
                 let mut state = waiting.lock().unwrap();
@@ -217,7 +217,7 @@ fn a_notification_is_of_one_condition() -> Result<(), Error> {
 /// thread 0 saw what it waited for, and the trace.
 fn waits_once(seed: u64, spurious: usize) -> Result<(bool, String), Error> {
     let (open, changed, has_seen) = (Mutex::new(false), Condvar::new(), AtomicBool::new(true));
-    let setup = Run::of(Lock::RwSimple, 2).mode(Mode::Seed(seed)).spurious(spurious);
+    let setup = Run::builder(Lock::RwSimple, 2).mode(Mode::Seed(seed)).spurious(spurious);
     let run = setup.open()?;
     let ending = run.threads(LIMIT, |log| {
         if log.thread() == 1 {
@@ -258,7 +258,7 @@ fn a_wait_without_a_second_look_is_seen_by_a_wake_for_nothing() -> Result<(), Er
 fn a_wait_lasts_as_long_as_its_condition() -> Result<(), Error> {
     for seed in 0..20 {
         let (open, changed) = (Mutex::new(false), Condvar::new());
-        let run = Run::of(Lock::RwSimple, 2).mode(Mode::Seed(seed)).spurious(2).open()?;
+        let run = Run::builder(Lock::RwSimple, 2).mode(Mode::Seed(seed)).spurious(2).open()?;
         let ending = run.threads(LIMIT, |log| {
             if log.thread() == 1 {
                 (0..20).for_each(|_| switch());
@@ -278,7 +278,7 @@ fn a_wait_lasts_as_long_as_its_condition() -> Result<(), Error> {
 fn a_wake_for_nothing_takes_the_place_of_a_notification() -> Result<(), Error> {
     for (spurious, due) in [(0, Ending::Hangs(vec![0, 1])), (1, Ending::Complete)] {
         let (state, changed) = (Mutex::new(()), Condvar::new());
-        let setup = Run::of(Lock::RwSimple, 2).mode(Mode::Seed(1)).spurious(spurious);
+        let setup = Run::builder(Lock::RwSimple, 2).mode(Mode::Seed(1)).spurious(spurious);
         let waits = |_: &_| drop(changed.wait(state.lock().unwrap()).unwrap());
         let ending = setup.open()?.threads(LIMIT, waits)?;
         assert_eq!(ending, due);
@@ -294,7 +294,7 @@ fn even_seeds_have_wakes_for_nothing() -> Result<(), Error> {
     for (seed, mode) in (0..20).flat_map(|it| [(it, Mode::Seed(it)), (it, by_priorities(it))]) {
         let (state, changed) = (Mutex::new(()), Condvar::new());
         let has_come = AtomicBool::new(false);
-        let run = Run::of(Lock::RwSimple, 2).mode(mode).open()?;
+        let run = Run::builder(Lock::RwSimple, 2).mode(mode).open()?;
         let ending = run.threads(LIMIT, |log| {
             if log.thread() == 0 {
                 let state = state.lock().unwrap();
@@ -314,7 +314,7 @@ fn even_seeds_have_wakes_for_nothing() -> Result<(), Error> {
 
 #[test]
 fn wakes_for_nothing_need_a_seed() -> Result<(), Error> {
-    let opened = |mode| Run::of(Lock::RwSimple, 2).mode(mode).spurious(9).open();
+    let opened = |mode| Run::builder(Lock::RwSimple, 2).mode(mode).spurious(9).open();
     assert!(opened(Mode::Pct { seed: 1, depth: 2, steps: 9 }).is_ok());
     for mode in [Mode::Free, Mode::Noise(1), Mode::Ordered] {
         let said = opened(mode).expect_err("it has no seed").to_string();

@@ -16,7 +16,7 @@ const LIMIT: Duration = Duration::from_secs(60);
 const SHORT: Duration = Duration::from_secs(1);
 
 fn setup(threads: usize) -> RunBuilder {
-    Run::of(Lock::Ticket, threads).bits(8)
+    Run::builder(Lock::Ticket, threads).bits(8)
 }
 
 /// The thread has the lock when its time is over, and no call.

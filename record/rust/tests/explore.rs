@@ -14,7 +14,7 @@ const LIMIT: Duration = Duration::from_secs(60);
 
 /// Whose turns the runs of two threads are that add twice each, and how many preemptions they have.
 fn runs_of_two_additions(preemptions: usize) -> Result<Vec<(usize, String)>, Error> {
-    let mut explored = Run::of(Lock::Ticket, 2).explore(preemptions);
+    let mut explored = Run::builder(Lock::Ticket, 2).explore(preemptions);
     let mut found = Vec::new();
     while let Some(run) = explored.next() {
         let (run, word) = (run?, AtomicU8::new(0).noted(Word::NextTicket));
@@ -52,7 +52,7 @@ fn each_run_comes_once_and_those_with_fewer_preemptions_first() -> Result<(), Er
 #[test]
 fn polls_that_are_left_out() {
     for (waits, reduces) in [(false, true), (false, false), (true, true), (true, false)] {
-        let mut explored = Run::of(Lock::Ticket, 2).reduced(reduces).explore(0);
+        let mut explored = Run::builder(Lock::Ticket, 2).reduced(reduces).explore(0);
         for run in explored.by_ref() {
             let word = AtomicU8::new(0).noted(Word::NowServing);
             let ending = run.unwrap().threads(LIMIT, |log| match log.thread() {
@@ -103,7 +103,7 @@ fn steps_that_are_made_in_each_order() {
     ];
     for (steps, on, changes, are_all) in rows {
         for reduces in [true, false] {
-            let setup = Run::of(Lock::Mcs, 2).reduced(reduces);
+            let setup = Run::builder(Lock::Mcs, 2).reduced(reduces);
             let found = orders(setup, |atomics, thread| {
                 operation(|| {
                     let atomic = &atomics[on[thread]];
@@ -141,7 +141,7 @@ fn each_operation_may_change_its_atomic() {
         (|it| (it.store(1, SeqCst), 1).1, true),
     ];
     for (at, (make, changes)) in rows.into_iter().enumerate() {
-        let found = orders(Run::of(Lock::Mcs, 2), |[atomic, _], _| {
+        let found = orders(Run::builder(Lock::Mcs, 2), |[atomic, _], _| {
             operation(|| {
                 make(atomic);
                 note(Step::read(Word::Tail, 0));
@@ -156,7 +156,7 @@ fn each_operation_may_change_its_atomic() {
 fn notes_alone_are_made_in_each_order() {
     let words = [Word::NextTicket, Word::NowServing];
     let note_alone = |_: &_, thread: usize| operation(|| note(Step::write(words[thread], 0)));
-    let found = orders(Run::of(Lock::Ticket, 2), note_alone);
+    let found = orders(Run::builder(Lock::Ticket, 2), note_alone);
     assert_eq!(found, ALL);
 }
 
@@ -164,7 +164,7 @@ fn notes_alone_are_made_in_each_order() {
 #[test]
 fn a_peek_is_seen() -> Result<(), Error> {
     let mut seen = Vec::new();
-    for run in Run::of(Lock::Ticket, 2).explore(1) {
+    for run in Run::builder(Lock::Ticket, 2).explore(1) {
         let (flag, other) = (AtomicBool::new(false), AtomicBool::new(false));
         let is_seen = AtomicUsize::new(0);
         run?.threads(LIMIT, |log| {
@@ -188,7 +188,7 @@ fn a_peek_is_seen() -> Result<(), Error> {
 fn a_record_that_changes_is_seen() -> Result<(), Error> {
     let records = [0_u8, 1];
     let mut found = Vec::new();
-    for run in Run::of(Lock::Mcs, 2).explore(1) {
+    for run in Run::builder(Lock::Mcs, 2).explore(1) {
         let (run, other) = (run?, AtomicU8::new(0));
         let tail = AtomicPtr::new(std::ptr::null_mut()).noted(Word::Tail);
         run.threads(LIMIT, |log| {
@@ -215,7 +215,7 @@ fn a_record_that_changes_is_seen() -> Result<(), Error> {
 fn a_poll_in_vain_is_passed_over() -> Result<(), Error> {
     for opens in [true, false] {
         let (mut runs, mut complete) = (0, 0);
-        for run in Run::of(Lock::Ticket, 2).explore(2) {
+        for run in Run::builder(Lock::Ticket, 2).explore(2) {
             let open = AtomicBool::new(false);
             let ending = run?.threads(LIMIT, |log| match log.thread() {
                 0 => while !open.load(SeqCst) {},
@@ -255,13 +255,13 @@ fn is_freed(run: &Run) -> Result<bool, Error> {
 #[test]
 fn a_step_frees_those_who_polled_in_vain() -> Result<(), Error> {
     for reduces in [true, false] {
-        let runs = Run::of(Lock::Ticket, 2).reduced(reduces).explore(1);
+        let runs = Run::builder(Lock::Ticket, 2).reduced(reduces).explore(1);
         let freed = runs.map(|run| is_freed(&run?)).collect::<Result<Vec<bool>, Error>>()?;
         assert!(freed.contains(&true), "{reduces}");
     }
     let by_priorities = |seed| -> Result<bool, Error> {
         let mode = Mode::Pct { seed, depth: 1, steps: 9 };
-        is_freed(&Run::of(Lock::Ticket, 2).mode(mode).open()?)
+        is_freed(&Run::builder(Lock::Ticket, 2).mode(mode).open()?)
     };
     let freed = (0..20).map(by_priorities).collect::<Result<Vec<bool>, Error>>()?;
     assert!(freed.contains(&true) && freed.contains(&false));
@@ -292,7 +292,7 @@ fn looks_that_are_not_in_vain() -> Result<(), Error> {
     ];
     for (work, due) in rows {
         let mut orders = Vec::new();
-        for run in Run::of(Lock::Ticket, 2).explore(0) {
+        for run in Run::builder(Lock::Ticket, 2).explore(0) {
             let (run, [one, other]) = (run?, [AtomicBool::new(false), AtomicBool::new(false)]);
             let word = AtomicU8::new(0).noted(Word::NextTicket);
             run.threads(LIMIT, |log| {
@@ -313,7 +313,7 @@ fn looks_that_are_not_in_vain() -> Result<(), Error> {
 #[test]
 fn who_is_woken_is_explored() -> Result<(), Error> {
     let woken = [AtomicUsize::new(0), AtomicUsize::new(0)];
-    for run in Run::of(Lock::RwSimple, 3).explore(0) {
+    for run in Run::builder(Lock::RwSimple, 3).explore(0) {
         let (waiting, changed) = (Mutex::new(0), Condvar::new());
         let ending = run?.threads(LIMIT, |log| {
             if let Some(own) = woken.get(log.thread()) {
@@ -355,7 +355,7 @@ fn misses(setup: RunBuilder, preemptions: usize) -> Result<bool, Error> {
 /// A spurious wakeup counts as a preemption.
 #[test]
 fn wakes_for_nothing_are_explored() -> Result<(), Error> {
-    let setup = || Run::of(Lock::RwSimple, 2);
+    let setup = || Run::builder(Lock::RwSimple, 2);
     assert!(!misses(setup(), 0)? && misses(setup(), 1)?);
     assert!(!misses(setup().spurious(0), 2)? && misses(setup().spurious(9), 1)?);
     Ok(())
@@ -367,7 +367,7 @@ fn wakes_for_nothing_are_explored() -> Result<(), Error> {
 fn a_driver_that_changes_is_noticed() -> Result<(), Error> {
     for threads in [2, 3] {
         let mut runs = 0;
-        let mut explored = Run::of(Lock::Ticket, threads).explore(1);
+        let mut explored = Run::builder(Lock::Ticket, threads).explore(1);
         let said = loop {
             match explored.next().expect("it is noticed before the end") {
                 Err(error) => break error.to_string(),
@@ -390,7 +390,7 @@ fn a_driver_that_changes_is_noticed() -> Result<(), Error> {
 /// Runs are counted, and name no seed.
 #[test]
 fn the_trace_has_the_number_of_the_run() -> Result<(), Error> {
-    let mut explored = Run::of(Lock::Mcs, 2).explore(0);
+    let mut explored = Run::builder(Lock::Mcs, 2).explore(0);
     for number in ["0000000000000001", "0000000000000002"] {
         let run = explored.next().expect("each thread may be first")?;
         run.threads(LIMIT, |_| ())?;

@@ -19,7 +19,7 @@ const LIMIT: Duration = Duration::from_secs(60);
 /// Follows a schedule with counters of 8 bits: how the run ended, and its trace.
 fn follow(text: &str, work: impl Fn(&Log) + Sync) -> Result<(Ending, String), Error> {
     let schedule: Schedule = text.parse()?;
-    let setup = Run::of(schedule.lock(), schedule.threads()).bits(8);
+    let setup = Run::builder(schedule.lock(), schedule.threads()).bits(8);
     let run = setup.mode(Mode::Follow(schedule)).open()?;
     Ok((run.threads(LIMIT, work)?, run.trace()?))
 }
@@ -138,7 +138,7 @@ fn a_thread_that_makes_no_move_is_stopped() -> Result<(), Error> {
     })?;
     assert_eq!(said, due);
     let schedule: Schedule = format!("lock ticket threads 2\n{lines}").parse()?;
-    let (lock, setup) = (TicketLock::new(), Run::of(Lock::Ticket, 2).bits(8));
+    let (lock, setup) = (TicketLock::new(), Run::builder(Lock::Ticket, 2).bits(8));
     let run = setup.mode(Mode::Follow(schedule)).open()?;
     let ending = run.threads(Duration::from_secs(2), |log| match log.thread() {
         0 => make_calls(&lock, log),
@@ -270,7 +270,7 @@ fn a_schedule_of_another_run_is_refused() -> Result<(), Error> {
         let opened = setup.mode(Mode::Follow(text.parse()?)).open();
         Ok(opened.map_or_else(|error| error.to_string(), |_| String::new()))
     };
-    let setup = || Run::of(Lock::Mcs, 2).bits(8);
+    let setup = || Run::builder(Lock::Mcs, 2).bits(8);
     let due = "the schedule is not of this run: lock mcs threads 2 bits 8";
     assert_eq!(open(setup(), "lock ticket threads 2\n")?, due);
     assert_eq!(open(setup(), "lock mcs threads 3\n")?, due);

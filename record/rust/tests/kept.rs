@@ -31,7 +31,7 @@ fn logs(folder: &Path) -> Vec<String> {
 
 /// A run of a ticket lock, with its logs in this folder.
 fn kept_in(folder: &Path) -> Result<Run, Error> {
-    Run::of(Lock::Ticket, THREADS).bits(8).kept_in(folder).open()
+    Run::builder(Lock::Ticket, THREADS).bits(8).kept_in(folder).open()
 }
 
 /// Each log grows by several pieces, and lines lie across their ends.
@@ -102,7 +102,7 @@ fn a_run_may_be_saved_where_it_is_kept() -> Result<(), Error> {
 #[test]
 fn a_thread_that_still_has_its_log_is_named() -> Result<(), Error> {
     let saved = folder("early");
-    let run = Run::of(Lock::Ticket, 1).bits(8).mode(Mode::Ordered).open()?;
+    let run = Run::builder(Lock::Ticket, 1).bits(8).mode(Mode::Ordered).open()?;
     let texts = || -> Result<[String; 2], Error> {
         run.save(&saved)?;
         let text = |name| fs::read_to_string(saved.join(name)).expect("it was saved");
@@ -126,7 +126,7 @@ fn a_thread_that_still_has_its_log_is_named() -> Result<(), Error> {
 #[test]
 #[cfg(target_os = "linux")]
 fn a_file_that_cannot_be_made_is_named() -> Result<(), Error> {
-    let saved = Run::of(Lock::Mcs, 1).open()?.save("/proc/self");
+    let saved = Run::builder(Lock::Mcs, 1).open()?.save("/proc/self");
     let kept = kept_in(Path::new("/proc/self")).map(drop);
     for result in [saved, kept] {
         let said = result.expect_err("no file can be made there").to_string();

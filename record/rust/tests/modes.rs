@@ -36,7 +36,7 @@ fn round(lock: &TicketLock) {
 
 fn trace_of(mode: Mode) -> Result<String, Error> {
     let lock = TicketLock::new();
-    let run = Run::of(Lock::Ticket, 3).bits(8).mode(mode).open()?;
+    let run = Run::builder(Lock::Ticket, 3).bits(8).mode(mode).open()?;
     assert_eq!(run.threads(LIMIT, |_| (0..20).for_each(|_| round(&lock)))?, Ending::Complete);
     run.trace()
 }
@@ -52,7 +52,7 @@ fn after_number(trace: &str) -> &str {
 #[test]
 fn the_number_is_that_of_the_run() -> Result<(), Error> {
     let number = |mode: Mode| -> Result<String, Error> {
-        let run = Run::of(Lock::Ticket, 2).bits(8).mode(mode).open()?;
+        let run = Run::builder(Lock::Ticket, 2).bits(8).mode(mode).open()?;
         Ok(run.trace()?.lines().next().unwrap_or("").to_owned())
     };
     // the first number of splitmix64 by the seed 0, as its authors give it
@@ -96,7 +96,7 @@ fn few_changes_of_priority_are_enough() -> Result<(), Error> {
         for seed in 0..runs {
             let count = AtomicU8::new(0);
             let mode = Mode::Pct { seed, depth, steps };
-            let run = Run::of(Lock::Ticket, 2).bits(8).room(0).mode(mode).open()?;
+            let run = Run::builder(Lock::Ticket, 2).bits(8).room(0).mode(mode).open()?;
             let ending = run.threads(LIMIT, |_| count.store(count.load(SeqCst) + 1, SeqCst))?;
             assert_eq!(ending, Ending::Complete);
             lost += usize::from(count.load(SeqCst) == 1);
@@ -126,7 +126,7 @@ fn priorities_are_drawn() -> Result<(), Error> {
         let orders = (0..200).map(|seed| -> Result<String, Error> {
             let word = AtomicU8::new(0).noted(Word::NextTicket);
             let mode = Mode::Pct { seed, depth, steps };
-            let run = Run::of(Lock::Ticket, threads).bits(8).room(2).mode(mode).open()?;
+            let run = Run::builder(Lock::Ticket, threads).bits(8).room(2).mode(mode).open()?;
             run.threads(LIMIT, |_| {
                 word.fetch_add(1, SeqCst);
                 word.fetch_add(1, SeqCst);
@@ -177,7 +177,7 @@ fn free_threads_have_no_trace() -> Result<(), Error> {
 fn atomics_without_a_name_are_switched_too() -> Result<(), Error> {
     let lost = |seed| -> Result<bool, Error> {
         let count = AtomicU8::new(0);
-        let run = Run::of(Lock::Ticket, 2).bits(8).mode(Mode::Seed(seed)).open()?;
+        let run = Run::builder(Lock::Ticket, 2).bits(8).mode(Mode::Seed(seed)).open()?;
         run.threads(LIMIT, |_| count.store(count.load(SeqCst) + 1, SeqCst))?;
         Ok(count.load(SeqCst) == 1)
     };
@@ -191,7 +191,7 @@ fn atomics_without_a_name_are_switched_too() -> Result<(), Error> {
 fn a_switch_is_progress() -> Result<(), Error> {
     let modes = || [Mode::Seed(1), Mode::Pct { seed: 1, depth: 3, steps: 100 }];
     for (threads, mode) in modes().map(|it| (1, it)).into_iter().chain(modes().map(|it| (2, it))) {
-        let run = Run::of(Lock::Ticket, threads).mode(mode).open()?;
+        let run = Run::builder(Lock::Ticket, threads).mode(mode).open()?;
         let word = AtomicU8::new(0);
         let ending = run.threads(LIMIT, |_| {
             (0..25_000).for_each(|_| {
@@ -208,7 +208,7 @@ fn a_switch_is_progress() -> Result<(), Error> {
 fn nobody_comes_between_the_parts_of_an_operation() -> Result<(), Error> {
     for mode in (0..20).map(Mode::Seed).chain([Mode::Ordered]) {
         let count = AtomicU8::new(0);
-        let run = Run::of(Lock::Ticket, 2).bits(8).mode(mode).open()?;
+        let run = Run::builder(Lock::Ticket, 2).bits(8).mode(mode).open()?;
         run.threads(LIMIT, |_| {
             (0..10).for_each(|_| {
                 operation(|| {
@@ -228,7 +228,7 @@ fn nobody_comes_between_the_parts_of_an_operation() -> Result<(), Error> {
 #[should_panic(expected = "two operations on atomics in one `operation`")]
 fn two_operations_are_not_one() {
     let count = AtomicU8::new(0);
-    let run = Run::of(Lock::Ticket, 1).mode(Mode::Seed(1)).open().unwrap();
+    let run = Run::builder(Lock::Ticket, 1).mode(Mode::Seed(1)).open().unwrap();
     let twice = |_: &_| operation(|| count.store(count.load(SeqCst) + 1, SeqCst));
     run.threads(LIMIT, twice).unwrap();
 }
@@ -237,7 +237,7 @@ fn two_operations_are_not_one() {
 #[test]
 fn a_slow_run_does_not_hang() -> Result<(), Error> {
     let (lock, is_late) = (TicketLock::new(), AtomicBool::new(false));
-    let run = Run::of(Lock::Ticket, 2).bits(8).mode(Mode::Seed(1)).open()?;
+    let run = Run::builder(Lock::Ticket, 2).bits(8).mode(Mode::Seed(1)).open()?;
     let ending = run.threads(Duration::from_millis(100), |_| {
         while !is_late.peek(SeqCst) {
             round(&lock);
@@ -257,7 +257,7 @@ fn a_thread_that_blocks_is_named() -> Result<(), Error> {
     if let Ok(how) = env::var(ALONE) {
         let word = AtomicU8::new(0);
         let lock = if how == "blocks in a queue" { Lock::Mcs } else { Lock::RwFifo };
-        let run = Run::of(lock, 2).mode(Mode::Seed(1)).open()?;
+        let run = Run::builder(lock, 2).mode(Mode::Seed(1)).open()?;
         run.threads(Duration::from_millis(100), |log| {
             if how != "is slow" && log.thread() == 1 {
                 thread::sleep(Duration::from_secs(3));
@@ -295,7 +295,7 @@ fn a_try_in_vain_is_no_progress() -> Result<(), Error> {
     ];
     for is_vain in tries {
         let taken = AtomicBool::new(false);
-        let run = Run::of(Lock::Mcs, 2).mode(Mode::Seed(1)).open()?;
+        let run = Run::builder(Lock::Mcs, 2).mode(Mode::Seed(1)).open()?;
         let ending = run.threads(LIMIT, |_| while is_vain(&taken) {})?;
         assert!(matches!(&ending, Ending::Hangs(left) if left.len() == 1), "{ending:?}");
     }
@@ -308,7 +308,7 @@ fn threads_that_poll_for_ever_are_stopped() -> Result<(), Error> {
     for mode in [Mode::Seed(1), Mode::Free, Mode::Noise(1), Mode::Ordered] {
         let (open, begun) = (AtomicBool::new(false), Instant::now());
         let limit = if mode == Mode::Seed(1) { LIMIT * 9 } else { LONG };
-        let run = Run::of(Lock::Mcs, 3).mode(mode.clone()).open()?;
+        let run = Run::builder(Lock::Mcs, 3).mode(mode.clone()).open()?;
         let ending = run.threads(limit, |log| {
             while log.thread() != 1 && !open.load(SeqCst) {
                 thread::yield_now();
@@ -323,7 +323,7 @@ fn threads_that_poll_for_ever_are_stopped() -> Result<(), Error> {
 /// Thread 0 is in an operation when the time is over. Those that wait for its end are stopped too.
 #[test]
 fn who_waits_for_an_operation_is_stopped() -> Result<(), Error> {
-    let run = Run::of(Lock::Ticket, 4).mode(Mode::Ordered).open()?;
+    let run = Run::builder(Lock::Ticket, 4).mode(Mode::Ordered).open()?;
     let (tell, told) = mpsc::channel();
     let work = |log: &Log| {
         operation(|| thread::sleep(if log.thread() == 0 { 2 * LONG } else { LONG / 100 }));
@@ -340,7 +340,7 @@ fn who_waits_for_an_operation_is_stopped() -> Result<(), Error> {
 
 #[test]
 fn threads_of_ones_own_enter_a_run() -> Result<(), Error> {
-    let run = Run::of(Lock::Ticket, 2).bits(8).mode(Mode::Seed(1)).open()?;
+    let run = Run::builder(Lock::Ticket, 2).bits(8).mode(Mode::Seed(1)).open()?;
     let other = run.clone();
     let handle = thread::spawn(move || other.enter(1).map(|log| log.thread()));
     let entered = run.enter(0)?;
@@ -355,7 +355,7 @@ fn threads_of_ones_own_enter_a_run() -> Result<(), Error> {
 #[test]
 fn who_is_missing_after_a_wait() -> Result<(), Error> {
     for (limit, missing) in [(LIMIT, vec![]), (LONG, vec![0])] {
-        let run = Run::of(Lock::Ticket, 2).open()?;
+        let run = Run::builder(Lock::Ticket, 2).open()?;
         let work = move |run: Run, thread| {
             let _log = run.enter(thread).expect("it is free");
             let word = AtomicBool::new(false);
@@ -377,7 +377,7 @@ fn who_is_missing_after_a_wait() -> Result<(), Error> {
 #[test]
 fn a_panic_of_the_work_goes_on() -> Result<(), Error> {
     let lock = TicketLock::new();
-    let run = Run::of(Lock::Ticket, 2).bits(8).mode(Mode::Seed(1)).open()?;
+    let run = Run::builder(Lock::Ticket, 2).bits(8).mode(Mode::Seed(1)).open()?;
     let kept = run.clone();
     let caught = thread::spawn(move || {
         let _ = run.threads(LIMIT, |log| {

@@ -56,7 +56,7 @@ fn is_about(count: usize) -> bool {
 #[test]
 fn each_thread_has_a_noise_of_its_own() -> Result<(), Error> {
     let all = Mutex::new(Vec::new());
-    let run = Run::of(Lock::Ticket, 2).mode(Mode::Noise(1)).open()?;
+    let run = Run::builder(Lock::Ticket, 2).mode(Mode::Noise(1)).open()?;
     run.threads(LIMIT, |_| {
         let word = AtomicU8::new(0);
         for number in 0..COUNT {

@@ -52,7 +52,7 @@ fn each_operation_has_its_line() -> Result<(), Error> {
     ];
     for (due, operation) in rows {
         let word = AtomicUsize::new(3).noted(Word::Tail);
-        let got = moves(Run::of(Lock::Mcs, 1), || operation(&word))?;
+        let got = moves(Run::builder(Lock::Mcs, 1), || operation(&word))?;
         assert_eq!(got, Vec::from_iter((!due.is_empty()).then(|| due.to_owned())));
     }
     Ok(())
@@ -64,7 +64,7 @@ fn each_number_has_its_bits() -> Result<(), Error> {
     macro_rules! left {
         ($(($atomic:ident, $value:expr)),*) => { [$({
             let word = lockreplay_record::$atomic::new(0).noted(Word::Tail);
-            moves(Run::of(Lock::Mcs, 1), || word.store($value, SeqCst))?
+            moves(Run::builder(Lock::Mcs, 1), || word.store($value, SeqCst))?
         }),*] };
     }
     let got = [
@@ -91,7 +91,8 @@ fn each_operation_on_a_flag_has_its_line() -> Result<(), Error> {
         for (at, left) in due.into_iter().enumerate() {
             let (found, value) = (at / 2 == 1, at % 2 == 1);
             let flag = AtomicBool::new(found).noted(Word::Tail);
-            let got = moves(Run::of(Lock::Mcs, 1), || assert_eq!(operation(&flag, value), found))?;
+            let got =
+                moves(Run::builder(Lock::Mcs, 1), || assert_eq!(operation(&flag, value), found))?;
             assert_eq!(got, [format!("swap tail found {} left {left}", u8::from(found))]);
         }
     }
@@ -118,7 +119,7 @@ fn values_are_looked_up_before_they_are_left() -> Result<(), Error> {
     ];
     for (due, operation) in rows {
         LOOKED_UP.store(3, SeqCst);
-        let got = moves(Run::of(Lock::Mcs, 1), operation)?;
+        let got = moves(Run::builder(Lock::Mcs, 1), operation)?;
         assert_eq!(got.last().map(String::as_str), Some(due));
     }
     Ok(())
@@ -128,7 +129,7 @@ fn values_are_looked_up_before_they_are_left() -> Result<(), Error> {
 #[test]
 fn a_change_of_the_served_ticket_is_two_steps() -> Result<(), Error> {
     let served = AtomicU8::new(255).noted(Word::NowServing);
-    let got = moves(Run::of(Lock::Ticket, 1), || {
+    let got = moves(Run::builder(Lock::Ticket, 1), || {
         assert_eq!(served.fetch_add(1, SeqCst), 255);
         assert_eq!(served.fetch_sub(1, SeqCst), 0);
     })?;
@@ -143,7 +144,7 @@ fn a_change_of_the_served_ticket_is_two_steps() -> Result<(), Error> {
 fn counters_begin_where_the_run_says() -> Result<(), Error> {
     let (next, serving) = (AtomicU8::new(255), AtomicU8::new(255));
     let (next, serving) = (next.noted(Word::NextTicket), serving.noted(Word::NowServing));
-    let run = Run::of(Lock::Ticket, 1).bits(8).start(255).mode(Mode::Ordered).open()?;
+    let run = Run::builder(Lock::Ticket, 1).bits(8).start(255).mode(Mode::Ordered).open()?;
     run.threads(LIMIT, |_| {
         assert_eq!(next.fetch_add(1, SeqCst), 255);
         assert_eq!(next.fetch_add(1, SeqCst), 0);
@@ -162,7 +163,7 @@ fn counters_begin_where_the_run_says() -> Result<(), Error> {
 fn an_update_is_tried_with_what_it_found() -> Result<(), Error> {
     for seed in 0..20 {
         let word = AtomicUsize::new(0);
-        let run = Run::of(Lock::Mcs, 2).mode(Mode::Seed(seed)).open()?;
+        let run = Run::builder(Lock::Mcs, 2).mode(Mode::Seed(seed)).open()?;
         let ending = run.threads(LIMIT, |_| {
             for _ in 0..10 {
                 word.fetch_update(SeqCst, SeqCst, |found| Some(found + 1)).unwrap();
@@ -178,7 +179,7 @@ fn an_update_is_tried_with_what_it_found() -> Result<(), Error> {
 fn a_record_of_two_threads_is_each_ones_own() -> Result<(), Error> {
     let record = AtomicPtr::new(std::ptr::null_mut()).noted(Word::Next);
     let both = Barrier::new(2);
-    let run = Run::of(Lock::Mcs, 2).mode(Mode::Ordered).open()?;
+    let run = Run::builder(Lock::Mcs, 2).mode(Mode::Ordered).open()?;
     run.threads(LIMIT, |_| {
         own_record(&record);
         both.wait();
@@ -200,7 +201,8 @@ fn a_record_is_its_last_owners() -> Result<(), Error> {
     let logs = std::env::temp_dir().join(format!("lockreplay-owners-{}", std::process::id()));
     for mode in [Mode::Free, Mode::Ordered] {
         for taken in [&words[..], &words[1..], &words[..3]] {
-            let (run, all) = (Run::of(Lock::Mcs, 3).mode(mode.clone()).open()?, Barrier::new(3));
+            let (run, all) =
+                (Run::builder(Lock::Mcs, 3).mode(mode.clone()).open()?, Barrier::new(3));
             run.threads(LIMIT, |log| {
                 for (owner, record) in [(0, &words[..]), (1, taken), (0, &words[..])] {
                     all.wait();
@@ -229,7 +231,7 @@ fn a_record_that_grows_has_its_new_end() -> Result<(), Error> {
     let words = [0_u8, 1];
     let tail = AtomicPtr::new(std::ptr::null_mut()).noted(Word::Tail);
     let store = || tail.store(&words[1] as *const u8 as *mut u8, SeqCst);
-    let got = moves(Run::of(Lock::Mcs, 1), || {
+    let got = moves(Run::builder(Lock::Mcs, 1), || {
         own_record(&words[0]);
         store();
         own_record(&words);

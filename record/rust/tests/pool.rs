@@ -92,14 +92,15 @@ impl McsLock {
 /// The second thread has the first one's record when the third one finds it in the queue.
 #[test]
 fn a_record_is_its_last_owners_in_all_runs() {
-    let runs = explore(Run::of(Lock::Mcs, 3), 1, McsLock::new, |lock, _thread| lock.round());
+    let runs = explore(Run::builder(Lock::Mcs, 3), 1, McsLock::new, |lock, _thread| lock.round());
     assert!(runs > 6, "{runs}"); // more than the orders of threads that do not meet
 }
 
 #[test]
 fn a_record_is_its_last_owners_by_seeds() -> Result<(), Error> {
     for seed in 0..20 {
-        let (run, lock) = (Run::of(Lock::Mcs, 3).mode(Mode::Seed(seed)).open()?, McsLock::new());
+        let (run, lock) =
+            (Run::builder(Lock::Mcs, 3).mode(Mode::Seed(seed)).open()?, McsLock::new());
         let ending =
             run.threads(Duration::from_secs(60), |_| (0..20).for_each(|_| lock.round()))?;
         assert_eq!(ending, Ending::Complete);

@@ -16,7 +16,7 @@ const LIMIT: Duration = Duration::from_secs(60);
 /// What is said of the first run that is refused, of two threads with at most one preemption. The
 /// place of the move is in this file, whatever noted it.
 fn said<L: Sync>(lock: Lock, new: impl Fn() -> L, round: impl Fn(&L, usize) + Sync) -> String {
-    for run in Run::of(lock, 2).bits(8).explore(1) {
+    for run in Run::builder(lock, 2).bits(8).explore(1) {
         let (run, tested) = (run.unwrap(), new());
         run.threads(LIMIT, |log| round(&tested, log.thread())).unwrap();
         match run.check() {
@@ -248,7 +248,7 @@ fn another_call_of_a_thread_that_waits() {
 fn a_search_ends_with_a_panic() {
     let polls = |open: &AtomicU8, _| while open.load(SeqCst) == 0 {};
     let new = || AtomicU8::new(0);
-    let search = || explore(Run::of(Lock::Ticket, 2), 0, new, polls);
+    let search = || explore(Run::builder(Lock::Ticket, 2), 0, new, polls);
     let said = catch_unwind(search).expect_err("no thread gets on");
     let said = said.downcast_ref::<String>().expect("a text");
     assert_eq!(said, "run 1: it hangs: threads [0, 1] wait");
@@ -262,7 +262,7 @@ fn a_refusal_lists_the_moves() {
         let _call = call(Call::Acquire);
         note(Step::add(Word::NextTicket, 5));
     };
-    let search = || explore(Run::of(Lock::Ticket, 1).bits(8), 0, || (), round);
+    let search = || explore(Run::builder(Lock::Ticket, 1).bits(8), 0, || (), round);
     let said = catch_unwind(search).expect_err("no ticket was taken");
     let place = |line: u32| format!("tests/published.rs:{}", first + line);
     let due = format!(
@@ -284,7 +284,7 @@ fn a_run_that_does_not_end() {
         std::thread::sleep(Duration::from_secs(12));
         word.store(1, SeqCst);
     };
-    let search = || explore(Run::of(Lock::Ticket, 1), 0, || AtomicU8::new(0), sleeps);
+    let search = || explore(Run::builder(Lock::Ticket, 1), 0, || AtomicU8::new(0), sleeps);
     let said = catch_unwind(search).expect_err("its time is over");
     let due = "run 1: it did not end in 10s: thread 0 has its turn and does not give it back: it \
                blocks, or it polls without this crate's atomics";
@@ -294,7 +294,7 @@ fn a_run_that_does_not_end() {
 #[test]
 fn free_threads_have_no_order() {
     for (mode, has_order) in [(Mode::Free, false), (Mode::Noise(1), false), (Mode::Ordered, true)] {
-        let said = Run::of(Lock::Ticket, 1).mode(mode).open().unwrap().check();
+        let said = Run::builder(Lock::Ticket, 1).mode(mode).open().unwrap().check();
         let due = "of free threads `locktrace order` finds the order";
         assert_eq!(said.map_err(|error| error.to_string()).err(), (!has_order).then(|| due.into()));
     }
@@ -315,7 +315,7 @@ fn a_lost_notification() {
                 changed.notify_one();
             }
         };
-        let said = catch_unwind(|| explore(Run::of(Lock::RwSimple, 3), 0, new, round));
+        let said = catch_unwind(|| explore(Run::builder(Lock::RwSimple, 3), 0, new, round));
         let said = said.expect_err("two threads wait, and one is woken at most");
         let said = said.downcast_ref::<String>().expect("a text").lines().next().expect("a line");
         assert!(said.contains("it hangs: threads [") && said.ends_with(woke), "{said}");
@@ -346,7 +346,7 @@ fn two_mutexes() {
 
 /// The message on a thread that ends, or goes on, in an acquire with these steps.
 fn said_of_end(steps: &[Step], goes_on: bool) -> String {
-    let run = Run::of(Lock::Ticket, 1).bits(8).mode(Mode::Seed(1)).open().unwrap();
+    let run = Run::builder(Lock::Ticket, 1).bits(8).mode(Mode::Seed(1)).open().unwrap();
     let other = AtomicU8::new(0);
     let ending = run.threads(LIMIT, |_| {
         let _call = call(Call::Acquire);
@@ -374,7 +374,8 @@ fn another_end_of_a_thread() {
 #[test]
 fn a_full_log_has_no_end() {
     for (room, due) in [(1, ""), (2, "thread 0 has ended inside a call")] {
-        let run = Run::of(Lock::Ticket, 1).bits(8).mode(Mode::Seed(1)).room(room).open().unwrap();
+        let run =
+            Run::builder(Lock::Ticket, 1).bits(8).mode(Mode::Seed(1)).room(room).open().unwrap();
         let adds = |_: &_| {
             let _call = call(Call::Acquire);
             note(Step::add(Word::NextTicket, 0));

@@ -16,7 +16,7 @@ fn a_log_that_is_not_written_to_the_end_is_not_saved() -> Result<(), Error> {
     let folder = std::env::temp_dir().join(format!("lockreplay-refused-{}", std::process::id()));
     std::fs::create_dir_all(&folder).unwrap();
     std::os::unix::fs::symlink("/dev/full", folder.join("thread-0.log.part")).unwrap();
-    let run = Run::of(Lock::Mcs, 1).mode(Mode::Seed(1)).open()?;
+    let run = Run::builder(Lock::Mcs, 1).mode(Mode::Seed(1)).open()?;
     run.threads(LIMIT, |_| {})?;
     let said = run.save(&folder).expect_err("the device is full").to_string();
     assert!(said.contains("thread-0.log: No space left on device"), "{said}");
@@ -36,7 +36,7 @@ fn operations_in_vain_are_counted() -> Result<(), Error> {
     ];
     for poll in polls {
         let (flag, begun) = (AtomicBool::new(false), Instant::now());
-        let run = Run::of(Lock::Mcs, 2).mode(Mode::Seed(1)).open()?;
+        let run = Run::builder(Lock::Mcs, 2).mode(Mode::Seed(1)).open()?;
         let ending = run.threads(LIMIT, |log| while log.thread() == 1 && !poll(&flag) {})?;
         assert_eq!(ending, Ending::Hangs(vec![1]));
         assert!(begun.elapsed() < LIMIT);

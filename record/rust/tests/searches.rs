@@ -24,12 +24,12 @@ fn panic_of(work: impl FnOnce() + panic::UnwindSafe) -> String {
 #[test]
 fn a_search_in_which_nothing_is_noted_panics() {
     let driver_of_nothing = || {
-        explore(Run::of(Lock::Mcs, 2), 2, || (), |(), _| {});
+        explore(Run::builder(Lock::Mcs, 2), 2, || (), |(), _| {});
     };
     assert_eq!(panic_of(driver_of_nothing), EMPTY);
     let words_without_names = || {
         let new = || [AtomicU8::new(0), AtomicU8::new(0)];
-        explore(Run::of(Lock::Ticket, 2).bits(8), 1, new, |[next, serving], _| {
+        explore(Run::builder(Lock::Ticket, 2).bits(8), 1, new, |[next, serving], _| {
             let ticket = next.fetch_add(1, SeqCst);
             while serving.load(SeqCst) != ticket {}
             serving.store(ticket + 1, SeqCst);
@@ -40,7 +40,7 @@ fn a_search_in_which_nothing_is_noted_panics() {
 
 #[test]
 fn a_run_in_which_nothing_is_noted_is_not_accepted() -> Result<(), Error> {
-    let run = Run::of(Lock::Mcs, 2).mode(Mode::Seed(1)).open()?;
+    let run = Run::builder(Lock::Mcs, 2).mode(Mode::Seed(1)).open()?;
     run.threads(LIMIT, |_| switch())?;
     assert_eq!(run.check().map_err(|error| error.to_string()), Err(EMPTY.to_string()));
     Ok(())
@@ -50,7 +50,7 @@ fn a_run_in_which_nothing_is_noted_is_not_accepted() -> Result<(), Error> {
 #[test]
 fn an_empty_schedule_is_followed() -> Result<(), Error> {
     let schedule: Schedule = "lock mcs threads 2\n".parse()?;
-    let run = Run::of(Lock::Mcs, 2).mode(Mode::Follow(schedule)).open()?;
+    let run = Run::builder(Lock::Mcs, 2).mode(Mode::Follow(schedule)).open()?;
     run.threads(LIMIT, |_| {})?;
     run.check()
 }
@@ -59,7 +59,7 @@ fn an_empty_schedule_is_followed() -> Result<(), Error> {
 #[test]
 fn a_search_in_which_one_thread_notes_is_accepted() {
     let new = || AtomicU8::new(0).noted(Word::NextTicket);
-    let runs = explore(Run::of(Lock::Ticket, 2).bits(8), 1, new, |next, thread| {
+    let runs = explore(Run::builder(Lock::Ticket, 2).bits(8), 1, new, |next, thread| {
         if thread == 1 {
             let _call = call(Call::Acquire);
             next.fetch_add(1, SeqCst);
@@ -75,7 +75,7 @@ fn a_search_in_which_one_thread_notes_is_accepted() {
 fn others_come_between_a_peek_and_the_next_operation() -> Result<(), Error> {
     for reduces in [true, false] {
         let mut entered = Vec::new();
-        for run in Run::of(Lock::Ticket, 2).reduced(reduces).explore(1) {
+        for run in Run::builder(Lock::Ticket, 2).reduced(reduces).explore(1) {
             let (flag, entries) = (AtomicU8::new(0), AtomicUsize::new(0));
             run?.threads(LIMIT, |_| {
                 if flag.peek(SeqCst) == 0 {
@@ -147,7 +147,7 @@ fn a_try_that_decides_by_a_look_is_refused() {
     for (look, reduces) in looks.into_iter().flat_map(|look| [(look, true), (look, false)]) {
         let said = panic_of(move || {
             let new = || TicketLock { next: AtomicU16::new(0), serving: AtomicU16::new(0) };
-            let setup = Run::of(Lock::Ticket, 2).bits(16).reduced(reduces);
+            let setup = Run::builder(Lock::Ticket, 2).bits(16).reduced(reduces);
             explore(setup, 2, new, |lock, _| {
                 lock.acquire();
                 lock.release();

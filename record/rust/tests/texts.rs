@@ -51,7 +51,7 @@ fn each_call_and_outcome_has_its_word() -> Result<(), Error> {
         (Call::WriteUnlock, Outcome::Left, "wunlock", "section 1 left"),
     ];
     for (made, outcome, call_due, section_due) in rows {
-        let got = moves(Run::of(Lock::RwFifo, 1), || {
+        let got = moves(Run::builder(Lock::RwFifo, 1), || {
             let _call = call(made);
             Mutex::new(()).lock().unwrap().note(outcome);
         })?;
@@ -63,7 +63,7 @@ fn each_call_and_outcome_has_its_word() -> Result<(), Error> {
 #[test]
 fn a_poll_is_written_twice() -> Result<(), Error> {
     let served = AtomicU8::new(7).noted(Word::NowServing);
-    let got = moves(Run::of(Lock::Ticket, 1), || {
+    let got = moves(Run::builder(Lock::Ticket, 1), || {
         (0..5).for_each(|_| assert_eq!(served.load(SeqCst), 7));
         (0..3).for_each(|_| served.store(8, SeqCst));
         served.load(SeqCst);
@@ -71,7 +71,7 @@ fn a_poll_is_written_twice() -> Result<(), Error> {
     let (read, write) = ("read now_serving found 7", "write now_serving left 8");
     assert_eq!(got, [read, read, write, write, write, "read now_serving found 8"]);
     let state = Mutex::new(());
-    let got = moves(Run::of(Lock::RwSimple, 1), || {
+    let got = moves(Run::builder(Lock::RwSimple, 1), || {
         (0..4).for_each(|_| state.lock().unwrap().note(Outcome::Waits));
         state.lock().unwrap().note(Outcome::Entered);
     })?;
@@ -102,7 +102,7 @@ impl Record {
 #[test]
 fn records_are_known_by_their_addresses() -> Result<(), Error> {
     let (records, links) = ([Record::new(), Record::new()], AtomicUsize::new(0));
-    let run = Run::of(Lock::Mcs, 2).mode(Mode::Ordered).open()?;
+    let run = Run::builder(Lock::Mcs, 2).mode(Mode::Ordered).open()?;
     run.threads(LIMIT, |log| {
         let (own, other) = (&records[log.thread()], &records[1 - log.thread()]);
         if log.thread() == 1 {
@@ -134,7 +134,7 @@ fn records_are_known_by_their_addresses() -> Result<(), Error> {
 #[test]
 fn a_thread_changes_its_record() -> Result<(), Error> {
     let [first, second] = [Record::new(), Record::new()];
-    let got = moves(Run::of(Lock::Mcs, 1), || {
+    let got = moves(Run::builder(Lock::Mcs, 1), || {
         own_record(&first);
         first.next.store(first.pointer(), SeqCst);
         own_record(&second);
@@ -149,7 +149,7 @@ fn a_thread_changes_its_record() -> Result<(), Error> {
 fn a_full_log_counts_what_it_drops() -> Result<(), Error> {
     let word = AtomicU8::new(0).noted(Word::NextTicket);
     let path = folder("full");
-    let run = Run::of(Lock::Ticket, 1).bits(8).mode(Mode::Seed(9)).room(2).open()?;
+    let run = Run::builder(Lock::Ticket, 1).bits(8).mode(Mode::Seed(9)).room(2).open()?;
     run.threads(LIMIT, |_| (0..5).for_each(|n| assert_eq!(word.fetch_add(1, SeqCst), n)))?;
     run.save(&path)?;
     let moves = "add next_ticket found 0 left 1\nadd next_ticket found 1 left 2\n";
@@ -161,7 +161,7 @@ fn a_full_log_counts_what_it_drops() -> Result<(), Error> {
     assert_eq!(trace, format!("{header}\n{}{ends}", moves.replace("add", "0 add")));
     assert_eq!(number, same);
     // a later run of free threads leaves nothing of this one
-    let run = Run::of(Lock::Mcs, 1).open()?;
+    let run = Run::builder(Lock::Mcs, 1).open()?;
     run.save(&path)?;
     let (other, log) = numbered(&path, "thread-0.log");
     assert_eq!(log, "lock mcs threads 1 bits 64 thread 0\n# thread 0 has not ended\n");
@@ -176,7 +176,7 @@ fn a_full_log_counts_what_it_drops() -> Result<(), Error> {
 fn a_full_log_leaves_out_what_any_log_does() -> Result<(), Error> {
     let path = folder("full-of-polls");
     for room in 0..3 {
-        let run = Run::of(Lock::Ticket, 1).room(room).open()?;
+        let run = Run::builder(Lock::Ticket, 1).room(room).open()?;
         let reads = [7, 7, 7, 7, 0].map(|found| Step::read(Word::NowServing, found));
         run.threads(LIMIT, |_| reads.into_iter().for_each(note))?;
         run.save(&path)?;
@@ -192,7 +192,7 @@ fn a_full_log_leaves_out_what_any_log_does() -> Result<(), Error> {
 #[test]
 fn a_log_has_room_by_itself() -> Result<(), Error> {
     let path = folder("default-room");
-    let run = Run::of(Lock::Ticket, 1).open()?;
+    let run = Run::builder(Lock::Ticket, 1).open()?;
     run.threads(LIMIT, |_| (0..65_540).for_each(|n| note(Step::add(Word::NextTicket, n))))?;
     run.save(&path)?;
     let (_, log) = numbered(&path, "thread-0.log");
@@ -209,7 +209,7 @@ fn an_earlier_run_leaves_no_log() -> Result<(), Error> {
     for name in ["other.log", "run.trace", "thread-0.log", "thread-1.log", "thread-63.log"] {
         fs::write(path.join(name), "of an earlier run\n").expect("there is room");
     }
-    Run::of(Lock::Mcs, 1).open()?.save(&path)?;
+    Run::builder(Lock::Mcs, 1).open()?.save(&path)?;
     let entries = fs::read_dir(&path).expect("the folder is there");
     let mut names = Vec::from_iter(entries.map(|it| it.expect("it is there").file_name()));
     names.sort_unstable();
@@ -275,7 +275,7 @@ fn the_longest_round_has_room() -> Result<(), Error> {
     let path = folder("room");
     for (lock, moves, round) in rows {
         for dropped in [0, 1] {
-            let run = Run::of(lock, 1).room(moves - dropped).open()?;
+            let run = Run::builder(lock, 1).room(moves - dropped).open()?;
             run.threads(LIMIT, |_| round())?;
             run.save(&path)?;
             let (_, log) = numbered(&path, "thread-0.log");
@@ -301,7 +301,7 @@ fn a_saved_run_says_who_has_ended() -> Result<(), Error> {
         let poll = if room == 0 { "" } else { poll };
         let word = AtomicU8::new(0).noted(Word::NowServing);
         let path = folder("ends");
-        let run = Run::of(Lock::Ticket, 2).room(room).mode(mode.clone()).open()?;
+        let run = Run::builder(Lock::Ticket, 2).room(room).mode(mode.clone()).open()?;
         run.threads(limit, |log| while log.thread() == 0 && word.load(SeqCst) == 0 {})?;
         run.save(&path)?;
         let read = |name: &str| fs::read_to_string(path.join(name)).unwrap_or_default();
@@ -333,7 +333,7 @@ fn refuses<T>(result: Result<T, Error>, due: &str) {
 
 #[test]
 fn a_run_that_cannot_be_is_refused() {
-    let open = |threads, bits| Run::of(Lock::Ticket, threads).bits(bits).open();
+    let open = |threads, bits| Run::builder(Lock::Ticket, threads).bits(bits).open();
     refuses(open(0, 8), "a run has 1 to 64 threads, not 0");
     refuses(open(65, 8), "a run has 1 to 64 threads, not 65");
     refuses(open(1, 1), "a counter has 2 to 64 bits, not 1");
@@ -349,14 +349,14 @@ fn a_run_that_cannot_be_is_refused() {
     assert!(open(64, 6).is_err());
     let room = usize::MAX;
     let due = format!("no memory for 2 logs of {room} moves each");
-    refuses(Run::of(Lock::Mcs, 2).room(room).open(), &due);
+    refuses(Run::builder(Lock::Mcs, 2).room(room).open(), &due);
     let due = "there is no lock 'spin': the locks are ticket, mcs, rw-simple, rw-fifo";
     refuses("spin".parse::<Lock>(), due);
 }
 
 #[test]
 fn a_thread_that_cannot_enter_is_refused() -> Result<(), Error> {
-    let (first, second) = (Run::of(Lock::Mcs, 1).open()?, Run::of(Lock::Mcs, 1).open()?);
+    let (first, second) = (Run::builder(Lock::Mcs, 1).open()?, Run::builder(Lock::Mcs, 1).open()?);
     refuses(first.enter(1), "there is no thread 1: the run has 1, counted from 0");
     let log = first.enter(0)?;
     let due = "this thread has a log already: drop that before it enters a run";
@@ -372,8 +372,8 @@ fn a_thread_that_cannot_enter_is_refused() -> Result<(), Error> {
 /// An error of the system is the source of this crate's, and no other error has one.
 #[test]
 fn the_systems_error_is_the_source() -> Result<(), Error> {
-    let run = Run::of(Lock::Mcs, 1).open()?;
-    let kept = Run::of(Lock::Mcs, 1).kept_in("/dev/null/logs").open().map(drop);
+    let run = Run::builder(Lock::Mcs, 1).open()?;
+    let kept = Run::builder(Lock::Mcs, 1).kept_in("/dev/null/logs").open().map(drop);
     let read = Schedule::read("/dev/null/no.schedule").map(drop);
     let start = Err(Error::Start(std::io::Error::from_raw_os_error(20)));
     for result in [run.save("/dev/null/logs"), kept, read, start] {
@@ -387,7 +387,7 @@ fn the_systems_error_is_the_source() -> Result<(), Error> {
 
 #[test]
 fn a_run_whose_threads_do_not_come_is_stopped() -> Result<(), Error> {
-    let run = Run::of(Lock::Mcs, 2).open()?;
+    let run = Run::builder(Lock::Mcs, 2).open()?;
     let other = run.clone();
     let waits = std::thread::spawn(move || other.enter(0).map(drop));
     assert_eq!(run.wait(Duration::from_millis(50)), vec![0, 1]);

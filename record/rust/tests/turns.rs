@@ -21,7 +21,7 @@ fn each_operation_has_a_turn() -> Result<(), Error> {
     let by_priorities = Mode::Pct { seed: 1, depth: 2, steps: 9 };
     for (mode, due) in [(Mode::Seed(1), 5), (by_priorities, 5), (Mode::Ordered, 0)] {
         let word = AtomicU8::new(0).noted(Word::NextTicket);
-        let run = Run::of(Lock::Ticket, 1).mode(mode).open()?;
+        let run = Run::builder(Lock::Ticket, 1).mode(mode).open()?;
         assert_eq!(run.turns(), 0);
         run.threads(LIMIT, |_| (0..3).for_each(|n| assert_eq!(word.fetch_add(1, SeqCst), n)))?;
         assert_eq!(run.turns(), due);
@@ -34,7 +34,7 @@ fn each_operation_has_a_turn() -> Result<(), Error> {
 fn a_panic_ends_an_operation() -> Result<(), Error> {
     for mode in [Mode::Ordered, Mode::Seed(1), Mode::Free] {
         let word = AtomicU8::new(0).noted(Word::NextTicket);
-        let run = Run::of(Lock::Ticket, 2).bits(8).mode(mode).open()?;
+        let run = Run::builder(Lock::Ticket, 2).bits(8).mode(mode).open()?;
         let ending = run.threads(LONG, |_| {
             let panics = || operation(|| panic!("a panic of this test"));
             assert!(catch_unwind(panics).is_err());
@@ -52,7 +52,7 @@ fn each_thread_has_its_name() -> Result<(), Error> {
         let due = format!("thread {}", log.thread());
         assert_eq!(thread::current().name(), Some(due.as_str()));
     };
-    assert_eq!(Run::of(Lock::Mcs, 3).open()?.threads(LIMIT, named)?, Ending::Complete);
+    assert_eq!(Run::builder(Lock::Mcs, 3).open()?.threads(LIMIT, named)?, Ending::Complete);
     Ok(())
 }
 
@@ -78,10 +78,10 @@ fn patience_has_an_end() -> Result<(), Error> {
     let operations: [(&(dyn Fn() + Sync), usize); 3] = [(&looks, 2), (&reads, 4), (&waits, 4)];
     for (operation, beside) in operations {
         for room in [0, 1, 9] {
-            let run = Run::of(Lock::RwSimple, 1).room(room).mode(Mode::Seed(1)).open()?;
+            let run = Run::builder(Lock::RwSimple, 1).room(room).mode(Mode::Seed(1)).open()?;
             assert_eq!(turns_in_vain(&run, operation)?, 20_000 + beside);
         }
-        let run = Run::of(Lock::RwSimple, 1).explore(0).next().expect("there is one")?;
+        let run = Run::builder(Lock::RwSimple, 1).explore(0).next().expect("there is one")?;
         assert_eq!(turns_in_vain(&run, operation)?, 1_000 + beside);
     }
     Ok(())
@@ -91,7 +91,7 @@ fn patience_has_an_end() -> Result<(), Error> {
 /// times.
 #[test]
 fn all_poll_by_turns() -> Result<(), Error> {
-    let setup = || Run::of(Lock::Ticket, 2);
+    let setup = || Run::builder(Lock::Ticket, 2);
     let by_priorities = |seed| setup().mode(Mode::Pct { seed, depth: 1, steps: 9 }).open();
     for run in (0..9).map(by_priorities).chain(setup().explore(0)) {
         let words = [AtomicU8::new(0), AtomicU8::new(0)];
@@ -117,7 +117,7 @@ fn turns_until_a_wake(seed: u64, spurious: Option<usize>) -> Result<usize, Error
     let (state, changed) = (Mutex::new(()), Condvar::new());
     let (waits, is_awake) = (AtomicBool::new(false), AtomicBool::new(false));
     let turns = AtomicUsize::new(0);
-    let setup = Run::of(Lock::RwSimple, 2).mode(Mode::Seed(seed));
+    let setup = Run::builder(Lock::RwSimple, 2).mode(Mode::Seed(seed));
     let run = spurious.map_or(setup.clone(), |one_in| setup.spurious(one_in)).open()?;
     let ending = run.threads(LIMIT, |log| {
         if log.thread() == 0 {

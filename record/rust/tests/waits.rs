@@ -38,7 +38,7 @@ fn waits_of(run: &Run) -> Result<(), Error> {
 /// fourth, so the lock may be free by then.
 #[test]
 fn a_wait_after_a_move_of_another_thread_is_written() -> Result<(), Error> {
-    let run = Run::of(Lock::RwSimple, 2).mode(Mode::Ordered).open()?;
+    let run = Run::builder(Lock::RwSimple, 2).mode(Mode::Ordered).open()?;
     waits_of(&run)?;
     let due = "\n1 section 1 waits\n1 section 2 waits\n0 rlock\n1 section 4 waits\n\
                1 section 6 entered\n";
@@ -49,7 +49,7 @@ fn a_wait_after_a_move_of_another_thread_is_written() -> Result<(), Error> {
 /// Free threads do not know of each other's moves.
 #[test]
 fn free_threads_write_two_waits() -> Result<(), Error> {
-    let run = Run::of(Lock::RwSimple, 2).open()?;
+    let run = Run::builder(Lock::RwSimple, 2).open()?;
     waits_of(&run)?;
     let logs = std::env::temp_dir().join(format!("lockreplay-waits-{}", std::process::id()));
     run.save(&logs)?;
@@ -86,7 +86,7 @@ fn round(is_inside: &Mutex<bool>, thread: usize) {
 /// The third look of the reader is after the writer has left, so the published lock enters.
 #[test]
 fn a_wrong_third_wait_is_refused_in_one_of_all_runs() {
-    let search = || explore(Run::of(Lock::RwSimple, 2), 1, || Mutex::new(false), round);
+    let search = || explore(Run::builder(Lock::RwSimple, 2), 1, || Mutex::new(false), round);
     let said = catch_unwind(search).expect_err("it waits for nobody");
     let said = said.downcast_ref::<String>().expect("a text");
     assert!(said.contains(", '1 section 5 waits': OtherOutcome: "), "{said}");
@@ -101,7 +101,7 @@ fn a_wrong_third_wait_is_refused_by_seeds() -> Result<(), Error> {
     for modes in [seeded, seeds.map(by_priorities).collect()] {
         let mut refused = 0;
         for mode in modes {
-            let run = Run::of(Lock::RwSimple, 2).mode(mode).spurious(0).open()?;
+            let run = Run::builder(Lock::RwSimple, 2).mode(mode).spurious(0).open()?;
             let is_inside = Mutex::new(false);
             run.threads(LIMIT, |log| round(&is_inside, log.thread()))?;
             let fault = run.check().map_or_else(|error| error.to_string(), |()| String::new());
@@ -117,7 +117,7 @@ fn a_wrong_third_wait_is_refused_by_seeds() -> Result<(), Error> {
 #[test]
 fn threads_that_only_wait_hang() -> Result<(), Error> {
     let (state, changed) = (Mutex::new(()), Condvar::new());
-    let run = Run::of(Lock::RwSimple, 2).mode(Mode::Seed(2)).spurious(2).open()?;
+    let run = Run::builder(Lock::RwSimple, 2).mode(Mode::Seed(2)).spurious(2).open()?;
     let ending = run.threads(LIMIT, |_| {
         let mut section = state.lock().unwrap();
         loop {

@@ -49,7 +49,7 @@ fn follow<L: Tested>(
     path: &Path,
     folder: &Path,
 ) -> Result<Option<String>, Error> {
-    let setup = Run::of(schedule.lock(), schedule.threads()).bits(L::BITS);
+    let setup = Run::builder(schedule.lock(), schedule.threads()).bits(L::BITS);
     let run = setup.room(schedule.moves() + 1).mode(Mode::Follow(schedule)).open()?;
     let make_calls = |lock: &L, log: &Log| {
         while let Some(call) = log.next_call() {

@@ -123,7 +123,7 @@ fn record<L: Tested>(mode: &str, words: &Words) -> Option<Result<Told, Error>> {
 }
 
 fn setup<L: Tested>(threads: usize, rounds: usize) -> RunBuilder {
-    Run::of(L::LOCK, threads).bits(L::BITS).room(rounds.saturating_mul(MOST_MOVES))
+    Run::builder(L::LOCK, threads).bits(L::BITS).room(rounds.saturating_mul(MOST_MOVES))
 }
 
 /// Makes one run with a new lock.
