@@ -165,7 +165,7 @@ page-module:
 	$(if $(kit),$(MAKE) --no-print-directory $(MODULE))
 	$(if $(kit),,node page/build/module.mjs $(page_module))
 
-## pictures | takes the picture of the guide from the page
+## pictures | accepts the page's looks as its reference pictures, and takes that of the guide
 pictures:
 	tests/page/screenshots.py
 

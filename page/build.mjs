@@ -36,10 +36,10 @@ const read = (...path) => readFileSync(join(HERE, ...path), 'utf8');
 // The data never has a `<`, so that no text of a lesson can end the script.
 const asScript = (data) => JSON.stringify(data).replaceAll('<', '\\u003c');
 
-// Without comments and indents, which a reader finds in the sources.
+// Without comments, indents and ends of lines, which a reader finds in the sources.
 const style = () => facesOf(join(HERE, 'fonts')) + readdirSync(join(SOURCES, 'style')).sort()
   .map((name) => read('src', 'style', name)).join('')
-  .replace(/^ *\/\*[^*]*\*\/\n/gm, '').replace(/^\s+/gm, '').trimEnd();
+  .replace(/^ *\/\*[^*]*\*\/\n/gm, '').replace(/^\s+/gm, '').replace(/([;{}])\n/g, '$1').trimEnd();
 
 // A script runs only if its bytes are these.
 function policy(script) {

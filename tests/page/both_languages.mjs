@@ -44,7 +44,8 @@ for (const [others, kept, said] of FILES) {
 // A text has in both languages the same values, numbers, quotes and sign at its end, in the same
 // order, except for the key Pos1, the name of a panel, and numbers that begin at 0 again.
 const OTHERWISE = [
-  'page.keys.list.1.0', 'page.own.several', 'rwFifo.wraps', 'ticket.captions.wraps', 'ticket.wraps',
+  'page.keys.list.1.0', 'page.own.several', 'page.picks.hint', 'rwFifo.wraps',
+  'ticket.captions.wraps', 'ticket.wraps',
 ];
 const PART = /<[\w.]+>|\{\w+\}|\d+|[“„”]|[.?!:…]$/g;
 // A value that a text takes, and its own values, by their names or in a list.

@@ -26,14 +26,6 @@ const LATE_LINK = `lock mcs threads 2
 1 read
 `;
 
-const READER_WAITS = `lock rw-simple threads 2
-0 wlock
-0 section
-1 rlock
-1 section
-0 wunlock
-`;
-
 const DOWNGRADE = `lock rw-fifo threads 3 bits 2
 2 wlock
 2 section
@@ -49,11 +41,6 @@ const ROWS = [
     what: 'a fault is numbered',
     text: 'lock mcs threads 0\n', most: 9, records: 0, state: STATE_BYTES, answer: 2,
     inState: { 0: 2, 4: 18, 8: 1 },
-  },
-  {
-    what: 'a state that is too short is left alone',
-    text: 'lock mcs threads 1\n', most: 9, records: 0, state: STATE_BYTES - 1, answer: 3,
-    inState: { 0: OLD, 2302: OLD },
   },
   {
     what: 'a late link is seen',
@@ -101,18 +88,6 @@ const ROWS = [
     },
   },
   {
-    what: 'a reader waits from its first failed poll on',
-    text: READER_WAITS, most: 9, records: 5 * RECORD_BYTES, state: STATE_BYTES, answer: 0,
-    inRecords: {
-      // the writer may stop writing or become a reader
-      [at(2, 9)]: 5, [at(2, 15)]: 96,
-      // the reader's call, and its failed poll
-      [at(3, 9)]: 0, [at(4, 9)]: 16, [at(4, 15)]: 0,
-    },
-    // no thread has a record
-    inState: { 195: 0, 196: 0, 197: 0 },
-  },
-  {
     what: 'a downgrade changes two words',
     text: DOWNGRADE, most: 4, records: 5 * RECORD_BYTES + 20, state: STATE_BYTES, answer: 0,
     inRecords: {
@@ -126,16 +101,6 @@ const ROWS = [
     },
     // the others may come
     inState: { 40: 2, 44: 1, 64: 2, 194: 20, 210: 20, 226: 8 },
-  },
-  {
-    what: 'no move is asked for',
-    text: LATE_LINK, most: 0, records: 0, state: STATE_BYTES, answer: 0,
-    inState: { 28: 0, 32: 11, 40: 0, 194: 1 },
-  },
-  {
-    what: 'the moves before the refused one are asked for',
-    text: LATE_LINK, most: 10, records: 0, state: STATE_BYTES, answer: 0,
-    inState: { 28: 10, 48: 2 },
   },
 ];
 

@@ -4,6 +4,7 @@ const isHall = () => document.body.classList.contains('hall');
 
 // The question of the quiz, or false if part of it is off the screen.
 function asked() {
+  passPicks();
   const form = byId('quiz-form');
   return form && all('input, button', form).every((one) => inside(rect(one), screenBox()))
     && { move: Number(form.dataset.move), kind: form.dataset.kind };
@@ -13,21 +14,6 @@ function asked() {
 function isBlack() {
   const { backgroundColor, position } = getComputedStyle(document.body, '::after');
   return position === 'fixed' && backgroundColor === 'rgb(0, 0, 0)';
-}
-
-// How many lines the code has, and how many of them are visible.
-function code() {
-  const box = rect(byId('code-lines'));
-  const lines = all('#code-lines .code-line').map(rect);
-  const isSeen = ({ top, bottom }) => top >= box.top - 1 && bottom <= box.bottom + 1;
-  return [lines.length, lines.filter(isSeen).length];
-}
-
-// The texts of the memory picture that are cut or partly out of view.
-function cut() {
-  const box = rect(byId('memory-picture'));
-  return all('#memory-picture text').filter((one) => !inside(rect(one), box)
-    || one.lastChild.textContent.endsWith('…')).map((one) => one.textContent);
 }
 
 // The name and the text of the file with the answers.

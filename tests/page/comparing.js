@@ -15,22 +15,4 @@ function compared() {
   };
 }
 
-// The distance from the ink of each sign of a difference down to its dashed line, in the picture.
-const belowSigns = () => all('.different-sign').map((sign) => {
-  const pen = document.createElement('canvas').getContext('2d');
-  pen.font = getComputedStyle(sign).font;
-  const ink = sign.y.baseVal[0].value + pen.measureText(sign.textContent).actualBoundingBoxDescent;
-  return sign.parentNode.querySelector('.different').getBBox().y - ink;
-});
-
-// The words of both runs on which a sign of a difference lies. Boxes are taller than their ink.
-const wordsUnderSigns = () => all('.different-sign').flatMap((sign) => {
-  const [box, run] = [rect(sign), sign.closest('svg')];
-  return [...run.querySelectorAll('text:not(.different-sign)')].filter((word) => {
-    const other = rect(word);
-    return other.left < box.right - 5 && box.left < other.right - 5 && other.top < box.bottom - 5
-      && box.top < other.bottom - 5;
-  }).map((word) => word.textContent);
-});
-
 const offered = () => (byId('choose-other').open ? texts('#other-list button') : null);

@@ -50,8 +50,6 @@ function blankMemory() {
   return found;
 }
 
-const viewBoxes = () => all('#paper .figure svg').map((one) => one.getAttribute('viewBox'));
-
 // How these are drawn, each look once.
 const looksOf = (selector) => [...new Set(all(`#paper ${selector}`).map((one) => {
   const { fill, stroke, strokeDasharray, strokeWidth } = getComputedStyle(one);
@@ -60,10 +58,3 @@ const looksOf = (selector) => [...new Set(all(`#paper ${selector}`).map((one) =>
 
 // The looks of the first sign of the legend, and of the blanks in the lanes.
 const blanks = () => ['.legend > span > :first-child .step', '.strip .step.blank'].map(looksOf);
-
-// The sheet that the page prints at a move.
-function sheetAt(move) {
-  go(move);
-  sheet();
-  return byId('paper').innerHTML;
-}

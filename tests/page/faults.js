@@ -9,17 +9,6 @@ const offered = () => pick('#verdict [data-mend]')?.dataset.mend ?? null;
 const markup = () => [count('img, h1 b, main b b, i, main h1, #paper b, main script, main style'),
   window.broken ?? null, byId('title').textContent];
 
-// The top and the bottom of the band of a wrong line, and those of its number.
-const bandAndNumber = () => ['#band .fault', '#gutter .fault'].map(rect)
-  .map(({ top, bottom }) => [top, bottom]);
-
 // The parts that say what is wrong.
 const places = () => visible('.verdict.bad').map((one) => one.closest('[id]').id);
 const allText = () => ['main', '#verdict'].map((one) => pick(one).textContent).join('');
-
-// Elements that are wider than the panel or than their own box.
-function wide() {
-  const { right } = rect(byId('side'));
-  return all('#verdict, #verdict *').filter((one) => rect(one).right > right + 1
-    || (one.scrollWidth > one.clientWidth + 1 && one.clientWidth)).map((one) => one.className);
-}

@@ -39,7 +39,6 @@ function line() {
 }
 
 const isSeen = (selector) => pick(selector).checkVisibility();
-const lanesHeight = () => rect(byId('lanes')).height;
 const header = () => isSeen('header');
 
 function inView() {
@@ -58,14 +57,6 @@ function blockLetters() {
   FontFace.prototype.load = () => Promise.reject(new Error('blocked'));
 }
 
-// Gives the question of the quiz a wrong answer, and returns its kind; false without a question.
-function answerWrongly() {
-  const form = byId('quiz-form');
-  if (!form) return false;
-  answer(form.dataset.kind === 'outcome' ? 'left' : '1,1');
-  return form.dataset.kind;
-}
-
 function choosePart(name) {
   click('#show-view');
   click(`#view [name=${name}]`);
@@ -74,11 +65,3 @@ function choosePart(name) {
 
 const partsTicked = () => all('#view :checked').map(({ name }) => name)
   .filter((name) => PARTS.includes(name));
-
-function story() {
-  return {
-    story: count('.story[open]'), faint: count('#lanes .future'), marks: count('#lanes .move'),
-    links: count('#memory-picture .link'), caption: text('#memory-caption'),
-    answers: count('.question details[open]'),
-  };
-}

@@ -11,22 +11,6 @@ const language = () => document.documentElement?.lang;
 const hasBegunIn = (name) => isThere() && language() === name;
 const said = (name) => atEachPlace(name, () => pick('main').textContent);
 
-function cutNow() {
-  const { left, right } = rect(byId('memory-picture'));
-  return all('#memory-picture text').filter((one) => one.lastChild.textContent.endsWith('…')
-    || rect(one).left < left - 1.5 || rect(one).right > right + 1.5)
-    .map((one) => one.lastChild.textContent);
-}
-
-const cut = (name) => atEachPlace(name, cutNow);
-
-// A map from the kind of a stretch of a lane to its meaning in the legend.
-const signs = () => Object.fromEntries(all('#legend > span:has(.span)').map((one) => [
-  one.querySelector('.span').classList[1], saidBy(one)]));
-
-// The plain words on each of these moves.
-const plainAt = (moves) => atEach(moves, () => text('#now .plain'));
-
 // Each marked term, with what is said of it while it has the focus.
 const meanings = (terms) => all(terms).map((one) => {
   one.focus();

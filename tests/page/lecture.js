@@ -19,27 +19,6 @@ function step() {
   };
 }
 
-// The smallest letters in the memory of two runs, and the distance between two lanes, as shares of
-// the screen's height.
-function compared() {
-  const scale = (one) => rect(one).width / one.viewBox.baseVal.width;
-  const letters = all('#there-picture text, #memory-picture text').map((one) => (
-    parseFloat(getComputedStyle(one).fontSize) * scale(one.closest('svg'))));
-  const [above, below] = all('#lanes .lane-name').map(rect);
-  return [Math.min(...letters), below.top - above.top].map((one) => one / innerHeight);
-}
-
-// The words of moves that lie over their marks.
-const wordsOffMarks = () => all('#lanes [data-move], #other [data-move]').filter((one) => {
-  const [word, mark] = ['.word-label', ':is(.step, .call-mark)'].map((name) => (
-    one.querySelector(name)?.getBBox()));
-  return word && mark && word.y < mark.y + mark.height && mark.y + 4 < word.y + word.height;
-}).map(saidBy);
-
-// The texts of the memory picture that are wholly in view.
-const seenOfMemory = () => all('#memory-picture text')
-  .filter((one) => inside(rect(one), rect('#memory'))).map(saidBy);
-
 // Moves the clock of the browser on by minutes.
 function wait(minutes) {
   const { now } = Date;
@@ -79,7 +58,6 @@ const takenThere = (names) => names.filter((name) => !window.opened.dispatchEven
 const clockThere = () => window.opened.document.querySelector('.clock b').textContent;
 const picturesThere = () => window.opened.document.querySelectorAll('.picture svg').length;
 const stylesThere = () => window.opened.document.querySelectorAll('style').length;
-const languageThere = () => window.opened.document.documentElement.lang;
 const windowThere = () => {
   const { title, body, head } = window.opened.document;
   return [title, body.className, head.textContent.includes(pick('style').textContent)];

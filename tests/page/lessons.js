@@ -13,12 +13,7 @@ function atMove() {
   };
 }
 
-// The texts in the picture of memory, and the marks of each line of code.
-const memoryAt = (moves) => atEach(moves, () => [
-  texts('#memory-picture text'), texts('#code-lines .code-line')]);
-
 const banner = () => byId('banner').checkVisibility();
-const answerIsOpen = () => pick('#now .question details')?.open ?? null;
 
 const wrote = (moves) => atEach(moves, () => pick('dd.wrote').textContent);
 
@@ -27,21 +22,3 @@ const said = (moves) => atEach(moves, () => {
   key('a');
   return text('#now .say:not(.own-say), #now details.aside > p.aside');
 });
-
-// The record at which, or just before which, each pointer ends.
-const pointedAt = () => all('#memory-picture .link:not(.missing)').map((path) => {
-  const { x, y } = endOf(path);
-  const near = ({ left, right, top, bottom }) => x > left - 9 && x < right && y > top - 9
-    && y < bottom;
-  return all('.record .frame').find((one) => near(rect(one)))?.closest('.record').dataset.record;
-});
-
-// For each arrow in the lanes, the moves from which and to which it leads.
-function waitsEnded() {
-  const middles = all('#lanes .move').map((one) => (
-    [Number(one.dataset.move), middleX(one.querySelector('.target'))]));
-  const nearest = (x) => middles.reduce((one, other) => (
-    Math.abs(one[1] - x) < Math.abs(other[1] - x) ? one : other))[0];
-  return all('#lanes .arrow:not(.halo)').map((path) => (
-    [nearest(beginOf(path).x), nearest(endOf(path).x)]));
-}

@@ -19,10 +19,3 @@ function beforeMark(move) {
 // How many arrows back and heads of arrows there are, and the moves before which there is a line.
 const signs = () => [count('#numbers .loop'), count('#numbers .loop-tip'),
   all('#lanes [data-loop]').map((one) => Number(one.dataset.loop))];
-
-// The sentences that are not wholly in view.
-function cut() {
-  return visible('.loop-said').filter((one) => (
-    ![rect(one.closest('#now, #bar')), screenBox()]
-      .every((box) => inside(rect(one), box)))).map(saidBy);
-}

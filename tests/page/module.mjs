@@ -6,10 +6,8 @@
 // record names with the states before and after it; the states that the page reads off the records,
 // with allowed calls, with those that the machine writes; and who waits, and at the end each
 // thread's allowed calls and due step, with the answers to further moves. It also compares the
-// states of the named schedules. Then it checks where words and names of an MCS lock are, the
-// ranges of numbers in a header, where a line stops being a header or a move, and the answers of
-// `play` to a text that is too long, to a state that is too short, and with room for one record of
-// two.
+// states of the named schedules. Then it checks where words and names of an MCS lock are, and
+// the ranges of numbers in a header.
 
 import assert from 'node:assert/strict';
 import { readFileSync } from 'node:fs';
@@ -17,10 +15,10 @@ import { rangesOf } from '../../page/build/ranges.mjs';
 import {
   ANSWER, AS_WRITER, CALLS, HOLDS, IN_QUEUE, isStep, MOVES, OUTCOME, UNLINKED, WAITS,
 } from '../../page/src/machine/codes.js';
-import { Records, RECORD_BYTES, STATE_BYTES } from '../../page/src/machine/machine.js';
-import { lastLine, reportOf } from '../../page/src/model/report.js';
+import { Records } from '../../page/src/machine/machine.js';
+import { reportOf } from '../../page/src/model/report.js';
 import { Run } from '../../page/src/model/run.js';
-import { bytesOf, examples, machineOf, module, OLD, playInto, textOf } from './node.mjs';
+import { bytesOf, examples, machineOf, module } from './node.mjs';
 
 const MOST_WORDS = 129;
 const A_WRITER = 3;
@@ -156,48 +154,6 @@ function checkNumbers(machine, bytes) {
   assert.deepEqual(rangesOf(bytes), { threads: [1, 64], bits: [2, 64], thread: [0, 255] });
 }
 
-// The column where a line stops, by docs/FORMATS.md. A missing word would come after a blank.
-const HEADERS = [
-  ['', 1, 'lock'], ['Lock mcs threads 2', 1, 'lock'], ['lock', 6, 'name'], ['lock clh', 6, 'name'],
-  ['lock mcs', 10, 'threads'], ['lock mcs thread 2', 10, 'threads'],
-  ['lock mcs threads 65', 18, 'count'], ['lock mcs threads 2 bit 8', 20, 'bits'],
-  ['lock mcs threads 2 bits', 25, 'width'], ['lock mcs threads 2 bits 1', 25, 'width'],
-  ['lock mcs threads 2 bits 8 ', 27, 'end'],
-];
-const MOVE_LINES = [
-  ['', 1, 'thread'], ['00 read', 1, 'thread'], ['256 read', 1, 'thread'], ['255', 5, 'action'],
-  ['0 Read', 3, 'action'], ['63 acquire 1', 12, 'end'],
-];
-
-function checkStops(machine) {
-  const check = (rows, isMove) => rows.forEach(([line, column, expected]) => {
-    assert.deepEqual(machine.stop(line, isMove), { column, expected }, line);
-  });
-  check(HEADERS, false);
-  check(MOVE_LINES, true);
-  assert.equal(machine.stop('lock mcs threads 64 bits 2', false), null);
-  assert.equal(machine.stop('255 downgrade', true), null);
-}
-
-function checkRoom(machine) {
-  const long = new Run(machine, new Uint8Array(1048577).fill(10));
-  assert.equal(reportOf(long), 'fault TooLong\n');
-  // The moves before the one that is too many can be stepped through.
-  const many = new Run(machine, textOf('lock ticket threads 2', '0 acquire', '0 add', '1 acquire',
-    '1 add', ...Array(65533).fill('1 read')));
-  assert.equal(many.count, 65536);
-  assert.equal(lastLine(many), 'fault line 65538 TooManyMoves');
-  const text = textOf('lock mcs threads 2', '0 acquire', '0 write');
-  const short = playInto(machine, text, { most: 9, records: 0, state: STATE_BYTES - 1 });
-  assert.equal(short.answer, ANSWER.short);
-  assert.ok(short.state.every((byte) => byte === OLD), 'a state that is too short was written to');
-  const one = playInto(machine, text,
-    { most: 9, records: 2 * RECORD_BYTES - 1, state: STATE_BYTES });
-  assert.equal(one.answer, ANSWER.accepted);
-  assert.ok(one.records.subarray(RECORD_BYTES).every((byte) => byte === OLD),
-    'a record was written that does not fit wholly');
-}
-
 const machine = machineOf();
 assert.deepEqual(WebAssembly.Module.imports(new WebAssembly.Module(module)), []);
 for (const { text, report } of examples()) checkExample(machine, text, report);
@@ -208,5 +164,3 @@ const threads = Array.from({ length: 64 }, (_, thread) => thread);
 checkOwned(machine, threads);
 checkOwned(machine, [...threads].reverse());
 checkNumbers(machine, module);
-checkStops(machine);
-checkRoom(machine);

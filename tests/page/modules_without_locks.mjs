@@ -8,7 +8,6 @@ import { mkdtempSync, rmSync, writeFileSync } from 'node:fs';
 import { tmpdir } from 'node:os';
 import { join } from 'node:path';
 import { packed } from '../../page/build/packing.mjs';
-import { animated } from '../../page/src/lib/animated_png.js';
 import { lastUpTo, placeAfter } from '../../page/src/lib/ascending.js';
 import {
   beforeLine, beginsWith, bytesOf, fromLink, lettersOf, lineOf, linesIn, sameBytes, toBase64,
@@ -85,40 +84,6 @@ assert.deepEqual([1, 3, 9].map((line) => letters(beforeLine(TEXT, line))),
   ['', 'one\n\n', 'one\n\nthree\nfour']);
 assert.equal(letters(withoutLines(TEXT, [1, 4])), '\nthree\n');
 assert.equal(letters(withoutLines(TEXT, [2])), 'one\nthree\nfour');
-
-// Three pictures become one animation, whose chunks have the delay of each frame.
-function chunk(type, data) {
-  const view = new DataView(new ArrayBuffer(12 + data.length));
-  view.setUint32(0, data.length);
-  [...bytes(type), ...data].forEach((byte, at) => view.setUint8(4 + at, byte));
-  return [...new Uint8Array(view.buffer)];
-}
-
-const picture = (byte) => Uint8Array.from([137, 80, 78, 71, 13, 10, 26, 10,
-  ...chunk('IHDR', [0, 0, 0, 9, 0, 0, 0, 5, 8, 6, 0, 0, 0]), ...chunk('IDAT', [byte]),
-  ...chunk('IEND', [])]);
-
-// {type, data} of each chunk.
-function chunksOf(png) {
-  const view = new DataView(png.buffer);
-  const found = [];
-  for (let at = 8; at < png.length; at += view.getUint32(at) + 12) {
-    const data = [...png.subarray(at + 8, at + 8 + view.getUint32(at))];
-    found.push({ type: letters(png.subarray(at + 4, at + 8)), data });
-  }
-  return found;
-}
-
-const moving = chunksOf(animated([1, 2, 3].map(picture), 1200, 3000));
-assert.deepEqual(moving.map(({ type }) => type),
-  ['IHDR', 'acTL', 'fcTL', 'IDAT', 'fcTL', 'fdAT', 'fcTL', 'fdAT', 'IEND']);
-assert.deepEqual(moving[1].data, [0, 0, 0, 3, 0, 0, 0, 0]);
-// A frame: number of the chunk, width, height, offsets, delay in ms over 1000, disposal, blending.
-const frame = (number, high, low) => [0, 0, 0, number, 0, 0, 0, 9, 0, 0, 0, 5, ...Array(8).fill(0),
-  high, low, 3, 232, 0, 0];
-assert.deepEqual([2, 4, 6].map((at) => moving[at].data),
-  [frame(0, 4, 176), frame(1, 4, 176), frame(3, 11, 184)]);
-assert.deepEqual([3, 5, 7].map((at) => moving[at].data), [[1], [0, 0, 0, 2, 2], [0, 0, 0, 4, 3]]);
 
 // A text that is no UTF-8 becomes one letter for each byte, and becomes the same bytes again. A
 // letter beyond a byte makes it UTF-8.

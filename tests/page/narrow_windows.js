@@ -24,13 +24,3 @@ function cutSideways(selector) {
 
 const zoom = () => (
   Math.round(Number(document.body.style.getPropertyValue('--zoom')) * 100) / 100);
-
-// Whether all of an element is seen: on the screen, and in each part that can be scrolled.
-function isInView(selector) {
-  const node = pick(selector);
-  const boxes = [screenBox()];
-  for (let around = node.parentElement; around !== document.body; around = around.parentElement) {
-    if (getComputedStyle(around).overflowY !== 'visible') boxes.push(rect(around));
-  }
-  return boxes.every((box) => rect(node).top >= box.top - 2 && rect(node).bottom <= box.bottom + 2);
-}

@@ -59,9 +59,3 @@ function fieldOfOpen() {
   click('#open');
   return asked;
 }
-
-// How many lines have a number before the page has played what is typed.
-function numbersOf(letters) {
-  typed(letters);
-  return count('#gutter div div');
-}

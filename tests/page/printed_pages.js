@@ -19,7 +19,6 @@ function print(sheet) {
 
 const rows = () => all('#paper tbody tr').map((row) => (
   [...row.cells].map((cell) => cell.textContent)));
-const movesOfStrips = () => all('#paper .strip').map((one) => all('.move', one).length);
 const words = (selector) => pick(selector).textContent;
 
 // Applies the style for a printer: rules for the screen are off, and rules for paper are on.
@@ -75,27 +74,6 @@ function marksToFillIn() {
   };
 }
 
-// The height and the edge of the body as it is printed.
-function bodyOnPaper() {
-  stylePaper();
-  return [rect(document.body).height, styleOf('body').borderBottomWidth];
-}
-
-// Where the parts of a sheet are that are printed: left, right, top, and height. Paper has no bar
-// for scrolling.
-function onSheet(selectors) {
-  stylePaper();
-  document.documentElement.style.scrollbarWidth = 'none';
-  const boxOn = ({ left, right, top, height }) => [left, right, top, height].map(Math.round);
-  return Object.fromEntries(selectors.map((one) => [one, visible(one).map(rect).map(boxOn)]));
-}
-
-// Which of these parts are not cut where a sheet ends, and which begin a sheet.
-const kept = (selectors, side, value) => selectors.filter((one) => count(one)
-  && styleOf(one)[side] === value);
-const keptWhole = (selectors) => kept(selectors, 'breakInside', 'avoid');
-const onNewSheets = (selectors) => kept(selectors, 'breakBefore', 'page');
-
 // The words at the marks of a strip that touch the word before them, and those that are cut.
 function wordsOnWords() {
   stylePaper();
@@ -107,6 +85,3 @@ function wordsOnWords() {
   return [boxes.filter(touches), boxes.filter(({ word }) => word.endsWith('…'))]
     .map((those) => those.map(({ word }) => word));
 }
-
-const underlined = (selectors) => selectors.map((one) => (
-  parseFloat(styleOf(`#paper ${one}`).borderBottomWidth) > 0));

@@ -4,7 +4,7 @@
 function beside() {
   all('#now details.aside').forEach((one) => { one.open = true; });
   return {
-    sentence: seen('#now :is(.say, .aside)'), facts: seen('#now .facts'),
+    sentence: seen('#now :is(.say, .aside)'), facts: seen('#now .facts:not(.asked)'),
     report: seen('#now .report-line'), caption: text('#memory-says'), spoken: text('#spoken'),
     label: attribute('#memory-picture svg', 'aria-label'),
     links: count('#memory-picture .link'), marks: count('#memory-picture .word.changed'),
@@ -33,5 +33,3 @@ function marked() {
       Math.round(((left + right) / 2 - track.left) / track.width * last))),
   };
 }
-
-const keysOf = (part) => visible(`${part} kbd`).map(({ textContent }) => textContent);

@@ -13,8 +13,12 @@ function question() {
   };
 }
 
+// Whether the focus is in the form of the question.
+const isAsking = () => document.activeElement.matches('#quiz-form input');
+
 function asked() {
   go(Infinity);
+  passPicks();
   return question();
 }
 

@@ -3,21 +3,17 @@
 //     node tests/page/records_beside_replays.mjs MODULE.wasm
 //
 // For each example: the runs of its first lines, and of the text without comments. For the examples
-// of read-write locks and for random schedules: the same turns on the other lock, as the page finds
-// them and move by move with a replay each; and the number of replays of both ways.
+// of read-write locks: the same turns on the other lock, as the page finds them, in at most three
+// replays, and move by move with a replay each.
 
 import assert from 'node:assert/strict';
 import { withoutLines } from '../../page/src/lib/bytes.js';
-import { CALLS, MOVES } from '../../page/src/machine/codes.js';
+import { MOVES } from '../../page/src/machine/codes.js';
 import { otherLock } from '../../page/src/model/compare_runs.js';
 import { lastLine, reportOf } from '../../page/src/model/report.js';
 import { Run, runOf } from '../../page/src/model/run.js';
 import { onOtherLock } from '../../page/src/model/other_lock.js';
 import { bytesOf, examples, machineOf } from './node.mjs';
-
-const RANDOM = { schedules: 40, moves: 120 };
-// The move-by-move way has to take at least this many times the replays, on random schedules.
-const FEWEST_BETWEEN = 3;
 
 const lettersOf = (bytes) => new TextDecoder('latin1').decode(bytes);
 
@@ -102,34 +98,16 @@ function moveByMove(machine, run) {
   return { text, at };
 }
 
-// Counts the replays of both ways. The page needs none if it knows the run on the other lock.
+// How many replays the page needs: none if it knows the run on the other lock.
 function checkTurns(machine, text) {
   const run = new Run(machine, text);
-  const slow = playsOf(machine, () => moveByMove(machine, run));
+  const slow = moveByMove(machine, run);
   const { result, plays } = playsOf(machine, () => onOtherLock(machine, run, null));
-  assert.deepEqual([lettersOf(result.run.text), result.at], [slow.result.text, slow.result.at]);
+  assert.deepEqual([lettersOf(result.run.text), result.at], [slow.text, slow.at]);
   assert.equal(lastLine(result.run), `end ${result.at[run.count]}`);
   const again = playsOf(machine, () => onOtherLock(machine, run, result.run));
   assert.deepEqual([again.result.run, again.plays], [result.run, 0]);
-  return { moves: run.count, plays, slow: slow.plays };
-}
-
-// A schedule of moves that the machine accepts, drawn by a linear congruence.
-function drawn(machine, lock, threads, seed) {
-  let number = seed;
-  const draw = (most) => {
-    number = (Math.imul(number, 1103515245) + 12345) >>> 0;
-    return (number >>> 16) % most;
-  };
-  let text = `lock ${lock} threads ${threads} bits 3\n`;
-  for (let move = 0; move < RANDOM.moves; move += 1) {
-    const { state } = machine.play(bytesOf(text), move, false);
-    const thread = draw(threads);
-    const due = state.dueStep(thread);
-    const calls = CALLS.filter((call) => state.allows(thread, call));
-    text += `${thread} ${MOVES[due || calls[draw(calls.length)]]}\n`;
-  }
-  return bytesOf(text);
+  return plays;
 }
 
 const machine = counted(machineOf());
@@ -138,12 +116,6 @@ for (const { text } of examples()) {
   checkWithout(machine, text);
 }
 for (const { name, text } of examples().filter((one) => /^(simple|fifo)-/.test(one.name))) {
-  const { plays } = checkTurns(machine, text);
+  const plays = checkTurns(machine, text);
   assert.ok(plays <= 3, `${name}: ${plays} replays`);
 }
-const tried = Array.from({ length: RANDOM.schedules }, (_, seed) => {
-  const lock = ['rw-simple', 'rw-fifo'][seed % 2];
-  return checkTurns(machine, drawn(machine, lock, 2 + seed % 4, seed));
-});
-const total = (name) => tried.reduce((sum, one) => sum + one[name], 0);
-assert.ok(FEWEST_BETWEEN * total('plays') <= total('slow'));

@@ -6,22 +6,20 @@
 //     node tests/page/session.mjs MODULE.wasm
 
 import assert from 'node:assert/strict';
-import { LOCK_NAMES, PHASES } from '../../page/src/machine/codes.js';
+import { LOCK_NAMES } from '../../page/src/machine/codes.js';
 import { learnWords } from '../../page/src/machine/word_names.js';
 import { LOCKS } from '../../page/src/locks/locks.js';
-import { choicesOf, hasRoom, mayGoOn } from '../../page/src/model/choices.js';
+import { hasRoom, mayGoOn } from '../../page/src/model/choices.js';
 import { commonMoves, otherLock } from '../../page/src/model/compare_runs.js';
-import { firstOf, kindsOf, learnKinds } from '../../page/src/model/kinds.js';
+import { kindsOf, learnKinds } from '../../page/src/model/kinds.js';
 import {
-  isLooksAlone, looks, looksText, partsOf, partsShown, readLooks, toggleHall, togglePart,
-  withoutLooks,
+  isLooksAlone, looks, looksText, partsShown, readLooks, toggleHall, togglePart, withoutLooks,
 } from '../../page/src/model/looks.js';
 import { onOtherLock } from '../../page/src/model/other_lock.js';
 import { isAsked, isCovered, remarkOf, remarksOf } from '../../page/src/model/remarks.js';
-import { holdersText, lastLine, queueText } from '../../page/src/model/report.js';
+import { lastLine } from '../../page/src/model/report.js';
 import { Run, runOf } from '../../page/src/model/run.js';
 import { headerLine, Session } from '../../page/src/model/session.js';
-import { unlinkedAfter } from '../../page/src/model/spans.js';
 import { kindsOf as moduleKinds } from '../../page/build/kinds.mjs';
 import { bytesOf, lines, machineOf, module, textOf as text, words } from './node.mjs';
 
@@ -102,23 +100,15 @@ const bytewise = new Session(machine, lines);
 bytewise.open(Uint8Array.from([35, 255, 10, ...bytesOf('lock ticket threads 1\n')]));
 assert.equal(bytewise.textWith('0 acquire').plain, true);
 
-// The page marks the words of a move, or at a refused move those of its thread's last move. At a
-// question that hides what the move did it marks none before the answer.
-const marked = (wishes, place) => session.view(wishes, place).marked;
-assert.deepEqual([marked({}, 5), marked({}, 7), marked({}, 3), marked({ answered: true }, 3),
-  marked({ whole: true }, 3), marked({}, 0)], [5, 3, 0, 3, 3, 0]);
+// A question covers what it names until its answer is shown.
 const question = session.view({}, 3);
 assert.deepEqual(['sentence', 'facts', 'memory', 'standing'].map((part) => (
   isCovered(question, part))), [true, true, false, false]);
 assert.deepEqual([2, 3, 4, 7].map((place) => isAsked(session.view({}, place))),
   [false, true, false, false]);
 assert.equal(isCovered(session.view({ answered: true }, 3), 'facts'), false);
-// The refused move hides nothing of the question on the move before it.
-const askedLast = opened('#! ask 6 Why?', '#! answer 6 So.', ...TWO.slice(5));
-assert.deepEqual([6, 7].map((place) => isAsked(askedLast.view({}, place))), [true, false]);
 
-// A line of a move may have 32 bytes, and a schedule 65,536 moves. What a thread may do is due, or
-// is one of its calls; with every move nothing shows which of them are accepted.
+// A line of a move may have 32 bytes, and a schedule 65,536 moves.
 const HEAD = ['lock ticket threads 1', '0 acquire'];
 const filled = (size) => opened('#'.repeat(size - text(...HEAD).length - 1), ...HEAD);
 const rooms = [1048544, 1048545].map((size) => {
@@ -129,31 +119,6 @@ const rooms = [1048544, 1048545].map((size) => {
 assert.deepEqual(rooms, [[true, true], [false, true]]);
 assert.deepEqual([mayGoOn(65535), mayGoOn(65536), mayGoOn(65534, 2), mayGoOn(65534, 3)],
   [true, false, true, false]);
-const next = (move, thread, every = false) => choicesOf({ ...session, run, move }, thread, every)
-  .map(({ word, look }) => `${word} ${look}`);
-assert.deepEqual([next(0, 0), next(1, 1), next(3, 1), next(3, 2)],
-  [['acquire may'], ['add due'], ['release may'], []]);
-assert.deepEqual(next(0, 0, true).sort(), ['acquire ', 'add ', 'read ', 'release ', 'write ']);
-
-// Where a trace differs, these are the words of the move that wrote the word last, here of a swap.
-const differs = opened('lock mcs threads 2', '0 acquire', '0 write', '0 swap', '1 acquire',
-  '1 write', '1 swap tail found 0');
-assert.deepEqual([differs.run.refusal.name, differs.run.last, differs.view({}, 6).marked],
-  ['FoundOther', 6, 3]);
-
-// Holders and queue after each move, as the report has them, and the phase of the thread before the
-// move.
-const standing = (move) => {
-  const state = run.state(move);
-  return `${holdersText(state)} ${queueText(state)}`;
-};
-assert.deepEqual([0, 1, 2, 3, 4, 5, 6].map(standing),
-  ['- -', '- -', '- 1', '1 1', '1 1', '1 1,0', '1 1,0']);
-assert.deepEqual([1, 2, 3, 4, 5, 6].map((move) => PHASES[run.phaseBefore(move)]),
-  ['Idle', 'TakeTicket', 'AwaitTurn', 'Idle', 'TakeTicket', 'AwaitTurn']);
-assert.deepEqual([0, 2, 5].map((move) => Number(run.state(move).word(0))), [0, 1, 2]);
-assert.deepEqual([0, 1].map((thread) => PHASES[run.state(4).phase(thread)]),
-  ['TakeTicket', 'TicketInside']);
 
 // The first sentence of the first comment is the title, and all plain comments are the story.
 const { remarks, names } = session;
@@ -193,9 +158,6 @@ assert.deepEqual(stale(...TWO.slice(0, 5), 'lock ticket threads 3', ...TWO.slice
   [1, 3, 4, 5]);
 const otherThread = (line) => line.replace(/^[01]/, (thread) => String(1 - Number(thread)));
 assert.deepEqual(stale(...TWO.slice(0, 6), ...TWO.slice(6).map(otherThread)).stale, [1, 3, 4, 5]);
-for (const head of ['lock ticket threads 2 bits 8', 'lock mcs threads 2']) {
-  assert.deepEqual(stale(...TWO.slice(0, 5), head, ...TWO.slice(6)).stale, [1, 3, 4, 5], head);
-}
 const edited = stale(...TWO.slice(0, 9), '0 acquire', ...TWO.slice(10));
 assert.deepEqual([edited.remarks.title, edited.remarks.ask.size, edited.remarks.say.get(2)],
   ['between', 0, 'A ticket.']);
@@ -239,25 +201,6 @@ const ended = new Run(machine,
   bytesOf(`${front}${'#'.repeat(1048576 - front.length - 7)}\n0 read and more\n`));
 assert.equal(ended.count, 2);
 
-// A known run saves the replay of the same text, and of its front, unless the front has no move or
-// the refused move.
-let plays = 0;
-const counting = { play: (...words) => { plays += 1; return machine.play(...words); } };
-const known = new Run(counting, text(...TWO));
-assert.equal(runOf(counting, text(...TWO), [known]), known);
-const PREFIXES = [[10, 3, 0], [8, 2, 0], [6, 0, 1], [15, 6, 1]];
-for (const [count, moves, played] of PREFIXES) {
-  const made = text(...TWO.slice(0, count), ...(count === 15 ? ['# more'] : []));
-  assert.equal(known.begun.played, 0);
-  plays = 0;
-  assert.equal(runOf(counting, made, [known]).count, moves);
-  assert.equal(plays, played, `${count}`);
-}
-
-// A refused line is not read off a run that goes on after it.
-const further = new Run(machine, text(...TWO, '0 read'));
-assert.equal(runOf(machine, text(...TWO), [further]).refusal?.name, 'NoCall');
-
 // Two runs have common first moves only if they have the same lock, threads and bits.
 const HEADER = 'lock ticket threads 2 bits 8';
 const of = (...all) => new Run(machine, text(...all));
@@ -266,10 +209,6 @@ assert.equal(commonMoves(TAKEN, of(HEADER, '0 acquire', '0 add')), 2);
 assert.equal(commonMoves(TAKEN, of(HEADER, '0 acquire')), 1);
 assert.equal(commonMoves(TAKEN, of(HEADER, '0 acquire', '1 acquire')), 1);
 assert.equal(commonMoves(of(HEADER, '0 acquire'), of(HEADER, '1 acquire')), 0);
-const OTHERS = ['lock ticket threads 3 bits 8', 'lock ticket threads 2', 'lock mcs threads 2'];
-for (const other of OTHERS) {
-  assert.equal(commonMoves(of(HEADER, '0 acquire'), of(other, '0 acquire')), 0, other);
-}
 const ONE = 'lock rw-simple threads 1';
 assert.equal(commonMoves(of(ONE, '0 rlock'), of(ONE, '0 wlock')), 0);
 
@@ -292,16 +231,6 @@ const MANY = Array(500).fill(['0 rlock', '0 section', '0 runlock', '0 section'])
 assert.equal(otherLock(of(ONE, ...MANY)), 'rw-fifo');
 assert.equal(otherLock(of(ONE, ...MANY, '0 rlock')), false);
 
-// The first move of a kind, and 0 if there is none; a record that is in the queue and not linked.
-const kindNamed = (name) => kindsOf('ticket').find((one) => one.name === name);
-assert.deepEqual([firstOf(run, kindNamed('acquire: took a ticket')),
-  firstOf(run, kindNamed('release: served the next ticket'))], [2, 0]);
-assert.deepEqual(kindsOf('ticket').map((kind) => firstOf(run, kind)).filter(Boolean).length, 4);
-const late = of('lock mcs threads 2', '0 acquire', '0 write', '0 swap', '1 acquire', '1 write',
-  '1 swap', '1 write', '1 write');
-assert.deepEqual([0, 3, 5, 6, 7, 8].map((move) => unlinkedAfter(late, move)),
-  [false, false, false, true, true, false]);
-
 // The look of the page from its address. Parts are in their order, and a hall has two of them.
 readLooks('#text=x&hall&show=now,code,time&theme=dark&sheet=worked');
 assert.deepEqual(looks, {
@@ -321,15 +250,6 @@ assert.equal(looks.parts, null);
 ['time', 'memory', 'code'].forEach(togglePart);
 togglePart('now');
 assert.deepEqual(partsShown(), ['now']);
-readLooks('#embed&future&theme=pink&sheet=none&show=nothing');
-assert.deepEqual(looks, {
-  hall: false, embed: true, parts: null, future: true, theme: null, sheet: null,
-});
-assert.deepEqual([partsShown(), looksText()], [['memory', 'code'], '&embed&future']);
-readLooks('');
-assert.equal(looksText(), '');
-assert.deepEqual([partsOf('code,memory'), partsOf('x'), partsOf(undefined)],
-  [['memory', 'code'], null, null]);
 assert.equal(withoutLooks('#text=abc&hall&show=code,now&theme=dark&lang=de&future'),
   '#text=abc&lang=de');
 assert.equal(withoutLooks('#lesson=a&embed&sheet=worked'), '#lesson=a');

@@ -5,7 +5,8 @@ const port = window.lockreplay?.test;
 const byId = (id) => document.getElementById(id);
 const all = (selector, from = document) => [...from.querySelectorAll(selector)];
 const pick = (selector) => document.querySelector(selector);
-const visible = (selector, from) => all(selector, from).filter((one) => one.checkVisibility());
+const visible = (selector, from) => all(selector, from)
+  .filter((one) => one.checkVisibility({ visibilityProperty: true }));
 // The box of a node, or of the first node of a selector.
 const rect = (one) => (typeof one === 'string' ? pick(one) : one).getBoundingClientRect();
 const screenBox = () => ({ left: 0, top: 0, right: innerWidth, bottom: innerHeight });
@@ -29,6 +30,11 @@ function forget() {
   if (location.protocol === 'file:') localStorage.clear();
 }
 
+// Before the page's script: parts are at their new places at once.
+function still() {
+  Element.prototype.animate = () => {};
+}
+
 // A mark that a test stores and the page does not know, and whether the browser still has it.
 const mark = () => localStorage.setItem('mark', 'set');
 const isMarked = () => localStorage.getItem('mark') === 'set';
@@ -40,6 +46,16 @@ function delayLetters() {
     await new Promise((go) => { setTimeout(go, 300); });
     return load.call(this);
   };
+}
+
+// Before the page's script: nothing moves, blinks or plays by itself.
+function stopMotion() {
+  window.setInterval = () => 0;
+  addEventListener('DOMContentLoaded', () => {
+    const still = '*, ::before, ::after { animation: none !important; transition: none !important;'
+      + ' caret-color: transparent !important; }';
+    document.head.append(Object.assign(document.createElement('style'), { textContent: still }));
+  });
 }
 
 // Before the page's script: notes the running clocks, or timeouts, with the wait of each.
@@ -170,6 +186,14 @@ function answer(given) {
   form.requestSubmit();
 }
 
+// In the quiz: chooses the first thing where a question of the lesson waits for one, and goes on.
+function passPicks() {
+  while (pick('.question .pick:not(.right, .wrong)')) {
+    pick('.thing').dispatchEvent(new MouseEvent('click', { bubbles: true, cancelable: true }));
+    go(Infinity);
+  }
+}
+
 // Opens a panel beside the schedule: own or play, or none with 'lessons'.
 function inMode(mode) {
   const { mode: now } = document.body.dataset;
@@ -198,6 +222,14 @@ const slide = (move) => input('slider', move);
 function follow(fragment) {
   history.replaceState(null, '', fragment);
   dispatchEvent(new PopStateEvent('popstate'));
+}
+
+// Follows a link in the open page as a reader who has closed all dialogs and panels.
+function visitLink(fragment) {
+  all('dialog[open]').forEach((one) => one.close());
+  if (attribute('#mode-quiz', 'aria-pressed') === 'true') click('#mode-quiz');
+  inMode('lessons');
+  follow(fragment);
 }
 
 // Makes the page write its address at once.
@@ -279,6 +311,16 @@ function boxOf(node) {
   const [{ x: left, y: top }, { x: right, y: bottom }] = [[x, y], [x + width, y + height]]
     .map(([across, down]) => new DOMPoint(across, down).matrixTransform(node.getScreenCTM()));
   return { left, top, right, bottom };
+}
+
+// Whether all of an element is seen: on the screen, and in each part that can be scrolled.
+function isInView(selector) {
+  const node = pick(selector);
+  const boxes = [screenBox()];
+  for (let around = node.parentElement; around !== document.body; around = around.parentElement) {
+    if (getComputedStyle(around).overflowY !== 'visible') boxes.push(rect(around));
+  }
+  return boxes.every((box) => rect(node).top >= box.top - 2 && rect(node).bottom <= box.bottom + 2);
 }
 
 // Where a path begins and ends on the screen.

@@ -18,20 +18,11 @@ const framed = () => all('#lessons [data-lesson]:not(:hover)')
 
 const stored = (name) => localStorage.getItem(name);
 
-// Whether each picture of a card is as wide as the card.
-const pictures = () => all('#lessons .live')
-  .map((one) => Math.abs(rect(one.querySelector('svg')).width - rect(one).width) < 2);
-const cutPictures = () => all('#lessons .live').filter((one) => (
-  rect(one.firstElementChild).bottom > rect(one).bottom)).map((one) => one.dataset.live);
-const unitsOfPictures = () => all('#lessons .live svg').map((one) => one.viewBox.baseVal.width);
-const partsOfStart = () => [...byId('lesson-list').children].map((one) => one.classList[0]);
-const topsOf = (selector) => all(`#lessons ${selector}`).map((one) => rect(one).top);
 const refusals = () => [count('.refusals [data-lesson]'), pick('.refusals').open];
 const ways = () => all('[data-way]').map((one) => one.dataset.way);
 const chosen = () => document.activeElement.dataset.lesson ?? null;
 const ticked = () => all('#lessons [data-lesson]').filter((one) => one.textContent.includes('✓'))
   .map((one) => one.dataset.lesson);
-const inHall = () => document.body.classList.contains('hall');
 const topOf = (selector) => rect(selector).top;
 
 // The words of the prologue, its moves so far, and what is said.
@@ -56,30 +47,8 @@ function explained(part, term) {
   return [!box.hidden && box.textContent, isSeen];
 }
 
-// The term that the explanation describes, with its role; null without one.
-function describedTerm() {
-  const [one, ...others] = all('[aria-describedby=tip-box]');
-  if (others.length || !one || byId('tip-box').hidden) return null;
-  return [one.textContent, one.getAttribute('role')];
-}
-
-// In a window that ends just below a term: whether its explanation is above it.
-function isExplainedAbove(term) {
-  const node = visible('main .term').find((one) => one.dataset.term === term);
-  const { top, bottom } = rect(node);
-  window.innerHeight = bottom + 5;
-  node.focus();
-  return !byId('tip-box').hidden && rect(byId('tip-box')).bottom <= top;
-}
-
 const atCard = (lock, event) => (
   pick(`#lessons [data-lock=${lock}]`).dispatchEvent(new Event(event)));
-
-// Before the page's script: makes its clocks run ten times as fast.
-function hasten() {
-  const { setInterval } = window;
-  window.setInterval = (act, wait) => setInterval(act, wait / 10);
-}
 
 // Before the page's script: keeps the act of the last clock, which is then done by hand.
 function stopClock() {

@@ -20,6 +20,8 @@ PATIENCE = 60  # seconds
 ASKED_AGAIN = 3
 WAIT = 0.02
 BEGAN = (HERE / "began.js").read_text()
+# The language that a link asks for. The page begins anew in another one.
+LANGUAGE = re.compile(r"lang=(\w+)")
 # The name of a function or a constant of a script.
 NAMED = re.compile(r"^(?:async )?(?:function|const) (\w+)", re.MULTILINE)
 # From the names of keys in the web to those of WebDriver.
@@ -39,13 +41,15 @@ class Tab:
         files = [HERE / "shared.js", HERE / f"{name}.js"]
         self.scripts = BEGAN + "".join(path.read_text() for path in files if path.exists())
         self.kept = f"{name}_tests"
-        self.added, self.path = {}, PAGE
+        self.added, self.path, self.is_open, self.language = {}, PAGE, False, []
         self.browser.told.clear()
         # A browser would give a saved file another name if an earlier test saved one with its name.
         for path in (browser.home / "Downloads").glob("*"):
             path.unlink(missing_ok=True)
         self.before("reportViolations")
         self.before("forget")
+        # A test that is about motion takes this away.
+        self.before("still")
         self.resize(1440, 900)
 
     def ask(self, method, **params):
@@ -112,11 +116,17 @@ class Tab:
     def open(self, fragment="", path=PAGE):
         """Loads the page, or a changed one. A new query makes a browser load an open page again,
         which a new fragment alone does not."""
-        self.path = path
+        self.path, self.is_open, self.language = path, True, LANGUAGE.findall(fragment)
         self.browser.pages += 1
         self.load(f"{path.as_uri()}?{self.browser.pages}{fragment}")
         self.no_longer("forget")
         return self
+
+    def visit(self, fragment=""):
+        """Opens the page, or, if this test has opened it, follows a link in it, which takes a tenth
+        of the work. Dialogs are closed, and what the reader has done so far stays."""
+        is_here = self.is_open and LANGUAGE.findall(fragment) == self.language
+        return self.call("visitLink", fragment) if is_here else self.open(fragment)
 
     def load(self, url, forwards=""):
         """Goes to a page and waits for it, or for the one to which it forwards. The browser can

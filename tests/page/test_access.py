@@ -48,14 +48,6 @@ def test_what_is_read_aloud(page):
     assert page.press("h").text("#spoken") == spoken
 
 
-def test_the_names_of_the_foot(page):
-    """Each button does what its name says."""
-    page.open("#lesson=mcs-late-link&move=3")
-    for name, place in [("One move forward", 4), ("One move back", 3), ("Last move", 16),
-                        ("First move", 0)]:
-        assert page.click(f"footer [aria-label='{name}']").shown()["place"] == place, name
-
-
 def test_the_button_that_plays(page):
     """Its name says what a press does, so it is not read as pressed too."""
     page.open("#lesson=mcs-late-link&move=0")
@@ -69,13 +61,11 @@ def test_the_button_that_plays(page):
         assert page.click("#run").js("isRunning") == runs
 
 
-def test_everything_has_a_name(page):
-    """Each control, part and picture has a name, and a screen reader hears each move."""
-    assert page.open(LATE_LINK).js("nameless") == []
-    assert page.js("liveRegions") == {
+def test_what_is_said_without_being_asked(page):
+    """A screen reader hears each move, but a fact for which a question asks after the answer."""
+    assert page.open(LATE_LINK).js("liveRegions") == {
         "banner": "status", "damaged": "alert", "verdict": "status", "notice": "status",
         "find-answer": "status", "take-cut": "status", "why-changes": "polite", "spoken": "polite"}
-    # A screen reader hears a fact for which a question asks only after the answer is shown.
     assert "compare-and-swap fails" not in page.text("#spoken")
     spoken = page.press("a").text("#spoken")
     for part in ["Move 9 of 16", "Ann", "compare-and-swap fails", "Holds: Ann", "Queue: Ann, Bob",
@@ -90,43 +80,6 @@ def test_what_has_a_name_has_a_role(page):
     for name in ("aria-label", "title"):
         assert page.js("attribute", "#lessons .number span", name) == "done"
     assert page.js("plainWithName") == []
-
-
-@pytest.mark.parametrize("width, height", [(720, 450), (640, 360), (512, 384)])
-def test_at_two_hundred_per_cent(page, width, height):
-    """At 200 % a screen has half of its pixels. A reader only scrolls down to reach all parts."""
-    page.resize(width, height).open(LATE_LINK)
-    for part in ["title", "time", "memory", "code", "now", "forward", "menu"]:
-        shown = page.js("reached", part)
-        assert shown["height"] >= 15 and shown["inside"] and not shown["across"], (part, shown)
-
-
-@pytest.mark.parametrize("width, height", [(360, 780), (390, 844)])
-def test_on_a_phone(page, width, height):
-    """There is a slider, the keys have their keys, and choices are beside what they do."""
-    shown = page.resize(width, height).open(LATE_LINK).js("onPhone")
-    assert shown["slider"] >= 90 and shown["keys"] and shown["tools"], shown
-    assert shown["signs"] >= 18, shown
-    assert page.press("g").js("choicesFit")
-
-
-@cases("media, theme", {
-    "light": ({}, "&theme=light"), "dark": ({}, "&theme=dark"), "system light": ({}, ""),
-    "system dark": ({"prefers-color-scheme": "dark"}, "")})
-def test_contrast_of_letters_and_words(page, theme):
-    """Letters and line numbers have a contrast of 4.5 : 1, those on the colours of standings too,
-    and borders of words 3 : 1. A dark system has the colours of the dark theme."""
-    shown = page.open(f"{LATE_LINK}{theme}").press("a", "e").js("colours")
-    assert contrast(shown["gutter"], shown["back"]) >= 4.5, shown
-    for letters in shown["texts"]:
-        for ground in [shown["card"], shown["page"]]:
-            assert contrast(letters, ground) >= 4.5, (letters, ground)
-    assert contrast(shown["word"], shown["card"]) >= 3, shown
-    for letters, ground in shown["standings"]:
-        assert contrast(letters, ground) >= 4.5, (letters, ground)
-    assert len(shown["standings"]) == 9
-    of_the_theme, of_the_system = page.js("darkColours")
-    assert of_the_theme == of_the_system
 
 
 @cases("media", {"forced": FORCED})

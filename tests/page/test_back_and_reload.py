@@ -2,9 +2,7 @@
 no address names another schedule."""
 import base64
 
-import pytest
 
-from tab import PAGE
 from tree import cases
 
 MINE = b"# caf\xe9\nlock ticket threads 2\n0 acquire\n0 add\n0 read\n"
@@ -27,48 +25,18 @@ def mine_at(page, place):
     return page
 
 
-@cases("away", AWAY)
-def test_undo(page, away):
-    mine_at(page, 2)
-    away(page)
-    assert page.shown()["text"] != MINE.decode("latin-1")
-    page.undo()
-    shows(page, MINE, 2)
-
-
-@cases("away", AWAY)
-def test_back(page, away):
-    mine = mine_at(page, 1).js("address")
-    away(page)
-    page.becomes(False, "addressBegins", mine[:30]).call("back")
-    shows(page, MINE, 1)
+def test_back(page):
+    for away in AWAY.values():
+        mine = mine_at(page, 1).js("address")
+        away(page)
+        page.becomes(False, "addressBegins", mine[:30]).call("back")
+        shows(page, MINE, 1)
 
 
 def test_back_after_a_step(page):
     """Back leads to the last place, even if it was left before the address could follow."""
     mine_at(page, 1).call("goAndLeave", 2, "ticket-hand-over").call("back")
     shows(page, MINE, 2)
-
-
-def test_a_paste_that_is_no_schedule(page):
-    shown = page.open(LESSON).call("paste", "hello").shown()
-    assert (shown["place"], shown["lesson"]) == (3, "mcs-late-link")
-    assert "no schedule" in page.text("#notice")
-
-
-def test_a_paste_without_a_text(page):
-    """A pasted picture does not empty the reader's own schedule."""
-    page.open(LESSON).show(MINE).call("paste", "")
-    assert page.shown(mode="own")["text"] == MINE.decode("latin-1")
-    assert "no schedule" in page.text("#notice")
-
-
-def test_a_text_that_is_dropped(page):
-    page.open(LESSON)
-    text = MINE.replace(b"\xe9", b"e")
-    assert not page.js("bring", "dragover", "dataTransfer", {}), "the browser lets it be dropped"
-    page.call("drop", text.decode())
-    shows(page, text)
 
 
 def test_a_branch_and_back(page):
@@ -105,12 +73,6 @@ def test_a_schedule_that_is_too_long_for_a_link(page):
     assert page.saved("schedule.txt", 24001) == LONG[:24001].encode()
 
 
-def test_back_to_a_schedule_that_is_too_long_for_a_link(page):
-    """Back finds it, even if it was left before the browser had time to keep it."""
-    page.open(LESSON).call("showAndLeave", LONG, 7, "ticket-hand-over").call("back")
-    shows(page, LONG.encode(), 7)
-
-
 def test_a_link_from_disk(page):
     """The page tells a reader who copies the link that it names a file of this disk."""
     assert page.open(LESSON).js("copiedBy", "#link") == page.js("href")
@@ -118,23 +80,22 @@ def test_a_link_from_disk(page):
                  "on a web server.", "text", "#notice")
 
 
-@cases("fragment, part", {
-    "lesson": ("#lesson=nonsense&move=3", "There is no lesson “nonsense”"),
-    "capital": ("#lesson=MCS-late-link", "There is no lesson “MCS-late-link”"),
-    "no base64": ("#schedule=%%%&move=2", "This link is damaged"),
-    "nothing": ("#move=4", "names no schedule"),
-    "kept": ("#kept=nobody&move=1", "kept in another browser"),
-    "cut": ("#schedule=bG9jayBtY3MgdGhyZWFkcyAyCjAgYWNxdWlyZQo", "has no end"),
-})
-def test_damaged_links(page, fragment, part):
+def test_damaged_links(page):
     """The page reports the damage, and the address stays until another schedule is opened."""
-    assert part in page.open(fragment).js("damaged")
-    assert page.js("count", "#lessons[open]") == (part != "has no end"), "what there is, is shown"
-    assert page.press("ArrowRight").call("leave").js("address") == fragment
-    if part == "has no end":
-        assert page.press("l").js("address") == f"{fragment}&move=1" and page.js("damaged") == ""
-    page.lesson("ticket-hand-over", 2).becomes("#lesson=ticket-hand-over&move=2", "address")
-    assert page.js("damaged") == ""
+    for fragment, part in [
+            ("#lesson=nonsense&move=3", "There is no lesson “nonsense”"),
+            ("#lesson=MCS-late-link", "There is no lesson “MCS-late-link”"),
+            ("#schedule=%%%&move=2", "This link is damaged"), ("#move=4", "names no schedule"),
+            ("#kept=nobody&move=1", "kept in another browser"),
+            ("#schedule=bG9jayBtY3MgdGhyZWFkcyAyCjAgYWNxdWlyZQo", "has no end")]:
+        assert part in page.open(fragment).js("damaged")
+        assert page.js("count", "#lessons[open]") == (part != "has no end")
+        assert page.press("ArrowRight").call("leave").js("address") == fragment
+        if part == "has no end":
+            assert page.press("l").js("address") == f"{fragment}&move=1"
+            assert page.js("damaged") == ""
+        page.lesson("ticket-hand-over", 2).becomes("#lesson=ticket-hand-over&move=2", "address")
+        assert page.js("damaged") == ""
 
 
 def test_an_edit_after_a_damaged_link(page):
@@ -156,65 +117,20 @@ def test_foreign_bytes_survive_a_mend(page):
     shows(page, MINE + b"# \xff\xfe\n# x\n")
 
 
-@cases("text", {
-    "mcs": b"lock mcs threads 2\n0 acquire\n0 write\n0 swap\n",
-    "no text": b"# \xff\xfe\0 no text\r\nlock rw-fifo threads 3 bits 2\n0 rlock\n0 section",
-    "refused": b"lock ticket threads 2\n0 acquire\n0 read\n0 add\n",
-    "markup": "# \u00fcber \u20ac <b>&amp;\nlock ticket threads 1\n0 acquire\n".encode(),
-})
-def test_a_link_carries_a_schedule(page, text):
-    before = page.open().show(text).go(1).shown()
-    assert before["place"] == 1 and before["text"] == text.decode("latin-1")
-    page.call("click", "#link")
-    coded = base64.urlsafe_b64encode(text).decode().rstrip("=")
-    after = page.becomes(f"#schedule={coded}&move=1", "address").open(page.js("address")).shown()
-    assert [after[name] for name in ("place", "moves", "text")] == [
-        before[name] for name in ("place", "moves", "text")]
-
-
-def test_a_link_in_the_other_alphabet_of_base64(page):
-    """Other programs write + and / where the page writes - and _."""
-    text = b"#  \xfb\xef\xbe\xff\xff\xff\nlock ticket threads 1\n0 acquire\n"
-    coded = base64.b64encode(text).decode()
-    assert "+" in coded and "/" in coded
-    page.open(f"#schedule={coded}&move=1")
-    assert page.shown(place=1)["text"] == text.decode("latin-1") and page.js("damaged") == ""
-
-
-def test_a_link_names_a_lesson(page):
-    shown = page.open("#lesson=ticket-hand-over&move=3").shown()
-    assert (shown["place"], shown["moves"]) == (3, 10)
-    assert page.call("click", "#link").js("address") == "#lesson=ticket-hand-over&move=3"
-    page.call("goTo", "#lesson=mcs-late-link&move=9").becomes("9 of 16", "text", "#position")
-
-
-@pytest.mark.parametrize("fragment", [
-    "#", "#move=4", "#lesson=no-such", "#schedule=%%%", "#schedule=A&move=x"])
-def test_a_link_that_names_nothing(page, fragment):
-    """The page opens with a title even if a link names nothing."""
-    assert page.open(fragment).text("#title") != ""
-    assert page.js("href").startswith(PAGE.as_uri())
-
-
-@pytest.mark.parametrize("move, shown", [("-3", 0), ("99", 16), ("x", 0), ("2.7", 2)])
-def test_the_nearest_move(page, move, shown):
-    assert page.open(f"#lesson=mcs-late-link&move={move}").shown()["place"] == shown
-
-
-def test_a_text_is_kept_once(page):
-    """A text that the reader opens twice is listed once."""
-    page.open(LESSON)
-    for _ in range(2):
-        page.show(MINE).lesson("ticket-hand-over").shown(mode="lessons")
-    assert len(page.press("Escape", "o").js("keptNames")) == 1
-
-
-def test_what_is_undone_is_kept_once(page):
-    """After an undo an edit changes the kept schedule in its place."""
-    mine_at(page, 2)
-    page.call("click", "#clear").undo().call("write", "lock ticket threads 3\n2 acquire\n")
-    page.lesson("ticket-hand-over").press("Escape", "o")
-    assert len(page.js("keptNames")) == 2, "that and the new one"
+def test_a_link_carries_a_schedule(page):
+    for text in [
+            b"lock mcs threads 2\n0 acquire\n0 write\n0 swap\n",
+            b"# \xff\xfe\0 no text\r\nlock rw-fifo threads 3 bits 2\n0 rlock\n0 section",
+            b"lock ticket threads 2\n0 acquire\n0 read\n0 add\n",
+            "# \u00fcber \u20ac <b>&amp;\nlock ticket threads 1\n0 acquire\n".encode()]:
+        before = page.open().show(text).go(1).shown()
+        assert before["place"] == 1 and before["text"] == text.decode("latin-1")
+        page.call("click", "#link")
+        coded = base64.urlsafe_b64encode(text).decode().rstrip("=")
+        page.becomes(f"#schedule={coded}&move=1", "address")
+        after = page.open(page.js("address")).shown()
+        assert [after[name] for name in ("place", "moves", "text")] == [
+            before[name] for name in ("place", "moves", "text")]
 
 
 def test_what_is_kept_is_changed_in_its_place(page):
@@ -227,11 +143,6 @@ def test_what_is_kept_is_changed_in_its_place(page):
     shows(page, b"lock ticket threads 3\n2 acquire\n")
 
 
-def test_what_is_kept_has_its_place(page):
-    mine_at(page, 2).lesson("ticket-hand-over", 5).press("Escape", "o").click("[data-kept]")
-    shows(page, MINE, 2)
-
-
 def test_what_is_kept_has_its_last_place(page):
     """The list has the last place of a schedule, even if the reader went on after it was kept."""
     mine_at(page, 1).go(2).until("addressEnds", "&move=2")
@@ -239,55 +150,6 @@ def test_what_is_kept_has_its_last_place(page):
     assert "at move 3" in page.text("#lessons .kept")
     page.click("[data-kept]")
     shows(page, MINE, 3)
-
-
-def test_what_is_no_longer_kept(page):
-    """If the text is gone, as another tab may remove it, the page says so and shows the same."""
-    mine_at(page, 2).lesson("ticket-hand-over", 5).press("Escape", "o").call("forgetTexts")
-    said = page.click("[data-kept]").text("#notice")
-    assert said == "This browser no longer keeps this schedule."
-    page.shown(lesson="ticket-hand-over", place=5)
-
-
-def test_the_last_hundred_are_kept(page):
-    """The start lists the last hundred schedules, the newest first."""
-    page.open(LESSON)
-    for number in range(1, 104):
-        page.show(f"#! title of {number}\nlock ticket threads 1\n")
-    page.press("Escape", "o")
-    titles = [text.split(" at move ")[0] for text in page.js("texts", "[data-kept]")]
-    assert titles == [f"of {number}" for number in range(103, 3, -1)], titles
-    assert page.js("keptTexts") == 100, "what is not listed takes no room"
-
-
-def test_the_oldest_makes_room(page):
-    """Of three texts with 4,000,000 letters of base64 together, the last two are kept."""
-    page.open(LESSON)
-    for title in ("# One\n", "# Two\n", "# Three\n"):
-        page.call("showLarge", 1_000_000, title)
-    page.lesson("ticket-hand-over").press("Escape", "o")
-    assert page.js("texts", "[data-kept]") == ["Three at move 0", "Two at move 0"]
-    assert page.js("keptTexts") == 2
-
-
-def test_links_to_two_schedules(page):
-    """Schedules that links open are kept, each by itself."""
-    page.open(LESSON)
-    for thread in (0, 1):
-        coded = base64.b64encode(f"lock ticket threads 2\n{thread} acquire\n".encode()).decode()
-        page.call("follow", f"#schedule={coded}&move=1").call("leave")
-    page.lesson("ticket-hand-over").press("Escape", "o")
-    assert len(page.js("keptNames")) == page.js("keptTexts") == 2
-
-
-@cases("size, listed", {"large": (1_000_000, 2), "too large": (2_400_000, 1)})
-def test_a_large_text_takes_no_room_from_others(page, size, listed):
-    """Texts of up to 3,000,000 letters of base64, four for three bytes, are kept. A text that is
-    longer by itself is not kept, and what was kept before stays."""
-    page.open(LESSON).show(MINE).call("showLarge", size).lesson("ticket-hand-over")
-    assert len(page.press("Escape", "o").js("keptNames")) == page.js("keptTexts") == listed
-    page.call("click", "[data-kept]:last-of-type")
-    shows(page, MINE)
 
 
 @cases("damage", {

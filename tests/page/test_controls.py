@@ -1,6 +1,5 @@
 """Each dialog opens by its key and by its button, with the focus where a reader goes on, and closes
 by Escape, by its button and by a click beside it. Each other button does what its name says."""
-import pytest
 
 from reports import SCHEDULES
 from tree import cases
@@ -21,43 +20,43 @@ DIALOGS = {
 }
 
 
-@cases("key, button, dialog, focused", DIALOGS)
-def test_a_dialog_opens_and_closes(page, key, button, dialog, focused):
+def test_a_dialog_opens_and_closes(page):
     """Nothing behind a dialog changes, and the keys are the page's again when it is closed."""
-    before = page.open(LESSON).shown()
-    for way in ["key", "button", "beside"]:
-        if key and (way == "key" or not button):
-            page.press(key)
-        else:
-            page.call("click", f"#{button}")
-        assert page.js("opened") == [dialog] and page.js("hasFocus", focused), way
-        if way == "key":
-            page.press("Escape")
-        elif way == "button":
-            page.click(f"#{dialog} form button")
-        else:
-            page.point(2, 2, "pointerDown", "pointerUp")
-        page.becomes([], "opened").becomes("body", "focused")
-        assert page.js("count", "#lesson-list *") == 0, "its pictures are none of the page's"
-        assert page.shown() == before, way
-        assert page.press("ArrowRight", "ArrowLeft", "Space").js("isRunning"), way
-        page.press("Space").go(5)
+    for key, button, dialog, focused in DIALOGS.values():
+        before = page.visit(LESSON).shown()
+        for way in ["key", "button", "beside"]:
+            if key and (way == "key" or not button):
+                page.press(key)
+            else:
+                page.call("click", f"#{button}")
+            assert page.js("opened") == [dialog] and page.js("hasFocus", focused), way
+            if way == "key":
+                page.press("Escape")
+            elif way == "button":
+                page.click(f"#{dialog} form button")
+            else:
+                page.point(2, 2, "pointerDown", "pointerUp")
+            page.becomes([], "opened").becomes("body", "focused")
+            assert page.js("count", "#lesson-list *") == 0, "its pictures are none of the page's"
+            assert page.shown() == before, way
+            assert page.press("ArrowRight", "ArrowLeft", "Space").js("isRunning"), way
+            page.press("Space").go(5)
 
 
-@pytest.mark.parametrize("width, height, look", [
-    (390, 844, ""), (390, 844, "&lang=de"), (1024, 768, ""), (1024, 768, "&lang=de"),
-    (1024, 768, "&hall"), (1440, 900, ""), (1920, 1080, ""), (1920, 1080, "&hall&lang=de")])
-def test_nothing_of_a_dialog_is_cut(page, width, height, look):
+def test_nothing_of_a_dialog_is_cut(page):
     """All of a dialog is on the screen, with no text cut and no control on another one."""
-    page.resize(width, height).open(f"{LESSON}{look}")
-    for key, button, dialog, _ in DIALOGS.values():
-        if key:
-            page.press(key)
-        else:
-            page.call("click", f"#{button}")
-        assert page.js("opened") == [dialog]
-        assert page.js("wrongInDialog") == [], dialog
-        page.press("Escape")
+    for width, height, look in [
+            (390, 844, ""), (390, 844, "&lang=de"), (1024, 768, ""), (1024, 768, "&lang=de"),
+            (1024, 768, "&hall"), (1440, 900, ""), (1920, 1080, ""), (1920, 1080, "&hall&lang=de")]:
+        page.resize(width, height).visit(f"{LESSON}{look}")
+        for key, button, dialog, _ in DIALOGS.values():
+            if key:
+                page.press(key)
+            else:
+                page.call("click", f"#{button}")
+            assert page.js("opened") == [dialog]
+            assert page.js("wrongInDialog") == [], dialog
+            page.press("Escape")
 
 
 def test_which_buttons_are_pressed(page):
@@ -96,13 +95,13 @@ KEYS = ["ArrowRight", "ArrowLeft", "PageDown", "PageUp", "Home", "End", " ", "Es
         *"[]najoegqwculthmsvyfpd?.,2+=-0"]
 
 
-@pytest.mark.parametrize("held", ["ctrlKey", "metaKey", "altKey"])
-def test_keys_of_the_browser(page, held):
+def test_keys_of_the_browser(page):
     """With a modifier key, a key is the browser's."""
-    before = page.open(LESSON).shown()
-    assert page.js("actsOf", "body", KEYS, held) == []
-    assert page.js("opened") == [] and page.shown() == before
-    assert page.press("y").js("actsOf", "#why-next", ["ArrowLeft", "n", "y"], held) == []
+    for held in ["ctrlKey", "metaKey", "altKey"]:
+        before = page.visit(LESSON).shown()
+        assert page.js("actsOf", "body", KEYS, held) == []
+        assert page.js("opened") == [] and page.shown() == before
+        assert page.press("y").js("actsOf", "#why-next", ["ArrowLeft", "n", "y"], held) == []
 
 
 TEXTS = {
@@ -148,24 +147,22 @@ def test_what_there_is_of_a_text_without_a_lock(page):
     assert page.press("y").text("#why-title") == "Why each line is there: Ticket lock"
 
 
-@cases("selector, acts, leaves", {
-    "text": ("#text", [], ["g", " ", "ArrowRight", "Enter", "?"]),
-    "choice": ("#speed", [], ["g", " ", "ArrowRight"]),
-    "slider": ("#slider", ["j", "]", " "], []),
-    "box": ("#every", ["j", "ArrowRight"], [" "]),
-    "button": ("#forward", ["j", "ArrowLeft"], [" ", "Enter"]),
-    "summary": ("#next-kinds summary", ["j"], [" ", "Enter"]),
-    "lanes": ("#lanes", ["ArrowDown", "ArrowUp", "Enter", "j", " "], ["x"]),
-    "elsewhere": ("body", ["j", " ", "Enter"], ["ArrowDown", "ArrowUp", "x"])})
-def test_keys_of_a_control(page, selector, acts, leaves):
+def test_keys_of_a_control(page):
     """A control keeps the keys that it needs itself."""
-    assert page.open(LESSON).js("actsOf", selector, acts + leaves) == acts
+    for selector, acts, leaves in [
+            ("#text", [], ["g", " ", "ArrowRight", "Enter", "?"]),
+            ("#speed", [], ["g", " ", "ArrowRight"]), ("#slider", ["j", "]", " "], []),
+            ("#every", ["j", "ArrowRight"], [" "]),
+            ("#forward", ["j", "ArrowLeft"], [" ", "Enter"]),
+            ("#next-kinds summary", ["j"], [" ", "Enter"]),
+            ("#lanes", ["ArrowDown", "ArrowUp", "Enter", "j", " "], ["x"]),
+            ("body", ["j", " ", "Enter"], ["ArrowDown", "ArrowUp", "x"])]:
+        assert page.visit(LESSON).js("actsOf", selector, acts + leaves) == acts
 
 
-@cases("button, place", {"first": ("#first", 0), "back": ("#back", 11), "forward": ("#forward", 13),
-                         "last": ("#last", 16)})
-def test_buttons_of_moves(page, button, place):
-    page.open("#lesson=mcs-late-link&move=12").click(button).shown(place=place)
+def test_buttons_of_moves(page):
+    for button, place in [("#first", 0), ("#back", 11), ("#forward", 13), ("#last", 16)]:
+        page.visit("#lesson=mcs-late-link&move=12").click(button).shown(place=place)
 
 
 def test_keys_of_an_answer(page):
@@ -187,12 +184,12 @@ def test_code_that_is_selected(page):
     assert page.call("click", "#code-lines .code-line").js("opened") == ["why"]
 
 
-@cases("way, called, said", {
-    "enter": ("allowed", ["enter"], ""), "leave": ("full", ["leave"], ""),
-    "not allowed": ("refused", ["enter"], "The browser did not allow the full screen.")})
-def test_the_full_screen(page, way, called, said):
-    assert page.open(LESSON).call("stubScreen", way).press("s").js("screenCalls") == called
-    page.becomes(said, "text", "#notice")
+def test_the_full_screen(page):
+    for way, called, said in [
+            ("allowed", ["enter"], ""), ("full", ["leave"], ""),
+            ("refused", ["enter"], "The browser did not allow the full screen.")]:
+        assert page.open(LESSON).call("stubScreen", way).press("s").js("screenCalls") == called
+        page.becomes(said, "text", "#notice")
 
 
 def test_a_second_window_that_is_not_allowed(page):
@@ -200,18 +197,11 @@ def test_a_second_window_that_is_not_allowed(page):
     assert page.text("#notice") == "The browser did not allow a second window."
 
 
-@cases("allowed, said", {
-    "allowed": (True, "The schedule is copied."),
-    "not": (False, "The browser did not allow it. Select the text and copy it.")})
-def test_copying_the_text(page, allowed, said):
-    copied = page.open("#lesson=mcs-late-link&move=2").press("e").js("copiedBy", "#copy", allowed)
-    assert copied == SCHEDULES["mcs-late-link"]
-    page.becomes(said, "text", "#notice")
-
-
-@pytest.mark.parametrize("rounds, ticks", [(60, 60), (200, 0)])
-def test_ticks_that_are_too_close(page, rounds, ticks):
-    """The slider has a tick for each entry, but none if they are closer than ten pixels."""
-    page.open().show("lock ticket threads 1\n" + rounds * (
-        "0 acquire\n0 add\n0 read\n0 release\n0 read\n0 write\n"), 6 * rounds)
-    assert page.js("count", "#slider-picture .tick.enters") == ticks
+def test_copying_the_text(page):
+    for allowed, said in [
+            (True, "The schedule is copied."),
+            (False, "The browser did not allow it. Select the text and copy it.")]:
+        page.open("#lesson=mcs-late-link&move=2").press("e")
+        copied = page.js("copiedBy", "#copy", allowed)
+        assert copied == SCHEDULES["mcs-late-link"]
+        page.becomes(said, "text", "#notice")

@@ -2,7 +2,6 @@
 has: words and their use, marks and bars, and where each thread is in the code and in memory."""
 import random
 
-import pytest
 
 import oracle
 from machine import Machine
@@ -221,21 +220,22 @@ def check(page, text, fewest=FEWEST):
     return replay
 
 
-@pytest.mark.parametrize("name", [name for name in LESSONS if not name.startswith("fault")])
-def test_lesson(page, name):
-    page.open(f"#lesson={name}&move=0")
-    replay = check(page, SCHEDULES[name].encode("latin-1"))
-    if replay.moves and replay.lanes == list(range(replay.threads)):
-        check_paper(page, replay, MOVES[name])
+def test_lesson(page):
+    for name in [name for name in LESSONS if not name.startswith("fault")]:
+        page.visit(f"#lesson={name}&move=0")
+        replay = check(page, SCHEDULES[name].encode("latin-1"))
+        if replay.moves and replay.lanes == list(range(replay.threads)):
+            check_paper(page, replay, MOVES[name])
 
 
-@pytest.mark.parametrize("width, height", [(390, 844), (820, 1180), (1024, 600)])
-@pytest.mark.parametrize("name", ["ticket-wraps-at-2-bits", "mcs-third-linked-before-second",
-                                  "simple-second-writer", "fifo-counts-wrap-at-2-bits"])
-def test_in_a_window(page, width, height, name):
+def test_in_a_window(page):
     """The same is drawn where parts are narrow or low."""
-    page.resize(width, height).open(f"#lesson={name}&move=0")
-    check(page, SCHEDULES[name].encode("latin-1"), 2)
+    for width, height in [(390, 844), (820, 1180), (1024, 600)]:
+        for name in [
+                "ticket-wraps-at-2-bits", "mcs-third-linked-before-second", "simple-second-writer",
+                "fifo-counts-wrap-at-2-bits"]:
+            page.resize(width, height).visit(f"#lesson={name}&move=0")
+            check(page, SCHEDULES[name].encode("latin-1"), 2)
 
 
 def drawn(lock, threads, bits, count):
@@ -250,19 +250,19 @@ def drawn(lock, threads, bits, count):
     return "\n".join([*lines, ""])
 
 
-@pytest.mark.parametrize("lock, threads, bits", [
-    ("ticket", 3, 2), ("ticket", 3, 64), ("mcs", 3, 8), ("rw-simple", 3, 8), ("rw-fifo", 3, 2),
-    ("rw-fifo", 3, 9)])
-def test_random_schedule(page, lock, threads, bits):
+def test_random_schedule(page):
     """In Play each thread is offered its due step, or the calls that it may begin."""
-    text = drawn(lock, threads, bits, 60)
-    page.open().show(text).press("e")
-    replay = check(page, text.encode())
-    page.press("g")
-    for move, rows in zip(range(1, 61, 4), page.js("choicesAt", list(range(1, 61, 4)))):
-        state = replay.states[move]
-        for thread, (who, standing, is_here, words, look) in enumerate(rows):
-            assert (who, standing) == (replay.name(thread), state["standing"][thread]), move
-            assert is_here == (thread == replay.moves[move - 1].thread), move
-            assert sorted(words) == state["choices"][thread], move
-            assert look == ("due" if words[0] in oracle.STEPS else "may"), (move, words)
+    for lock, threads, bits in [
+            ("ticket", 3, 2), ("ticket", 3, 64), ("mcs", 3, 8), ("rw-simple", 3, 8),
+            ("rw-fifo", 3, 2), ("rw-fifo", 3, 9)]:
+        text = drawn(lock, threads, bits, 60)
+        page.open().show(text).press("e")
+        replay = check(page, text.encode())
+        page.press("g")
+        for move, rows in zip(range(1, 61, 4), page.js("choicesAt", list(range(1, 61, 4)))):
+            state = replay.states[move]
+            for thread, (who, standing, is_here, words, look) in enumerate(rows):
+                assert (who, standing) == (replay.name(thread), state["standing"][thread]), move
+                assert is_here == (thread == replay.moves[move - 1].thread), move
+                assert sorted(words) == state["choices"][thread], move
+                assert look == ("due" if words[0] in oracle.STEPS else "may"), (move, words)

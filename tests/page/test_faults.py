@@ -1,7 +1,6 @@
 """Schedules of the reader's own: messages on faults and refusals, corrections, and markup."""
 import re
 
-import pytest
 
 HEADER = "lock ticket threads 2\n"
 CALLED = f"{HEADER}0 acquire\n"
@@ -122,14 +121,6 @@ def test_it_is_said_once(page):
     assert page.shown()["text"] == "lock mcs threads 2\n0 acquire\n"
 
 
-def test_the_line_that_is_wrong_has_a_band(page):
-    """The band of a wrong line is as tall as its number, and beside it."""
-    page.open()
-    for comments in ["", "# x\n" * 60]:
-        band, number = page.call("open", f"{comments}{CALLED}0 addd\n0 read\n").js("bandAndNumber")
-        assert max(abs(one - other) for one, other in zip(band, number)) <= 1, (band, number)
-
-
 def test_what_is_offered_is_written(page):
     page.open().call("open", "lock MCS threads 2\n0 acquire\n0 writ\n")
     page.call("click", "#verdict [data-mend]")
@@ -181,13 +172,3 @@ def test_markup_is_text(page):
     for part in ["<b>bold</b>", "<script>window.broken=1</script> & so on", "</p><h1>no</h1>",
                  "<i>read</i>"]:
         assert part in said
-
-
-@pytest.mark.parametrize("text", [
-    f"{CALLED}0 {'x' * 5000}\n", f"lock {'y' * 900} threads 2\n", f"{'9' * 300} add\n"],
-    ids=["move", "lock", "number"])
-def test_a_long_word_stays_inside(page, text):
-    """A long word from a line of the text breaks at the edge of the panel."""
-    assert page.open().call("open", text).js("wide") == []
-    assert page.press("g").js("count", "#choices [data-thread='1'][data-word=acquire]") == (
-        text.startswith(HEADER)), "the machine still has the text after it read the line"

@@ -4,12 +4,10 @@ tests/rows/kinds.txt and tests/rows/sketches.txt have the lengths and the counts
 also lists what can happen next: from a new lock of two threads after as many moves as kinds.txt
 says, and in a lesson after as many as are counted by hand.
 """
-import pytest
 
-from tree import ROWS, cases
+from tree import ROWS
 
 HAND_OVER = "#lesson=ticket-hand-over&move=3"
-each_lock = pytest.mark.parametrize("lock", ["ticket", "mcs", "rw-simple", "rw-fifo"])
 
 
 def rows_of(name, lock):
@@ -41,20 +39,13 @@ def test_a_kind_is_found(page):
     assert page.press("u").shown()["lesson"] == "ticket-hand-over"
 
 
-@each_lock
-def test_each_kind_is_opened_at_its_move(page, lock):
+def test_each_kind_is_opened_at_its_move(page):
     """The page opens a run at the move of the kind, even if the run has moves after it."""
-    page.open(HAND_OVER)
-    for at, (_, name, length, *_) in enumerate(rows_of("kinds.txt", lock)):
-        ask(page, lock=lock, kind=str(at)).becomes(name, "text", "#title")
-        assert page.js("place") == int(length)
-
-
-@pytest.mark.parametrize("lock, count", [
-    ("ticket", 7), ("mcs", 16), ("rw-simple", 12), ("rw-fifo", 15)])
-def test_each_lock_lists_its_kinds(page, lock, count):
-    page.open(HAND_OVER).press("m").call("fill", [["lock", lock]])
-    assert len(set(page.js("kinds"))) == count
+    for lock in ["ticket", "mcs", "rw-simple", "rw-fifo"]:
+        page.visit(HAND_OVER)
+        for at, (_, name, length, *_) in enumerate(rows_of("kinds.txt", lock)):
+            ask(page, lock=lock, kind=str(at)).becomes(name, "text", "#title")
+            assert page.js("place") == int(length)
 
 
 def test_bounds_of_numbers(page):
@@ -65,13 +56,6 @@ def test_bounds_of_numbers(page):
             "#new [name=threads]": ["1", "64"], "#new [name=bits]": ["2", "64"],
             "#find-rounds": ["1", "255"]}.items():
         assert [page.js("attribute", field, end) for end in ("min", "max")] == bounds, field
-
-
-def test_lines_go_with_their_lock(page):
-    page.open(HAND_OVER).press("m")
-    assert page.js("focused") == "find-kind", "the reader can choose at once"
-    assert "cas failed" in page.js("fill", [["lock", "mcs"], ["kind", "12"]])
-    assert page.js("fill", [["lock", "ticket"]]) == ""
 
 
 def test_what_was_filled_in_stays(page):
@@ -104,55 +88,20 @@ def test_lines_in_place_of_those_of_a_kind(page):
     assert shown["place"] == shown["moves"] == 3, shown
 
 
-@each_lock
-def test_a_line_of_the_report(page, lock):
+def test_a_line_of_the_report(page):
     """A line may be a step with an outcome. Its shortest run is the shortest among the kinds with
     this step and outcome. A call has no outcome of its own."""
-    wanted = {}
-    for phases, _, length, *_ in rows_of("kinds.txt", lock):
-        _, word, outcome, _ = phases.split()
-        if outcome != "called":
-            wanted.setdefault(f"* {word} {outcome}", []).append(int(length))
-    page.open(HAND_OVER)
-    for line, lengths in wanted.items():
-        ask(page, lock=lock, sketch=line).becomes(line, "text", "#title")
-        assert page.js("place") == min(lengths), line
-        assert page.js("attribute", "#now [data-outcome]", "data-outcome") == line.split()[2]
-
-
-def test_outcomes_of_two_lines(page):
-    """The second thread swaps at move 6, and its poll, the third step after that, is move 9."""
-    ask(page.open(HAND_OVER), lock="mcs", threads="2", sketch="* swap moved\n* read waits")
-    assert page.becomes("* swap moved; * read waits", "text", "#title").shown()["place"] == 9
-
-
-def test_moves_that_must_not_come(page):
-    """Thread 1 links itself in its fifth move, before thread 0 reads `next` in its own fifth."""
-    sketch = "not * read waits\n0 read next found 2"
-    ask(page.open(HAND_OVER), lock="mcs", threads="2", sketch=sketch)
-    assert page.becomes(sketch.replace("\n", "; "), "text", "#title").js("place") == 10
-
-
-def test_the_example_in_the_box(page):
-    """The example is a line of the lock, and the page searches for it if the field is empty."""
-    page.open("#lesson=mcs-late-link&move=3")
-    assert ask(page).js("value", "#find-sketch") == ""
-    example = page.js("attribute", "#find-sketch", "placeholder")
-    assert example.split()[1] in ("acquire", "release", "read", "write", "swap", "cas"), example
-    page.becomes("; ".join(example.splitlines()), "text", "#title")
-    assert page.shown()["lesson"] is None
-
-
-@each_lock
-def test_lines_of_the_kinds(page, lock):
-    """The example is that of the kind in the middle. Lines of a kind stay, for one to go on from
-    there, if lines of one's own are chosen again."""
-    page.open(HAND_OVER).press("m")
-    middle = str(len(rows_of("kinds.txt", lock)) // 2)
-    lines = page.js("fill", [["lock", lock], ["kind", middle]])
-    assert lines == page.js("attribute", "#find-sketch", "placeholder") != ""
-    assert page.js("fill", [["kind", ""]]) == lines
-    assert page.js("text", "#find-kind option") == "as the lines below say"
+    for lock in ["ticket", "mcs", "rw-simple", "rw-fifo"]:
+        wanted = {}
+        for phases, _, length, *_ in rows_of("kinds.txt", lock):
+            _, word, outcome, _ = phases.split()
+            if outcome != "called":
+                wanted.setdefault(f"* {word} {outcome}", []).append(int(length))
+        page.visit(HAND_OVER)
+        for line, lengths in wanted.items():
+            ask(page, lock=lock, sketch=line).becomes(line, "text", "#title")
+            assert page.js("place") == min(lengths), line
+            assert page.js("attribute", "#now [data-outcome]", "data-outcome") == line.split()[2]
 
 
 def test_without_the_machine(page):
@@ -173,31 +122,30 @@ KEIN_LAUF = ("Kein Lauf mit 2 Threads, von denen jeder die Sperre höchstens ein
 BOTH_LOCKED = "0 write locked of 1\n1 write locked of 0"
 
 
-@cases("fields, answer", {
-    "none": ({"lock": "mcs", "threads": "3", "sketch": BOTH_LOCKED},
-             f"{NONE_OF_3} 1,018 states were searched."),
-    "rounds": ({"lock": "mcs", "threads": "2", "rounds": "2", "sketch": "0 swap tail found 1"},
-               f"{NONE_OF_2} 325 states were searched."),
-    "a line": ({"lock": "ticket", "threads": "2", "rounds": "1", "sketch": "0 add\n0 lost"},
-               NO_LINE),
-    "a last not": ({"lock": "ticket", "threads": "2", "sketch": "0 add\nnot 1\n"},
-                   "“not” holds up to the next line, and there is none."),
-    "a last not before blanks": (
-        {"lock": "ticket", "threads": "2", "sketch": "0 add\nnot 1\n  \n"},
-        "“not” holds up to the next line, and there is none."),
-    "an outcome that no step has": (
-        {"lock": "mcs", "threads": "2", "rounds": "1", "sketch": "* write waits"},
-        "No run of 2 threads, each of which takes the lock at most once, has these lines: all 76 "
-        "states were searched."),
-    "too many lines": ({"lock": "ticket", "threads": "2", "sketch": "0 add\n" * 256},
-                       "Line 256 is one too many: a sketch has at most 255 lines."),
-    "a lock": ({"lock": "ticket", "threads": "4", "bits": "2", "sketch": "0 add"},
-               "There is no such lock, the text is too long, or many threads need wider words."),
-})
-def test_what_is_answered(page, fields, answer):
+UNANSWERED = {
+    ("mcs", "threads 3", BOTH_LOCKED): f"{NONE_OF_3} 1,018 states were searched.",
+    ("mcs", "rounds 2", "0 swap tail found 1"): f"{NONE_OF_2} 325 states were searched.",
+    ("ticket", "rounds 1", "0 add\n0 lost"): NO_LINE,
+    ("ticket", "rounds 1", "0 add\nnot 1\n"):
+        "“not” holds up to the next line, and there is none.",
+    ("ticket", "rounds 1", "0 add\nnot 1\n  \n"):
+        "“not” holds up to the next line, and there is none.",
+    ("ticket", "rounds 1", "0 add\n" * 256):
+        "Line 256 is one too many: a sketch has at most 255 lines.",
+    ("ticket", "bits 2", "0 add"):
+        "There is no such lock, the text is too long, or many threads need wider words.",
+}
+
+
+def test_what_is_answered(page):
     """If there is no such run or the question is wrong, the page says so and keeps the lesson."""
-    ask(page.open(HAND_OVER), **fields)
-    assert page.becomes(answer, "text", "#find-answer").shown()["lesson"] == "ticket-hand-over"
+    page.open(HAND_OVER)
+    for (lock, asked, sketch), answer in UNANSWERED.items():
+        name, number = asked.split()
+        numbers = {"threads": "4" if name == "bits" else "2", "rounds": "1", "bits": "64",
+                   name: number}
+        ask(page, lock=lock, **numbers, sketch=sketch).becomes(answer, "text", "#find-answer")
+        assert page.press("Escape").shown()["lesson"] == "ticket-hand-over"
 
 
 def test_it_speaks_german(page):
@@ -244,10 +192,11 @@ def what_is_next(page, wanted):
     return list(found)
 
 
-@each_lock
-def test_a_new_lock_reaches_every_kind(page, lock):
-    page.open(HAND_OVER).show(f"lock {lock} threads 2\n").press("g").click("#next-kinds summary")
-    what_is_next(page, {name: int(moves) for _, name, moves, *_ in rows_of("kinds.txt", lock)})
+def test_a_new_lock_reaches_every_kind(page):
+    for lock in ["ticket", "mcs", "rw-simple", "rw-fifo"]:
+        page.open(HAND_OVER).show(f"lock {lock} threads 2\n").press("g")
+        page.click("#next-kinds summary")
+        what_is_next(page, {name: int(moves) for _, name, moves, *_ in rows_of("kinds.txt", lock)})
 
 
 def test_what_is_near_in_a_lesson(page):
@@ -263,11 +212,3 @@ def test_what_is_near_in_a_lesson(page):
     assert page.js(*hint) == []
     page.show("lock mcs threads 9\n").press("g")
     page.becomes(["What is further away was not searched."], *hint)
-
-
-def test_what_is_near_is_that_of_the_move(page):
-    """The list belongs to the shown move: before the first move it is that of a new lock."""
-    page.open("#lesson=mcs-late-link&move=8").press("g").click("#next-kinds summary")
-    what_is_next(page, AFTER_THE_SWAP)
-    page.go(0)
-    what_is_next(page, {name: int(moves) for _, name, moves, *_ in rows_of("kinds.txt", "mcs")})

@@ -1,48 +1,30 @@
 """Keys, links and choices lead to hall mode, to frames for slides, and to hidden parts."""
 import pytest
 
-from tree import cases
-
-SCREENS = [(1024, 768), (1280, 720), (1366, 768), (1440, 900), (1920, 1080)]
-# A state of each lock whose picture has as much in it as any of its lessons.
-STATES = [
-    ("mcs-third-linked-before-second", 12), ("ticket-wraps-at-2-bits", 23),
-    ("simple-second-writer", 6), ("fifo-counts-wrap-at-2-bits", 16)]
-PAIRS = ["memory,code", "time,now", "time,memory", "code,now"]
 SHARE = 0.025
 LATE_LINK = "#lesson=mcs-late-link&move=9"
 
 
-@pytest.mark.parametrize("width, height", SCREENS)
+# A state of each lock whose picture has as much in it as any of its lessons, and two parts.
+STATES = [
+    ("mcs-third-linked-before-second", 12, "memory,code"),
+    ("mcs-third-linked-before-second", 12, "time,now"),
+    ("mcs-third-linked-before-second", 12, "code,now"),
+    ("ticket-wraps-at-2-bits", 23, "memory,code"), ("simple-second-writer", 6, "memory,code"),
+    ("fifo-counts-wrap-at-2-bits", 16, "memory,code")]
+
+
+@pytest.mark.parametrize("width, height", [(1024, 768), (1366, 768), (1920, 1080)])
 def test_letters_are_large(page, width, height):
     """Every visible letter has 2.5 % of the screen's height, and the line of code is in view."""
     page.resize(width, height)
-    first, *others = [(*state, PAIRS[0]) for state in STATES]
-    for lesson, move, pair in [(*first[:2], pair) for pair in PAIRS] + others:
-        page.open(f"#lesson={lesson}&move={move}&hall&show={pair}")
-        where = (lesson, pair)
-        least = page.js("letters")
-        assert least and least[0][0] >= SHARE - 0.0001, (where, least)
-        shown = page.js("inView")
-        assert shown["parts"] == pair.split(","), (where, shown)
-        assert shown["line"] and shown["moving"], (where, shown)
-        # Beside the lanes memory may be scrolled, on the lowest screens.
-        assert not shown["cut"] or pair == "time,memory", (where, shown)
-        assert shown["current"].startswith(str(move)), (where, shown)
-
-
-def test_letters_of_the_quiz_are_large(page):
-    """The questions, what is said of a wrong answer, and the list of wrong answers at the end."""
-    page.resize(1024, 768).open("#lesson=ticket-hand-over&move=0&hall").press("q", "End")
-    asked = 0
-    while kind := page.js("answerWrongly"):
-        least = page.js("letters")
-        assert least[0][0] >= SHARE - 0.0001, (kind, least)
-        page.press("End")
-        asked += 1
-        least = page.js("letters")
-        assert least[0][0] >= SHARE - 0.0001, (asked, least)
-    assert asked > 4 and page.js("count", "#current .quiz-end li") == asked
+    for lesson, move, pair in STATES:
+        page.visit(f"#lesson={lesson}&move={move}&hall&show={pair}")
+        least, shown = page.js("letters"), page.js("inView")
+        assert least and least[0][0] >= SHARE - 0.0001, (lesson, pair, least)
+        assert shown["parts"] == pair.split(","), (lesson, shown)
+        assert shown["line"] and shown["moving"] and not shown["cut"], (lesson, pair, shown)
+        assert shown["current"].startswith(str(move)), (lesson, pair, shown)
 
 
 def test_by_key(page):
@@ -57,77 +39,32 @@ def test_by_key(page):
     assert page.click("#leave").js("header")
 
 
-def test_how_tall_lanes_are(page):
-    """Lanes of many threads are lower above memory than above a part that needs less room."""
-    page.open(LATE_LINK)
-    page.show("lock ticket threads 64\n" + "".join(f"{one} acquire\n" for one in range(64)), 64)
-    page.press("h")
-    heights = {}
-    for part in ["time", "memory", "now", "time"]:
-        page.call("choosePart", part)
-        heights[" ".join(page.js("parts"))] = page.js("lanesHeight")
-    assert heights["time now"] > 1.1 * heights["time memory"], heights
-
-
-@cases("look, chosen, parts, address", {
-    "a third part in place of the first": ("&hall", "now", ["code", "now"], "&hall&show=code,now"),
-    "its own two, as by key": ("&show=time,memory,now", "hall", ["memory", "code"], "&move=9&hall"),
-    "the first two of a link": ("&hall&show=time,memory,code,now", None, ["time", "memory"], "")})
-def test_two_parts(page, look, chosen, parts, address):
+def test_two_parts(page):
     """Hall mode shows two parts, by a link or by the list."""
-    page.open(f"{LATE_LINK}{look}")
-    if chosen:
-        page.call("choosePart", chosen).until("addressEnds", address)
-        assert page.js("partsTicked") == parts
-    assert page.js("parts") == parts and not page.js("header")
+    for look, chosen, parts, address in [
+            ("&hall", "now", ["code", "now"], "&hall&show=code,now"),
+            ("&show=time,memory,now", "hall", ["memory", "code"], "&move=9&hall"),
+            ("&hall&show=time,memory,code,now", None, ["time", "memory"], "")]:
+        page.open(f"{LATE_LINK}{look}")
+        if chosen:
+            page.call("choosePart", chosen).until("addressEnds", address)
+            assert page.js("partsTicked") == parts
+        assert page.js("parts") == parts and not page.js("header")
 
 
-@pytest.mark.parametrize("key", ["e", "g"])
-def test_beside_a_form(page, key):
-    """On the narrowest screen memory is above the code, and nothing of it is cut."""
-    page.resize(1024, 768).open("#lesson=ticket-hand-over&move=3&hall").press(key)
-    shown = page.js("inView")
-    assert shown["parts"] == ["memory", "code"] and not shown["cut"], shown
-
-
-@pytest.mark.parametrize("mode", ["", "g", "e", "q"])
-def test_parts_are_chosen(page, mode):
+def test_parts_are_chosen(page):
     """Outside hall mode a reader chooses any number of parts."""
-    page.open(LATE_LINK).press(*mode).call("choosePart", "code")
-    assert page.js("parts") == ["time", "memory", "now"]
-    page.until("addressEnds", "&show=time,memory,now")
-    assert page.reload().js("parts") == ["time", "memory", "now"]
-
-
-@pytest.mark.parametrize("key", ["g", "e", "a"])
-def test_the_line_stays_in_view(page, key):
-    """The line stays in view beside a panel, below an answer, and in a lower window."""
-    assert page.resize(1280, 720).open(LATE_LINK).press(key).js("line")
-    page.resize(1280, 600).until("line")
-
-
-@pytest.mark.parametrize("look", ["", "&hall&show=time,now"])
-def test_story_and_moves_to_come(page, look):
-    """The story and the later moves appear when a key asks for them."""
-    shown = page.open(f"#lesson=mcs-late-link&move=0{look}").js("story")
-    assert shown["story"] == shown["faint"] == shown["marks"] == 0, shown
-    shown = page.press("a", "f").js("story")
-    assert shown["story"] == 1 and shown["marks"] == 16 and shown["faint"] > 16, shown
-    assert page.press("f").js("story")["marks"] == 0
-
-
-def test_an_answer_is_not_given_away(page):
-    """The page shows the parts that answer a question only with the answer."""
-    shown = page.open("#lesson=mcs-late-link&move=8").js("story")
-    assert shown["links"] == shown["answers"] == 0 and "only Bob" not in shown["caption"], shown
-    shown = page.press("a").js("story")
-    assert shown["links"] == 2 and shown["caption"].startswith("Ann is followed by Bob"), shown
+    for mode in ["", "g", "e", "q"]:
+        page.open(LATE_LINK).press(*mode).call("choosePart", "code")
+        assert page.js("parts") == ["time", "memory", "now"]
+        page.until("addressEnds", "&show=time,memory,now")
+        assert page.reload().js("parts") == ["time", "memory", "now"]
 
 
 def test_a_frame_for_a_slide(page):
     """A frame of 960 by 480 shows both parts, and no tools."""
     page.resize(960, 480)
-    for lesson, move in STATES:
+    for lesson, move, _ in STATES[2:]:
         shown = page.open(f"#lesson={lesson}&move={move}&embed&show=memory,code").js("inView")
         assert shown["parts"] == ["memory", "code"] and not shown["header"], (lesson, shown)
         assert shown["line"] and shown["moving"], (lesson, shown)
@@ -155,18 +92,6 @@ def test_a_theme_in_the_link(page, letters):
     assert page.js("theme") == "light"
 
 
-def test_the_link_comes_before_what_was_chosen(page):
-    page.open(LATE_LINK).press("d").becomes("dark", "theme")
-    assert page.call("follow", f"{LATE_LINK}&theme=light").js("theme") == "light"
-
-
-def test_the_theme_button_names_the_other(page):
-    """The button names the other theme after a link with a theme, and after a link without one."""
-    assert page.open(f"{LATE_LINK}&theme=dark").text("#theme").startswith("Light")
-    page.call("follow", LATE_LINK)
-    assert page.js("theme") == "" and page.text("#theme").startswith("Dark")
-
-
 TRACE_IN_A_HALL = "#lesson=ticket-hand-over&hall&show="
 TRACE = """lock ticket threads 2
 0 acquire
@@ -186,12 +111,3 @@ def test_a_trace(page):
         "2 thread 0, add next_ticket found 0 ticket := add(next_ticket, 1)")
     page.open(f"{TRACE_IN_A_HALL}now,code").call("paste", TRACE).shown(refused=True, moves=3)
     assert refused not in page.text("#current") and refused in page.text("#now")
-
-
-def test_a_question_covers_recorded_values(page):
-    page.open(f"{TRACE_IN_A_HALL}memory,code")
-    page.call("paste", TRACE + "#! ask 2 hide facts : Which ticket?\n#! answer 2 : 0\n")
-    page.shown(refused=True, moves=3)
-    assert page.go(2).text("#current").startswith("2 thread 0, add ticket := add")
-    page.press("a")
-    assert page.text("#current").startswith("2 thread 0, add next_ticket found 0 ticket := add")

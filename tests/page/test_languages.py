@@ -5,7 +5,6 @@ import re
 import pytest
 
 from reports import LESSONS, MOVES, PLANS, SCHEDULES, TRANSLATIONS, remarks
-from tree import cases
 
 GERMAN = "#lesson=mcs-late-link&move=0&lang=de"
 # Texts that stay: words of schedules and reports, names of files, and texts without a word.
@@ -18,10 +17,6 @@ def test_every_sentence(page):
     page.open("#lang=de&lesson=mcs-late-link&move=0")
     assert {path.strip(".") for path in page.js("untranslated")} == THE_SAME
     assert page.js("language") == "de"
-
-
-def test_reports_are_the_same(page):
-    assert page.open(GERMAN).js("reports", list(SCHEDULES.values())) == list(LESSONS.values())
 
 
 def test_each_place_is_filled_in(page):
@@ -65,16 +60,6 @@ def test_what_is_said_in_a_lesson(page):
     assert page.press("c").js("texts", "#other-list [data-other]")[-2:] == after
 
 
-@pytest.mark.parametrize("width, height, look", [
-    (390, 844, ""), (1280, 720, ""), (1280, 720, "&hall"), (1440, 900, "")])
-def test_pictures_fit(page, width, height, look):
-    """German words are longer, and still no picture cuts one."""
-    page.resize(width, height).open(f"{GERMAN}{look}")
-    for name, report in LESSONS.items():
-        if not report.startswith("fault"):
-            assert not any(page.js("cut", name)), name
-
-
 def begun_in(page, language):
     """Waits until the page has begun anew, in a language."""
     page.wait(lambda: page.tried(page.js, "hasBegunIn", language), lambda: f"it is not {language}")
@@ -91,30 +76,16 @@ def test_by_the_address_and_back(page):
     begun_in(page.call("follow", "#lesson=mcs-late-link&move=10&lang=de"), "de")
 
 
-@pytest.mark.parametrize("link", ["#lang=de&lesson=none", "#lesson=none&lang=de"])
-def test_another_language_of_a_damaged_link(page, link):
-    """The language that is chosen at the start replaces that of a link which stays as it is."""
-    page.open(link).call("click", "#lessons [data-lang=en]")
-    assert begun_in(page, "en").js("addressEnds", "lesson=none&lang=en")
-
-
-@pytest.mark.parametrize("look", ["", "&theme=dark"])
-def test_another_language_of_the_start(page, look):
+def test_another_language_of_the_start(page):
     """The start comes again in the language that is chosen, until a move was shown."""
-    page.open(f"#lang=de{look}").call("click", "#lessons [data-lang=en]")
-    assert begun_in(page, "en").js("count", "#lessons[open]") == 1
-    page.becomes(f"#lesson=ticket-hand-over&move=0&lang=en{look}", "address").press("Escape").go(1)
-    page.press("o").call("click", "#lessons [data-lang=de]")
-    assert begun_in(page, "de").js("count", "#lessons[open]") == 0
-    page.becomes(f"#lesson=ticket-hand-over&move=1&lang=de{look}", "address")
-
-
-def test_another_language_of_the_first_lesson(page):
-    """A lesson that was chosen at the start stays, though no move was shown."""
-    page.open("#lang=en").click("[data-lesson=mcs-late-link]").press("o")
-    begun_in(page.call("click", "#lessons [data-lang=de]"), "de")
-    page.becomes("#lesson=mcs-late-link&move=0&lang=de", "address")
-    assert page.js("count", "#lessons[open]") == 0
+    for look in ["", "&theme=dark"]:
+        page.open(f"#lang=de{look}").call("click", "#lessons [data-lang=en]")
+        assert begun_in(page, "en").js("count", "#lessons[open]") == 1
+        page.becomes(f"#lesson=ticket-hand-over&move=0&lang=en{look}", "address")
+        page.press("Escape").go(1)
+        page.press("o").call("click", "#lessons [data-lang=de]")
+        assert begun_in(page, "de").js("count", "#lessons[open]") == 0
+        page.becomes(f"#lesson=ticket-hand-over&move=1&lang=de{look}", "address")
 
 
 @pytest.mark.parametrize("wanted, language", [
@@ -125,50 +96,14 @@ def test_the_language_of_the_browser(page, wanted, language):
     assert page.js("language") == language
 
 
-@pytest.mark.parametrize("language, name", [("en", "English"), ("de", "Deutsch")])
-def test_the_language_is_pressed(page, language, name):
+def test_the_language_is_pressed(page):
     """The button of the language is pressed, at the start and in the dialog about the page."""
-    page.open(f"#lang={language}")
-    assert page.js("texts", "#lessons [data-lang][aria-pressed=true]") == [name]
-    page.press("Escape").call("click", "#show-about")
-    assert page.js("texts", "#about [data-lang][aria-pressed=true]") == [name]
-    assert page.js("texts", "#about [lang=de]") == ["Deutsch"], "a voice reads it in its language"
-
-
-# The German words for the standing of a thread: in lessons at a move, in the room or in the head
-# of a record, and below the lanes.
-STANDINGS = {
-    "fifo-reader-waits-behind-writer&move=2": ("#memory-picture .room-name", "drinnen: liest"),
-    "fifo-reader-waits-behind-writer&move=14": ("#memory-picture .room-name", "drinnen"),
-    "fifo-writer-enters-at-once&move=3": ("#memory-picture .room-name", "drinnen: schreibt"),
-    "mcs-late-link&move=3": ("#memory-picture .record.holds .standing", "hält"),
-    "mcs-late-link&move=12": ("#memory-picture .record.queue .standing", "Schlange"),
-}
-SIGNS = {"call": "in einem Aufruf", "queue": "in der Schlange", "reads": "liest",
-         "writes": "schreibt"}
-# The German for what a move does, by a move of the late link that does it.
-PLAIN = {1: "ein Aufruf beginnt", 2: "der Aufruf geht weiter",
-         3: "von hier an hält der Thread die Sperre", 9: "das compare-and-swap scheitert",
-         10: "eine vergebliche Abfrage", 15: "der Thread hält die Sperre nicht mehr"}
-LEGEND = ["ruft auf", "der Aufruf geht weiter", "wartet: vergebliche Abfrage", "tritt ein",
-          "ist draußen", "cas scheitert", "in einem Aufruf", "in der Schlange", "hält",
-          "in der Schlange, nicht verknüpft", "das write, das ein Warten beendet hat"]
-
-
-def test_how_threads_stand(page):
-    for link, (selector, text) in STANDINGS.items():
-        assert page.open(f"#lesson={link}&lang=de").text(selector) == text, link
-    assert page.open("#lesson=fifo-downgrade&move=0&lang=de").js("signs") == SIGNS
-    page.lesson("mcs-late-link", 12)
-    assert page.text("#memory-says") == "Nach Ann kommt Bob, und nur Bob weiß es."
-
-
-def test_what_moves_do(page):
-    assert page.open(GERMAN).js("texts", "#legend > span") == LEGEND
-    assert page.js("plainAt", list(PLAIN)) == list(PLAIN.values())
-    page.go(15)
-    assert "Ann löscht locked von Bob und hat die Sperre verlassen; Bob ist als Nächstes dran" in (
-        page.text("#now"))
+    for language, name in [("en", "English"), ("de", "Deutsch")]:
+        page.open(f"#lang={language}")
+        assert page.js("texts", "#lessons [data-lang][aria-pressed=true]") == [name]
+        page.press("Escape").call("click", "#show-about")
+        assert page.js("texts", "#about [data-lang][aria-pressed=true]") == [name]
+        assert page.js("texts", "#about [lang=de]") == ["Deutsch"]
 
 
 # For each term of the German glossary a text with a form of it, and a part of its meaning.
@@ -209,30 +144,6 @@ def test_which_term_a_german_word_is(page):
         assert part in meaning, term
 
 
-# What is said of the last of these moves of a read-write lock: what a section found, and who holds
-# at a refused move.
-SAID = {
-    "writer": ("0 wlock; 0 section",
-               "Thread 0 findet keinen Leser und das flag gelöscht, setzt es und"),
-    "poll": ("1 rlock; 1 section; 0 wlock; 0 section", "Thread 0 fragt ab und wartet: readers ist "
-             "1, und das flag ist 0; beide müssen 0 sein"),
-    "reader": ("0 rlock; 0 section", "Thread 0 findet keinen Schreiber und trägt sich ein"),
-    "refused beside a reader": ("0 rlock; 0 section; 1 runlock",
-                                "Thread 0 hält die Sperre zum Lesen."),
-    "refused beside a writer": ("0 wlock; 0 section; 1 runlock",
-                                "Thread 0 hält die Sperre zum Schreiben."),
-    "refused beside readers": ("0 rlock; 0 section; 1 rlock; 1 section; 2 runlock",
-                               "Thread 0, Thread 1 halten die Sperre zum Lesen."),
-}
-
-
-@cases("moves, said", SAID)
-def test_what_is_said_of_a_move(page, moves, said):
-    lines = moves.split("; ")
-    page.open(GERMAN).show("\n".join(["lock rw-simple threads 3", *lines, ""]), len(lines))
-    assert said in page.text("#now")
-
-
 # Synonyms that German texts must not use. The words for these things are Record, Zähler, drinnen,
 # Reihenfolge, Kopfzeile (a queue has a Kopf, its head), Trace, wieder bei 0.
 OTHER_WORDS = re.compile(
@@ -247,26 +158,6 @@ def test_one_word_for_each_thing(page):
     said += " ".join(TRANSLATIONS.values())
     assert "flag gesetzt" in said and TRANSLATIONS["The late link"] in said
     assert not OTHER_WORDS.findall(said)
-
-
-def test_titles_of_what_is_refused(page):
-    """The titles of refused lessons are German, except for the name of the fault."""
-    said = page.open("#lang=de").click(".refusals summary").text(".refusals")
-    for part in ["Busy: ein Aufruf", "WrongStep: ein read, wo", "BadThreads: 65 Threads"]:
-        assert part in said
-
-
-@pytest.mark.parametrize("moves, said", [
-    (1, "Der Zug davor lässt sich zeigen."), (2, "Die 2 Züge davor lassen sich zeigen.")])
-def test_moves_before_a_fault(page, moves, said):
-    page.open(GERMAN)
-    page.show("".join(["lock ticket threads 2\n", *["0 acquire\n", "0 add\n"][:moves], "0 go\n"]))
-    assert said in page.text("#verdict")
-
-
-def test_the_card_of_mcs(page):
-    said = page.open("#lang=de").text("[data-lock=mcs]")
-    assert "Jeder Thread wartet an einem eigenen Wort" in said
 
 
 def test_comments_on_other_moves(page):

@@ -4,7 +4,7 @@ import re
 
 import pytest
 
-from reports import PLANS, TRANSLATIONS, asked_in, remarks
+from reports import PLANS, asked_in, remarks
 from tree import TOP
 
 GUIDE = (TOP / "docs" / "GUIDE.md").read_text("utf-8")
@@ -30,41 +30,31 @@ def played(step):
     return len(step["play"].split(",")) if "play" in step else 0
 
 
-@pytest.mark.parametrize("width, height", [(1024, 768), (1366, 768), (1920, 1080)])
-@pytest.mark.parametrize("plan", PLANS, ids=list(LESSONS))
-def test_a_plan_step_by_step(page, plan, width, height):
+@pytest.mark.parametrize("width, height", [(1024, 768), (1920, 1080)])
+def test_a_plan_step_by_step(page, width, height):
     """N goes to the next step, A shows the answer, with what the step plays or compares."""
-    begin(page.resize(width, height), plan["lock"])
-    for at, step in enumerate(plan["steps"], 1):
-        shown = page.js("step")
-        where = (at, shown)
-        compares = bool(played(step) or step.get("compare"))
-        assert shown["place"] == step["move"] and shown["hall"], where
-        assert shown["step"] == f"Step {at} of {len(plan['steps'])}" and shown["isSeen"], where
-        assert "show" not in step or shown["parts"] == step["show"].split(","), where
-        assert not shown["compares"], where
-        if step["place"] != "hand-over, 3":
-            assert shown["question"].startswith(f"Question: {step.get('ask', '')}"), where
-            answered = page.press("a").js("step")
-            assert answered["place"] == step["move"] + played(step), (at, answered)
-            assert answered["compares"] == compares and answered["isSeen"], (at, answered)
-            assert answered["answers"] == 1 and answered["question"] == shown["question"], where
-            assert step.get("answer", "") in answered["answer"] != "", (at, answered)
-        page.press(*"n"[:at < len(plan["steps"])])
-    shown = page.press("Escape").js("step")
-    assert not shown["hall"] and not shown["step"], shown
+    for plan in PLANS:
+        begin(page.resize(width, height), plan["lock"])
+        for at, step in enumerate(plan["steps"], 1):
+            check_step(page, step, f"Step {at} of {len(plan['steps'])}")
+            page.press(*"n"[:at < len(plan["steps"])])
+        shown = page.press("Escape").js("step")
+        assert not shown["hall"] and not shown["step"], shown
 
 
-@pytest.mark.parametrize("plan", PLANS, ids=list(LESSONS))
-def test_a_plan_in_german(page, plan):
-    """German words are longer, and still the smallest screen cuts no text and no control."""
-    begin(page.resize(1024, 768), plan["lock"], "de")
-    for at in range(1, len(plan["steps"]) + 1):
-        for _ in range(2):
-            shown = page.js("step")
-            assert shown["isSeen"] and not shown["cut"], (at, shown)
-            page.press("a")
-        page.press("n")
+def check_step(page, step, name):
+    """The place and the parts of a step, its question, and what comes with the answer."""
+    shown = page.js("step")
+    assert shown["place"] == step["move"] and shown["hall"] and shown["step"] == name, shown
+    assert "show" not in step or shown["parts"] == step["show"].split(","), (name, shown)
+    assert not shown["compares"] and shown["isSeen"] and not shown["cut"], (name, shown)
+    if step["place"] != "hand-over, 3":
+        assert shown["question"].startswith(f"Question: {step.get('ask', '')}"), (name, shown)
+        answered = page.press("a").js("step")
+        assert answered["place"] == step["move"] + played(step), (name, answered)
+        assert answered["compares"] == bool(played(step) or step.get("compare")), (name, answered)
+        assert answered["answers"] == 1 and answered["question"] == shown["question"], answered
+        assert step.get("answer", "") in answered["answer"] != "" and answered["isSeen"], answered
 
 
 def test_what_a_question_asks_for_is_not_beside_it(page):
@@ -75,52 +65,17 @@ def test_what_a_question_asks_for_is_not_beside_it(page):
         assert page.press("a").js("step")["discs"] and answer in page.text("#memory-picture")
 
 
-@pytest.mark.parametrize("lock, further, place, answered", [("mcs", 3, 7, 8), ("rw-fifo", 1, 6, 6)])
-def test_a_click_on_the_answer(page, lock, further, place, answered):
+def test_a_click_on_the_answer(page):
     """Key A closes an answer that a click opened, and the comparison; and opens both again."""
-    begin(page, lock).press(*"n" * further)
-    for act, there, answers in [(lambda: page.click("#current .question summary"), answered, 1),
-                                (lambda: page.press("a"), place, 0),
-                                (lambda: page.press("a"), answered, 1)]:
-        act()
-        shown = page.js("step")
-        assert [shown["place"], shown["answers"], shown["compares"]] == [
-            there, answers, bool(answers)], shown
-
-
-@pytest.mark.parametrize("lock, further, keys, place, own", [
-    ("mcs", 3, ["ArrowRight"] * 2, 8, "Bob is in the queue now."),
-    ("rw-fifo", 1, ["ArrowRight"] * 5, 10, "Nobody is inside.")], ids=["mcs", "rw-fifo"])
-def test_an_answer_elsewhere(page, lock, further, keys, place, own):
-    """Moves within a step meet the lesson's own questions, which play and compare nothing."""
-    shown = begin(page, lock).press(*"n" * further, *keys, "a").js("step")
-    assert [shown["place"], shown["answers"], shown["compares"]] == [place, 1, False], shown
-    assert shown["question"].startswith(f"Question: {own}"), shown
-
-
-def test_the_question_of_a_step_and_that_of_its_lesson(page):
-    """A step that plays another move asks only its own question; without the plan it is back."""
-    said = begin(page, "mcs").press(*"nnn").js("texts", "#bar .question p b")
-    assert said == ["Question:"]
-    page.press("Escape").lesson("mcs-late-link", 7)
-    assert page.text("#now .question p") == "Question: Ann finds no successor. Is she alone?"
-
-
-def test_memory_of_the_last_step_of_mcs(page):
-    """The whole memory is in view, with three records and a thread's own variable."""
-    shown = begin(page.resize(1024, 768), "mcs").press(*"nnnn").js("step")
-    assert shown["parts"] == ["memory"]
-    assert any("own variable" in one for one in page.js("seenOfMemory"))
-
-
-@pytest.mark.parametrize("lock, further", [("mcs", 3), ("rw-fifo", 1)])
-@pytest.mark.parametrize("width, height", [(1024, 768), (1366, 768)])
-def test_a_step_that_compares(page, lock, further, width, height):
-    """Letters of the memory have 2 % of the screen's height, and lanes leave room for words."""
-    begin(page.resize(width, height), lock)
-    least, between = page.press(*"n" * further, "a").js("compared")
-    assert least >= 0.0199 and between > 0.05, (least, between)
-    assert page.js("wordsOffMarks") == []
+    for lock, further, place, answered in [("mcs", 3, 7, 8), ("rw-fifo", 1, 6, 6)]:
+        begin(page, lock).press(*"n" * further)
+        for act, there, answers in [(lambda: page.click("#current .question summary"), answered, 1),
+                                    (lambda: page.press("a"), place, 0),
+                                    (lambda: page.press("a"), answered, 1)]:
+            act()
+            shown = page.js("step")
+            assert [shown["place"], shown["answers"], shown["compares"]] == [
+                there, answers, bool(answers)], shown
 
 
 def test_the_clock(lecturer):
@@ -133,13 +88,6 @@ def test_the_clock(lecturer):
     lecturer.call("wait", 11).until("clockThereBegins", "−1:")
     assert lecturer.js("clocks") == [1000]
     assert lecturer.press("Escape").js("clocks") == []
-
-
-def test_the_clock_of_a_later_step(lecturer):
-    """The third step of this plan begins after 4 of 10 minutes, so six are left."""
-    lecturer.open().press("Escape", "n").click("#plans [data-plan='mcs'][data-step='2']")
-    lecturer.press("2").until("presented")
-    assert re.fullmatch(r"6:00|5:[345]\d", lecturer.js("clockThere"))
 
 
 def test_a_reload_in_a_lecture(lecturer):
@@ -283,17 +231,17 @@ def test_links_of_the_guide(page):
         assert shown["hall"] == ("move" in step) and shown["sheet"] != shown["hall"], (link, shown)
 
 
-@pytest.mark.parametrize("way", ["plan", "about"])
-def test_homework(page, way):
+def test_homework(page):
     """The plans lead to the exercise sheet of the homework, without a dialog below it."""
-    page.open("#lesson=ticket-hand-over&move=3")
-    for button in {"plan": ["#plan"], "about": ["#show-about", "#about [data-plans]"]}[way]:
-        page.call("click", button)
-    assert page.js("texts", "dialog[open] > form h2") == ["Lesson plans"]
-    page.call("click", "#plans [data-sheet^=mcs-]")
-    assert page.js("texts", "dialog[open] > form h2") == ["Print"]
-    assert page.js("count", "#sheets [data-sheet=exercise]:focus") == 1
-    assert page.shown()["lesson"] == PLANS[1]["homework"]["lesson"]
+    for way in ["plan", "about"]:
+        page.open("#lesson=ticket-hand-over&move=3")
+        for button in {"plan": ["#plan"], "about": ["#show-about", "#about [data-plans]"]}[way]:
+            page.call("click", button)
+        assert page.js("texts", "dialog[open] > form h2") == ["Lesson plans"]
+        page.call("click", "#plans [data-sheet^=mcs-]")
+        assert page.js("texts", "dialog[open] > form h2") == ["Print"]
+        assert page.js("count", "#sheets [data-sheet=exercise]:focus") == 1
+        assert page.shown()["lesson"] == PLANS[1]["homework"]["lesson"]
 
 
 def test_a_second_window(lecturer):
@@ -309,14 +257,6 @@ def test_a_second_window(lecturer):
         assert PLANS[1]["steps"][3][name] in said, said
     assert lecturer.press("d").js("themeThere") == lecturer.js("theme") != ""
     lecturer.call("wait", 11).until("clockThereBegins", "−1:")
-
-
-def test_a_second_window_in_german(lecturer):
-    """What the lecturer says at this step, and the place of the next one, are German."""
-    said = begin(lecturer, "ticket", "de").press("2").until("presented")
-    assert TRANSLATIONS[PLANS[0]["steps"][0]["say"]] in said, said
-    title = TRANSLATIONS["Hand-over in the order of the tickets"]
-    assert f"Nächster Schritt: {title}, 5" in said, said
 
 
 def test_what_the_second_window_says_at_each_move(lecturer):
@@ -337,31 +277,10 @@ def test_what_the_second_window_says_at_each_move(lecturer):
         assert shown == parts and facts[0] == facts[1], move
 
 
-def test_the_second_window_beside_a_text_without_a_lock(lecturer):
-    """It stays as it is until the text has a lock again."""
-    said = lecturer.open("#lesson=mcs-late-link&move=3").press("2").until("presented")
-    assert lecturer.show("no lock\n").text("#title") == "Your own schedule"
-    assert lecturer.js("presented") == said
-    lecturer.show("#! title Mine\nlock ticket threads 1\n0 acquire\n", 1)
-    assert lecturer.js("presented").startswith("Mine 1 of 1 This moveThread 0 calls acquire")
-
-
-def test_a_second_window_that_was_closed(lecturer):
-    """The page goes on without it, and the key opens it again."""
-    lecturer.open("#lesson=mcs-late-link&move=3").press("2").until("presented")
-    lecturer.call("closeThere").press("ArrowRight").shown(place=4)
-    assert lecturer.press("2").until("presented").startswith("The late link 4 of 16")
-
-
-def test_keys_of_the_second_window(lecturer):
-    """A key that the page takes does nothing else there, as Space, which would scroll."""
-    lecturer.open("#lesson=mcs-late-link&move=3").press("2").until("presented")
-    assert lecturer.js("takenThere", [" ", "PageDown", "Tab", "ArrowDown", "Home"]) == [
-        " ", "PageDown", "Home"]
-
-
-def test_the_style_of_the_second_window(lecturer):
-    """However often the key is pressed, there is one second window, with one style."""
+def test_one_second_window(lecturer):
+    """However often the key is pressed, there is one second window, with one style. A key that the
+    page takes does nothing else there, as Space, which would scroll. The page goes on without a
+    window that was closed, and the key opens it again."""
     lecturer.open("#lesson=mcs-late-link&move=3")
     for _ in range(3):
         lecturer.press("2").until("presented")
@@ -369,20 +288,8 @@ def test_the_style_of_the_second_window(lecturer):
         assert lecturer.js("windowThere") == ["lockreplay: for the presenter", "presenter", True]
     assert lecturer.js("countOfWindows") == 1
     assert lecturer.js("askedFor") == ["", "lockreplay-presenter", "width=820,height=640"]
-
-
-def test_the_next_move_of_a_run_that_repeats(lecturer):
-    """After the last move the second window shows the first of the moves that repeat."""
-    lecturer.open().show("lock rw-simple threads 1\n# from line 3 on, again and again\n"
-                         "0 rlock\n0 section\n0 runlock\n0 section\n", 4)
-    said = lecturer.press("2").until("presented")
-    assert "The next moveThread 0 calls rlock: it wants to read." in said, said
-
-
-@pytest.mark.parametrize("held", ["ctrlKey", "metaKey", "altKey"])
-def test_copying_in_the_second_window(lecturer, held):
-    """Control+C copies a text in the second window, and does not start a comparison in the hall."""
-    lecturer.open("#lesson=fifo-second-writer&move=6&lang=de").press("2").until("presented")
-    assert lecturer.js("languageThere") == "de"
-    assert not lecturer.call("pressThere", "c", held).js("step")["compares"]
-    assert lecturer.call("pressThere", "c").js("step")["compares"]
+    # A second Space ends what the first began, so that no move is made by itself.
+    assert lecturer.js("takenThere", [" ", " ", "PageDown", "Tab", "ArrowDown", "Home"]) == [
+        " ", " ", "PageDown", "Home"]
+    lecturer.go(3).call("closeThere").press("ArrowRight").shown(place=4)
+    assert lecturer.press("2").until("presented").startswith("The late link 4 of 16")

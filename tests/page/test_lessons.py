@@ -9,7 +9,6 @@ from tab import PAGE
 from tree import cases
 
 MODES = {"r": "reads", "w": "writes"}
-each_lesson = pytest.mark.parametrize("name", LESSONS)
 
 
 def compare(shown, move, name):
@@ -22,11 +21,10 @@ def compare(shown, move, name):
         "report": line, "here": [word]}, (move, shown)
 
 
-def check_lesson(page, name, has_banner):
+def check_lesson(page, name):
     """Steps through a lesson to its end. One more step shows a refused move."""
     last, count = LESSONS[name].splitlines()[-1], len(MOVES[name])
-    assert page.open(f"#lesson={name}&move=0").text("#verdict .report-line") == last
-    assert page.js("banner") == has_banner
+    assert page.lesson(name).text("#verdict .report-line") == last
     asked = asked_in(name, "answer")
     for move in range(1, count + 1):
         # A step stops once at a question.
@@ -39,28 +37,15 @@ def check_lesson(page, name, has_banner):
         assert page.text("#position") == end
 
 
-def test_there_are_lessons():
-    assert len(LESSONS) >= 28
-
-
-@each_lesson
-def test_lesson(page, name):
-    check_lesson(page, name, False)
-
-
-@each_lesson
-def test_without_the_machine(page, name):
+@pytest.mark.parametrize("machine", ["with the machine", "without the machine"])
+def test_each_lesson(page, machine):
     """A browser without 64-bit WebAssembly memory shows a banner, and all lessons."""
-    page.before("withoutMachine")
-    check_lesson(page, name, True)
-
-
-@pytest.mark.parametrize("name", ["ticket-wraps-at-2-bits", "mcs-late-link", "fifo-downgrade"])
-def test_memory_without_the_machine(page, name):
-    """The picture of memory is the same with and without the machine."""
-    pictures = page.open(f"#lesson={name}").js("memoryAt", [0, 5, 99])
-    page.before("withoutMachine").open(f"#lesson={name}")
-    assert page.js("banner") and page.js("memoryAt", [0, 5, 99]) == pictures
+    if machine.startswith("without"):
+        page.before("withoutMachine")
+    assert page.open("#lesson=mcs-late-link&move=0").js("banner") == machine.startswith("without")
+    assert len(LESSONS) >= 28
+    for name in LESSONS:
+        check_lesson(page, name)
 
 
 def verdicts(page):
@@ -106,38 +91,25 @@ def test_a_browser_that_is_too_old(page, language, said):
     assert page.text("#damaged") == "" and page.js("count", "button") > 9
 
 
-def test_questions_are_asked(page):
-    """A question appears at its move alone, and its answer only after A."""
-    page.open("#lesson=mcs-late-link&move=8").press("j").becomes("9 of 16", "text", "#position")
-    assert page.js("answerIsOpen") is False
-    page.press("a").becomes(True, "answerIsOpen").press("ArrowRight")
-    page.becomes(0, "count", "#now .question")
+WROTE = {
+    "mcs-late-link": {3: "tail = Ann (was nil)", 8: "tail = Bob (was Ann)", 9: "no word",
+                      13: "Ann.next = Bob (was nil)"},
+    "ticket-wraps-at-2-bits": {18: "now_serving = 3 (was 2)", 20: "next_ticket = 0 (was 3)"},
+    "fifo-downgrade": {2: "flag = 1 (was 0)", 6: "readAcquires = 1 (was 0), flag = 0 (was 1)"},
+}
 
 
-# What moves wrote, by lesson and move: a swap, a failed compare-and-swap, a write, an add that
-# wraps, and sections that write one word and two.
-@cases("lesson, wrote", {
-    "mcs": ("mcs-late-link", {
-        3: "tail = Ann (was nil)", 8: "tail = Bob (was Ann)", 9: "no word",
-        13: "Ann.next = Bob (was nil)"}),
-    "ticket": ("ticket-wraps-at-2-bits", {
-        18: "now_serving = 3 (was 2)", 20: "next_ticket = 0 (was 3)"}),
-    "fifo": ("fifo-downgrade", {
-        2: "flag = 1 (was 0)", 6: "readAcquires = 1 (was 0), flag = 0 (was 1)"}),
-    "german": ("mcs-late-link&lang=de", {8: "tail = Bob (war Ann)"}),
-})
-def test_what_was_there(page, lesson, wrote):
+def test_what_was_there(page):
     """The page names each word that a move wrote, with its old value."""
-    assert page.open(f"#lesson={lesson}").js("wrote", list(wrote)) == list(wrote.values())
+    for lesson, wrote in WROTE.items():
+        page.visit(f"#lesson={lesson}&move=0")
+        assert page.js("wrote", list(wrote)) == list(wrote.values()), lesson
 
 
 # The sentences on some moves of the late link.
 SENTENCES = {
     8: "Bob swaps the tail and finds Ann; it is in the queue from here on, though no word of "
        "Ann's record says so.",
-    10: "Ann polls its own next and waits for the link: it is still nil.",
-    13: "Bob writes the link: Ann's next now points to Bob.",
-    14: "The link is there: Ann finds Bob.",
     15: "Ann clears Bob's locked, and has left; Bob is next, and enters with its next poll.",
 }
 # And on moves of other lessons: a section that writes two words, a poll with the thread's own
@@ -151,7 +123,6 @@ OTHER_SENTENCES = {
     "fifo-counts-wrap-at-2-bits": {
         14: f"Ann finds the flag clear, and counts itself in: readAcquires is now 0. {WRAPS}",
         18: f"Ann counts itself out, and has left: readReleases is now 0. {WRAPS}"},
-    "fifo-second-writer": {12: "Bob clears the flag, and has left."},
 }
 
 
@@ -161,29 +132,6 @@ def test_what_a_move_did(page):
     assert page.js("said", list(SENTENCES)) == list(SENTENCES.values())
     for name, sentences in OTHER_SENTENCES.items():
         assert page.lesson(name).js("said", list(sentences)) == list(sentences.values()), name
-
-
-# What threads of a FIFO lock with a due section want to do, in the order of their numbers.
-WANTS = {
-    "0 rlock\n0 section\n0 runlock\n1 rlock\n": ["wants to stop reading", "wants to read"],
-    "0 wlock\n0 section\n0 wunlock\n1 wlock\n": ["wants to stop writing", "wants to write"],
-    "0 wlock\n0 section\n0 downgrade\n": ["wants to become a reader"],
-    "0 rlock\n0 section\n1 wlock\n1 section\n": ["announced, awaits the readers"],
-}
-GERMAN = {
-    "wants to stop reading": "möchte aufhören zu lesen", "wants to read": "möchte lesen",
-    "wants to stop writing": "möchte aufhören zu schreiben", "wants to write": "möchte schreiben",
-    "wants to become a reader": "möchte Leser werden",
-    "announced, awaits the readers": "angekündigt, wartet auf Leser",
-}
-
-
-@pytest.mark.parametrize("language, of", [("en", lambda wish: wish), ("de", GERMAN.get)])
-def test_what_is_wanted_at_the_monitor(page, language, of):
-    page.open(f"#lang={language}")
-    for moves, wanted in WANTS.items():
-        page.show(f"lock rw-fifo threads 2\n{moves}", moves.count("\n"))
-        assert page.js("texts", "#memory-picture .wants title") == [*map(of, wanted)], moves
 
 
 def test_one_voice():
@@ -206,31 +154,16 @@ def test_one_voice():
             assert not sentence.startswith(f"{wrong} "), (name, sentence)
 
 
-@cases("name, begins", {"tickets": ("ticket-wraps-at-2-bits", 18),
-                        "counts": ("fifo-counts-wrap-at-2-bits", 12)})
-def test_a_lesson_that_begins_near_its_point(page, name, begins):
-    """It opens after moves that one need not step through, and at most 14 are left; a link with a
-    move goes there."""
-    page.open().click(f"[data-lesson={name}]").shown(lesson=name, place=begins)
-    assert "three times" in page.text("#now .own-say") and len(MOVES[name]) - begins <= 14
-    page.open(f"#lesson={name}").shown(place=begins)
-    page.open(f"#lesson={name}&move=0").shown(place=0)
-
-
-def test_what_a_lesson_is_about(page):
-    """Before the first move stands what the lesson is about, with the names of words as code."""
-    page.open().lesson("mcs-late-link", 0)
+def test_how_a_lesson_begins(page):
+    """A lesson with many moves before its point opens after them, and at most 14 are left; a link
+    with a move goes there. Before the first move stands what a lesson is about, with the names of
+    words as code."""
+    for name, begins in [("ticket-wraps-at-2-bits", 18), ("fifo-counts-wrap-at-2-bits", 12)]:
+        page.open().click(f"[data-lesson={name}]").shown(lesson=name, place=begins)
+        assert "three times" in page.text("#now .own-say") and len(MOVES[name]) - begins <= 14
+        page.visit(f"#lesson={name}&move=0").shown(place=0)
+    page.lesson("mcs-late-link", 0)
     assert page.js("texts", "#now .about code") == ["next", "locked"]
-
-
-def test_who_has_polled_in_vain(page):
-    """A failed poll is marked at the writer that waits, and not at the reader that only called."""
-    page.open()
-    page.show("lock rw-simple threads 3\n0 rlock\n0 section\n1 wlock\n1 section\n2 rlock\n", 5)
-    assert page.js("texts", "#memory-picture .wants + .note") == ["failed poll"]
-    assert page.js("texts", "#memory-picture .wants:has(+ .note) title") == ["wants to write"]
-    assert page.go(4).js("texts", "#memory-picture .wants + .note") == ["failed poll"], "its first"
-    assert page.go(3).js("texts", "#memory-picture .wants + .note") == [], "it has not polled yet"
 
 
 ASKED = "#! ask {0} hide standing : Who is where?\n#! answer {0} See.\n"
@@ -256,19 +189,3 @@ def test_who_stands_where_is_not_drawn(page):
     assert "served" not in page.text("#memory-picture")
     page.press("a")
     assert "served = 0 thread 0’s own variable" in page.text("#memory-picture")
-
-
-@cases("lesson, move, records", {
-    "only the tail": ("mcs-late-link", 9, ["1"]), "both": ("mcs-late-link", 14, ["1", "1"]),
-    "out of order": ("mcs-third-linked-before-second", 12, ["2", "2"])})
-def test_where_pointers_lead(page, lesson, move, records):
-    """The tail points to the last record, and a record to its successor in the queue."""
-    page.open(f"#lesson={lesson}&move={move}").press("a").becomes(records, "pointedAt")
-
-
-@cases("lesson, move, arrows", {
-    "ticket": ("ticket-hand-over", 10, [[9, 10]]), "link": ("mcs-late-link", 14, [[13, 14]]),
-    "grant": ("mcs-late-link", 16, [[13, 14], [15, 16]])})
-def test_what_ended_a_wait(page, lesson, move, arrows):
-    """An arrow leads from the write that ended a wait to the step that waited."""
-    assert page.open(f"#lesson={lesson}&move={move}").press("a").js("waitsEnded") == arrows

@@ -1,8 +1,6 @@
 """A run that goes on for ever: after its last move comes the first of the moves that repeat, if the
 state is then what it was before them. The sentences and the places were made by hand."""
-import pytest
 
-from tree import cases
 
 AGAIN = "# from line 4 on, again and again\n"
 # A reader polls in vain behind one writer after the other: move 2 is the writer's call, and with
@@ -19,19 +17,16 @@ REPEATS = "This repeats for ever: moves 2 to 6. This is time {}."
 NEXT = " Move 2 is next again."
 
 
-@cases("step, place", {
-    "key": (lambda page: page.press("ArrowRight"), 2),
-    "button": (lambda page: page.click("#forward"), 2),
-    "finger": (lambda page: page.js("swipe", -120), 2),
-    # Ten moves on, at most to the end.
-    "pages": (lambda page: page.press("PageDown"), 6)})
-def test_it_goes_on(page, step, place):
+def test_it_goes_on(page):
     """From the last move each way to step forward leads to the first of the moves that repeat."""
-    assert page.open().show(STARVES, 5).js("at") == [5, REPEATS.format(1)]
-    assert page.press("ArrowRight").js("at") == [6, REPEATS.format(1) + NEXT]
-    step(page)
-    assert page.js("at") == [place, REPEATS.format(2) + (NEXT if place == 6 else "")]
-    assert page.text("#notice") == ""
+    for step, place in [
+            (lambda page: page.press("ArrowRight"), 2), (lambda page: page.click("#forward"), 2),
+            (lambda page: page.js("swipe", -120), 2), (lambda page: page.press("PageDown"), 6)]:
+        assert page.open().show(STARVES, 5).js("at") == [5, REPEATS.format(1)]
+        assert page.press("ArrowRight").js("at") == [6, REPEATS.format(1) + NEXT]
+        step(page)
+        assert page.js("at") == [place, REPEATS.format(2) + (NEXT if place == 6 else "")]
+        assert page.text("#notice") == ""
 
 
 def test_round_after_round(page):
@@ -75,64 +70,8 @@ def test_signs(page):
     assert page.show(ENDS, 1).js("signs") == [0, 0, []]
 
 
-def test_the_mcs_lock(page):
-    """The moves of the whole run repeat."""
-    assert page.open().show(ALONE, 0).js("at") == [
-        0, "From here on the run repeats for ever: moves 1 to 6, again and again."]
-    page.press("End", "ArrowRight")
-    assert page.js("at") == [1, "This repeats for ever: moves 1 to 6. This is time 2."]
-
-
-def test_a_run_that_ends(page):
-    """If the last state differs, the comment is one like others."""
-    page.open().show(ENDS, 5).press("ArrowRight")
-    assert page.js("at") == [5] and page.text("#notice") == "That was the last move."
-
-
-def test_an_edit(page):
-    """The moves repeat as soon as they lead back, and no longer."""
-    page.open().show(ENDS, 5).call("write", STARVES).call("go", 6)
-    assert page.js("at") == [6, REPEATS.format(1) + NEXT]
-    assert page.call("write", ENDS).js("said") == [] and page.js("signs") == [0, 0, []]
-
-
 def test_a_further_move(page):
     """In Play a move is chosen after the last one, and then nothing repeats."""
     page.open().show(STARVES, 6).press("g").call("choose", 0, "section")
     assert page.shown(position="7 of 7") and page.js("said") == []
     assert page.press("u").js("at") == [6, REPEATS.format(1) + NEXT]
-
-
-def test_a_quiz(page):
-    """The quiz does not say that the last move was made."""
-    page.open().show(STARVES, 6).press("q")
-    assert page.text(".quiz-end") == "From here on the moves repeat."
-    assert page.press("ArrowRight").shown()["place"] == 2
-
-
-def test_in_a_hall_by_a_link(page):
-    """A link has the text, and a clicker goes on for ever."""
-    fragment = page.open().show(STARVES, 6).call("leave").js("address")
-    page.resize(1024, 768).open(f"{fragment}&hall")
-    assert page.js("at") == [6, *[REPEATS.format(1) + NEXT] * 2] and page.js("cut") == []
-    assert page.press("PageDown").js("at") == [2, *[REPEATS.format(2)] * 2]
-    assert page.press("PageUp").js("at") == [1, BEGINS, BEGINS]
-
-
-def test_in_german(page):
-    assert page.open("#lang=de").show(STARVES, 1).js("said") == [
-        "Von hier an wiederholt sich der Lauf für immer: Züge 2 bis 6, immer wieder."]
-    page.press("End", "ArrowRight", "End")
-    assert page.js("said") == ["Das wiederholt sich für immer: Züge 2 bis 6, jetzt zum 2. Mal. "
-                               "Als Nächstes kommt wieder Zug 2."]
-
-
-@pytest.mark.parametrize("language", ["en", "de"])
-@pytest.mark.parametrize("width, height", [(390, 844), (1024, 768), (1366, 768), (1920, 1080)])
-def test_nothing_is_cut(page, language, width, height):
-    """The sentences are in view, beside the schedule and in hall mode."""
-    page.resize(width, height).open(f"#lang={language}").show(STARVES, 1).call("inMode", "lessons")
-    for keys in [["End"], ["ArrowLeft"], ["h"], ["End"]]:
-        assert page.js("cut") == []
-        page.press(*keys)
-    assert page.js("cut") == []

@@ -1,7 +1,6 @@
 """The program accepts schedules that a reader makes by clicks."""
 import random
 
-import pytest
 
 from reports import moves_replayed
 
@@ -23,22 +22,22 @@ def test_headers(page):
     assert new_schedule(page, "mcs", 3, 64) == "lock mcs threads 3\n"
 
 
-@pytest.mark.parametrize("lock, threads, bits", [
-    ("ticket", 3, 2), ("mcs", 3, 64), ("rw-simple", 2, 2), ("rw-fifo", 4, 3)])
-def test_played_by_clicks(page, lockreplay, lock, threads, bits):
-    chance = random.Random(7)
-    page.open("#lesson=mcs-late-link&move=0").click("#mode-play")
-    header, lines = new_schedule(page, lock, threads, bits), []
-    for number in range(1, CLICKS + 1):
-        lines.append(chance.choice(page.js("offered")))
-        page.click(page.js("choice", *lines[-1].split()))
-        page.becomes(f"{number} of {number}", "text", "#position")
-    text = page.shown()["area"]
-    assert text == header + "".join(f"{line}\n" for line in lines)
-    assert len(moves_replayed(lockreplay, text)) == CLICKS
-    for left in range(CLICKS - 1, -1, -1):
-        page.click("#undo").becomes(f"{left} of {left}", "text", "#position")
-    assert page.shown()["area"] == header
+def test_played_by_clicks(page, lockreplay):
+    for lock, threads, bits in [
+            ("ticket", 3, 2), ("mcs", 3, 64), ("rw-simple", 2, 2), ("rw-fifo", 4, 3)]:
+        chance = random.Random(7)
+        page.open("#lesson=mcs-late-link&move=0").click("#mode-play")
+        header, lines = new_schedule(page, lock, threads, bits), []
+        for number in range(1, CLICKS + 1):
+            lines.append(chance.choice(page.js("offered")))
+            page.click(page.js("choice", *lines[-1].split()))
+            page.becomes(f"{number} of {number}", "text", "#position")
+        text = page.shown()["area"]
+        assert text == header + "".join(f"{line}\n" for line in lines)
+        assert len(moves_replayed(lockreplay, text)) == CLICKS
+        for left in range(CLICKS - 1, -1, -1):
+            page.click("#undo").becomes(f"{left} of {left}", "text", "#position")
+        assert page.shown()["area"] == header
 
 
 def test_from_a_lesson(page, lockreplay):
@@ -59,19 +58,19 @@ def test_what_is_offered(page):
         ["disc rest A", "Ann", "Ann: acquire may"], ["disc rest B", "Bob", "Bob: acquire may"]]
 
 
-@pytest.mark.parametrize("move, hint", [
-    (9, "Choose who moves next, in place of the moves after move 9."),
-    (16, "Choose who moves next. The machine plays what you choose.")], ids=["branch", "end"])
-def test_where_a_choice_goes_on(page, move, hint):
+def test_where_a_choice_goes_on(page):
     """The hint says whether a choice begins a branch or adds a move at the end."""
-    page.open(f"#lesson=mcs-late-link&move={move}").click("#mode-play")
-    assert page.text("#choices .hint") == hint
+    for move, hint in [
+            (9, "Choose who moves next, in place of the moves after move 9."),
+            (16, "Choose who moves next. The machine plays what you choose.")]:
+        page.open(f"#lesson=mcs-late-link&move={move}").click("#mode-play")
+        assert page.text("#choices .hint") == hint
 
 
-@pytest.mark.parametrize("header", [
-    "lock ticket threads 3 bits 2\n", "lock mcs threads 5", "lock rw-simple threads 4\n",
-    "# a comment\nlock rw-fifo threads 3 bits 2\n\n"], ids=lambda it: it.split()[1])
-def test_never_refused(page, header):
+def test_never_refused(page):
     """The lock refuses none of a hundred choices among the offered ones."""
-    assert page.open().show(header).click("#mode-play").js("chooseMany", 100) == [100, 100, 100]
-    assert page.shown()["verdict"].endswith("end 100")
+    for header in [
+            "lock ticket threads 3 bits 2\n", "lock mcs threads 5", "lock rw-simple threads 4\n",
+            "# a comment\nlock rw-fifo threads 3 bits 2\n\n"]:
+        assert page.open().show(header).click("#mode-play").js("chooseMany", 100) == [100, 100, 100]
+        assert page.shown()["verdict"].endswith("end 100")

@@ -1,10 +1,10 @@
-"""A link to any move of any lesson draws a whole picture at once, on seven screens; and also with
-fonts of the system in place of the page's own, which a browser may block.
+"""Invariants over the lessons' states, windows and themes: a link draws a whole picture at once,
+also in fonts of the system in place of the page's own, which a browser may block.
 
-No text is cut, and the current line of code, the moving parts of memory and the sentence are in
-view; a sentence that a question hides comes into view with the answer. The browser loads every
-eighth state, different states on each screen, and follows the links between them in the open page.
-EVERY_MOVE=1 makes it load every state.
+No text is cut, off the screen or on another one; the current line of code, the moving parts of
+memory and the sentence are in view; a sentence that a question hides comes into view with the
+answer. Each control has a name, Tab reaches it, and nothing lies on it. Letters have enough
+contrast. Each window has every third state, each another third. EVERY_MOVE=1 takes all of them.
 """
 import os
 import re
@@ -23,7 +23,8 @@ FACE = re.compile(r"@font-face \{[^}]*\}\n")
 OF_EACH_LOCK = ("mcs-late-link", "ticket-hand-over", "simple-reader-passes-writer",
                 "fifo-reader-waits-behind-writer")
 THIRD = 3
-EVERY = 1 if os.environ.get("EVERY_MOVE") else 8
+PALE = 6
+EVERY = 1 if os.environ.get("EVERY_MOVE") else 3
 SCREENS = [(390, 844), (820, 1180), (1024, 768), (1280, 720), (1366, 768), (1440, 900),
            (1920, 1080)]
 # A question that hides the sentence on its move.
@@ -39,19 +40,26 @@ def states():
             yield f"#lesson={name}&move={place}", place in asked
 
 
+def assert_none(found):
+    """Asserts that nothing is wrong at any of these links."""
+    wrong = {link: said for link, said in found if said}
+    assert not wrong, (len(wrong), list(wrong.items())[:FEW])
+
+
 @pytest.mark.parametrize("width, height", SCREENS)
 def test_each_lesson_at_each_move(page, width, height):
-    """The first state of a group has a query of its own, so the browser loads the page anew."""
-    page.resize(width, height)
-    wrong, links = {}, list(states())
-    first = SCREENS.index((width, height)) * EVERY // len(SCREENS)
-    links = links[first:] + links[:first]
-    for at in range(0, len(links), EVERY):
-        group = links[at:at + EVERY]
-        page.load(f"{PAGE.as_uri()}?state={at}{group[0][0]}")
-        wrong.update(zip(group, page.js("wrongAt", group)))
-    wrong = {link: found for link, found in wrong.items() if found}
-    assert not wrong, (len(wrong), list(wrong.items())[:FEW])
+    """The browser loads the page with the first link, and follows the others."""
+    links = list(states())[SCREENS.index((width, height)) % EVERY::EVERY]
+    page.resize(width, height).open(links[0][0])
+    assert_none(zip(links, page.js("wrongAt", links)))
+
+
+@pytest.mark.parametrize("theme", ["light", "dark"])
+def test_contrast_of_letters(page, theme):
+    """Of what is shown and of what comes, which is drawn faintly."""
+    links = [f"{link}&future&theme={theme}" for link, _ in states()][theme == "dark"::PALE]
+    page.open(links[0])
+    assert_none(zip(links, page.js("paleAt", links)))
 
 
 @pytest.fixture
@@ -71,11 +79,9 @@ def without_letters(tmp_path):
 
 @pytest.mark.parametrize("letters", FAMILIES)
 def test_letters_of_the_system(page, without_letters, letters):
-    path, wrong = without_letters(letters, FAMILIES[letters]), {}
+    path = without_letters(letters, FAMILIES[letters])
     links = [one for one in states() if one[0].split("&")[0].removeprefix("#lesson=")
              in OF_EACH_LOCK][::THIRD]
+    assert page.open(links[0][0], path).js("drawnIn", letters), letters
     for size in [(1280, 720), (1024, 768), (390, 844)]:
-        assert page.resize(*size).open(links[0][0], path).js("drawnIn", letters), letters
-        found = zip(links, page.js("wrongAt", links))
-        wrong.update({(link, *size): said for (link, _), said in found if said})
-    assert not wrong, (len(wrong), list(wrong.items())[:FEW])
+        assert_none(zip(links, page.resize(*size).js("wrongAt", links)))

@@ -1,5 +1,4 @@
 """The reader's own schedules: typed texts, files, and bytes that a text field would change."""
-import pytest
 
 HEAD = b"lock ticket threads 1\n0 acquire\n0 add\n"
 MOST = 1048576  # bytes
@@ -19,25 +18,21 @@ def test_typed(page):
     assert page.text("#subtitle").startswith("Simple read-write lock, 2 threads")
 
 
-@pytest.mark.parametrize("data, said, count", [
-    (HEAD, "end 2", 2),
-    (HEAD.replace(b"\n", b"\r\n"), "carriage return", 0),
-    (HEAD + b"#" * (MOST - len(HEAD)), "end 2", 2),
-    (HEAD + b"#" * (MOST + 1 - len(HEAD)), "fault TooLong", 2),
-    (HEAD + b"#" * (MOST - len(HEAD) - 4) + b"\n0 read\n", "more than 1,048,576 bytes", 2),
-    (HEAD.replace(b"1", b"2", 1) + b"0 read\n1 acquire\n1 add\n" + b"1 read\n" * 65532,
-     "This would be move 65,537", 65536),
-    (b"# \xff\xfe\0\n" + HEAD, "end 2", 2),
-    (b"\xef\xbb\xbf" + HEAD, "byte order mark", 0),
-    (b"\0" * MOST, "BadHeader", 0),
-], ids=["plain", "returns", "longest", "too long", "cut line", "too many", "no text", "mark",
-        "zeros"])
-def test_files(page, tmp_path, data, said, count):
-    path = tmp_path / "schedule.txt"
-    path.write_bytes(data)
-    page.open().choose_file("#file", path).until("verdictHas", said)
-    assert page.shown()["moves"] == count
-    assert page.js("count", "#text:disabled") == (len(data) > MOST_EDITED)
+def test_files(page, tmp_path):
+    for data, said, count in [
+            (HEAD, "end 2", 2), (HEAD.replace(b"\n", b"\r\n"), "carriage return", 0),
+            (HEAD + b"#" * (MOST - len(HEAD)), "end 2", 2),
+            (HEAD + b"#" * (MOST + 1 - len(HEAD)), "fault TooLong", 2),
+            (HEAD + b"#" * (MOST - len(HEAD) - 4) + b"\n0 read\n", "more than 1,048,576 bytes", 2),
+            (HEAD.replace(b"1", b"2", 1) + b"0 read\n1 acquire\n1 add\n" + b"1 read\n" * 65532,
+             "This would be move 65,537", 65536),
+            (b"# \xff\xfe\0\n" + HEAD, "end 2", 2), (b"\xef\xbb\xbf" + HEAD, "byte order mark", 0),
+            (b"\0" * MOST, "BadHeader", 0)]:
+        path = tmp_path / "schedule.txt"
+        path.write_bytes(data)
+        page.open().choose_file("#file", path).until("verdictHas", said)
+        assert page.shown()["moves"] == count
+        assert page.js("count", "#text:disabled") == (len(data) > MOST_EDITED)
 
 
 def test_a_file_that_was_changed(page, tmp_path):
@@ -50,16 +45,16 @@ def test_a_file_that_was_changed(page, tmp_path):
         assert page.js("value", "#file") == ""
 
 
-@pytest.mark.parametrize("language, said", [
-    ("en", ["The header is accepted. No move yet.", "The one move is accepted.",
-            "All 2 moves are accepted."]),
-    ("de", ["Die Kopfzeile ist angenommen. Noch kein Zug.", "Der eine Zug ist angenommen.",
-            "Alle 2 Züge sind angenommen."])])
-def test_how_much_is_accepted(page, language, said):
-    page.open(f"#lang={language}")
-    for count, sentence in enumerate(said):
-        page.show("".join(HEAD.decode().splitlines(True)[:count + 1]))
-        assert page.text("#verdict .good") == sentence
+def test_how_much_is_accepted(page):
+    for language, said in [
+            ("en", ["The header is accepted. No move yet.", "The one move is accepted.",
+                    "All 2 moves are accepted."]),
+            ("de", ["Die Kopfzeile ist angenommen. Noch kein Zug.", "Der eine Zug ist angenommen.",
+                    "Alle 2 Züge sind angenommen."])]:
+        page.visit(f"#lang={language}")
+        for count, sentence in enumerate(said):
+            page.show("".join(HEAD.decode().splitlines(True)[:count + 1]))
+            assert page.text("#verdict .good") == sentence
 
 
 def test_a_title_by_default(page):
@@ -103,29 +98,6 @@ def test_numbers_beside_a_long_text(page):
     assert page.text("#gutter div div") == "51", "who writes is not led away"
 
 
-def test_numbers_while_one_types(page):
-    page.open().show("lock ticket threads 2\n")
-    assert page.js("numbersOf", "lock ticket threads 2\n0 acquire\n0 add\n") == 4
-
-
-def test_returns_within_a_line(page):
-    """The button removes carriage returns at the ends of lines, and no other byte."""
-    page.open()
-    for begin, end in [("# a\rb\r\n", "\r\n"), ("# a\rb\r\r\n", "\r")]:
-        page.show(f"{begin}lock ticket threads 1\r\n0 acquire{end}")
-        assert page.call("click", "#verdict [data-returns]").shown(moves=1, place=0)["text"] == (
-            f"# a\rb\nlock ticket threads 1\n0 acquire{end[1:]}")
-
-
-def test_the_line_of_a_refused_move(page):
-    """The page shows the refused move while the caret is in its line or below."""
-    page.open().show("lock ticket threads 2\n0 acquire\n0 read\n1 acquire\n", 1).click("#text")
-    page.press("Control+Home", "ArrowDown", "ArrowDown")
-    assert page.shown(position="refused")["place"] == 2
-    page.press("ArrowUp").shown(position="1 of 1")
-    page.press("ArrowDown", "ArrowDown").shown(position="refused")
-
-
 def test_dropped_and_pasted(page):
     page.open().call("dropFile", "lock mcs threads 1\n0 acquire\n").until("verdictEnds", "end 1")
     assert page.text("#notice") == "", "there is no other file"
@@ -136,27 +108,26 @@ def test_dropped_and_pasted(page):
 ONE_MOVE = "lock mcs threads 1\n0 acquire\n"
 
 
-@pytest.mark.parametrize("field", ["#text", "#find-sketch", "#find-rounds"])
-def test_a_text_brought_into_a_field(page, field):
+def test_a_text_brought_into_a_field(page):
     """A field takes the text itself, and the schedule stays. A file is opened there too."""
-    before = page.open("#lesson=mcs-late-link&move=9").press("e").shown()
-    for kind in ["dragover", "drop", "paste"]:
-        assert page.js("bringInto", kind, field, ONE_MOVE), kind
-    assert page.shown() == before and not page.js("dragFileOver", field)
-    assert not page.js("dropFile", ONE_MOVE, field)
-    page.until("verdictEnds", "end 1")
+    for field in ["#text", "#find-sketch", "#find-rounds"]:
+        before = page.visit("#lesson=mcs-late-link&move=9").press("e").shown()
+        for kind in ["dragover", "drop", "paste"]:
+            assert page.js("bringInto", kind, field, ONE_MOVE), kind
+        assert page.shown() == before and not page.js("dragFileOver", field)
+        assert not page.js("dropFile", ONE_MOVE, field)
+        page.until("verdictEnds", "end 1")
 
 
-@pytest.mark.parametrize("control", [
-    "#slider", "#every", "#speed", "#forward", "#find-kind", "#take-title"])
-def test_a_text_brought_to_another_control(page, control):
+def test_a_text_brought_to_another_control(page):
     """The page opens a text that is brought to a control in which nobody types."""
-    page.open("#lesson=mcs-late-link&move=9")
-    assert not page.js("bringInto", "paste", control, ONE_MOVE)
-    page.until("verdictEnds", "end 1")
-    assert not page.js("bringInto", "dragover", control, "")
-    assert not page.js("bringInto", "drop", control, ONE_MOVE + "0 write\n")
-    page.until("verdictEnds", "end 2")
+    for control in ["#slider", "#every", "#speed", "#forward", "#find-kind", "#take-title"]:
+        page.visit("#lesson=mcs-late-link&move=9")
+        assert not page.js("bringInto", "paste", control, ONE_MOVE)
+        page.until("verdictEnds", "end 1")
+        assert not page.js("bringInto", "dragover", control, "")
+        assert not page.js("bringInto", "drop", control, ONE_MOVE + "0 write\n")
+        page.until("verdictEnds", "end 2")
 
 
 def test_a_trace_dropped_into_the_text(page):

@@ -3,10 +3,8 @@ theme, with answers or with blanks, on at most twelve sheets."""
 import re
 import zlib
 
-import pytest
 
 from reports import MOVES
-from tree import cases
 
 MOST_SHEETS = 12
 NAMES = ["Ann", "Bob", "Cem"]
@@ -43,13 +41,13 @@ def test_a_trace(page):
         ["acquire", "mine.c:10"], ["add", "next_ticket", "found", "0", "mine.c:13"], ["read"]]
 
 
-@cases("language, heads", {
-    "en": ("en", ["Move", "Thread", "Call or step", "Outcome", "What it did", "Holds", "Queue"]),
-    "de": ("de", ["Zug", "Thread", "Aufruf oder Schritt", "Ergebnis", "Was er tat", "Hält",
-                  "Schlange"])})
-def test_the_heads_of_columns(page, language, heads):
-    page.open(f"{LATE_LINK}&lang={language}").call("drawPaper")
-    assert page.js("texts", "#paper th") == heads
+def test_the_heads_of_columns(page):
+    for language, heads in [
+            ("en", ["Move", "Thread", "Call or step", "Outcome", "What it did", "Holds", "Queue"]),
+            ("de", ["Zug", "Thread", "Aufruf oder Schritt", "Ergebnis", "Was er tat", "Hält",
+                    "Schlange"])]:
+        page.visit(f"{LATE_LINK}&lang={language}").call("drawPaper")
+        assert page.js("texts", "#paper th") == heads
 
 
 def test_only_paper_is_printed(page):
@@ -87,30 +85,14 @@ def turns(threads, count):
     return "\n".join(lines) + "\n"
 
 
-@pytest.mark.parametrize("threads, count", [(2, 1500), (8, 60), (12, 60), (64, 381), (64, 65536)])
-def test_a_long_schedule(page, threads, count):
+def test_a_long_schedule(page):
     """A long schedule has as many moves around the current one as fit on twelve sheets."""
-    page.open().show(turns(threads, count), count // 2)
-    number = sheets(page.pdf())
-    rows = [int(row[0]) for row in page.js("rows")]
-    assert len(rows) >= 60 and rows[0] <= count // 2 <= rows[-1], rows
-    assert 2 <= number <= MOST_SHEETS, number
-
-
-# By hand: 133 moves need three sheets for 9 strips of 16 and seven for rows, 19 on each, beside the
-# two for all else. One move more would need a row on a thirteenth sheet.
-@pytest.mark.parametrize("move, first, last", [(0, 1, 133), (750, 684, 816), (1500, 1368, 1500)])
-def test_which_part_is_printed(page, move, first, last):
-    """Above a part it is said which it is. The shown move is in its middle."""
-    page.open().show(turns(2, 1500), move).call("drawPaper")
-    assert [int(row[0]) for row in page.js("rows")] == list(range(first, last + 1))
-    assert page.text("#paper > p") == f"Moves {first} to {last} of 1500"
-
-
-def test_a_long_queue(page):
-    """The first of a long list, and how many. Nobody holds, since thread 0 never polls."""
-    page.open().show(turns(64, 381), 381).call("drawPaper")
-    assert page.js("rows")[-1][5:] == ["-", "0,1,2,3,4,5,6,7,… (64)"]
+    for threads, count in [(2, 1500), (12, 60), (64, 65536)]:
+        page.open().show(turns(threads, count), count // 2)
+        number = sheets(page.pdf())
+        rows = [int(row[0]) for row in page.js("rows")]
+        assert len(rows) >= 60 and rows[0] <= count // 2 <= rows[-1], rows
+        assert 2 <= number <= MOST_SHEETS, number
 
 
 def test_questions_on_paper(page):
@@ -131,35 +113,20 @@ def test_a_refused_move_on_paper(page):
     assert page.js("texts", "#paper .strip [data-refused] title") == ["Line 5: 0 rlock"]
 
 
-def test_forty_moves_in_one_row(page):
-    assert page.open().show(turns(8, 40), 40).call("drawPaper").js("movesOfStrips") == [40]
-
-
-def test_memory_and_code(page):
-    figure = page.open(LATE_LINK).call("drawPaper").js("words", "#paper .figure")
-    for part in ["after move 9", "tail", "no link", "cas(tail, me, nil), or else:", "pred = Ann"]:
-        assert part in figure
-    assert page.js("words", "#paper td:nth-child(2)") == "Ann (0)"
-    assert page.js("texts", "#paper .legend > span > span") == [
-        "called", "moved: the call goes on", "waits: failed poll", "entered", "left", "cas fails",
-        "in a call", "in the queue", "holds", "in the queue, not linked",
-        "the write that ended a wait"]
-
-
-@cases("lesson, moves", {
-    "ticket": ("ticket-wraps-at-2-bits", [0, 5, 23]), "mcs": ("mcs-late-link", [3, 10, 14]),
-    "simple": ("simple-second-writer", [2, 5]), "fifo": ("fifo-counts-wrap-at-2-bits", [7, 15])})
-def test_memory_on_paper(page, lesson, moves):
+def test_memory_on_paper(page):
     """A sheet has the memory and the line of code of the move that is shown on the page."""
-    page.open(f"#lesson={lesson}")
-    for move in moves:
-        page.go(move).press("a").call("drawPaper")
-        for there, here in [("#memory-picture text", "#paper .figure svg text"),
-                            ("#code-lines .here code", "#paper .code .here code"),
-                            ("#memory-says", "#paper .figure svg + p")]:
-            said, printed = (sorted(one for one in page.js("texts", part)
-                                    if "own variable" not in one) for part in (there, here))
-            assert said == printed, (move, there)
+    for lesson, moves in [
+            ("ticket-wraps-at-2-bits", [5, 23]), ("mcs-late-link", [3, 10, 14]),
+            ("simple-second-writer", [2, 5]), ("fifo-counts-wrap-at-2-bits", [7, 15])]:
+        page.visit(f"#lesson={lesson}")
+        for move in moves:
+            page.go(move).press("a").call("drawPaper")
+            for there, here in [("#memory-picture text", "#paper .figure svg text"),
+                                ("#code-lines .here code", "#paper .code .here code"),
+                                ("#memory-says", "#paper .figure svg + p")]:
+                said, printed = (sorted(one for one in page.js("texts", part)
+                                        if "own variable" not in one) for part in (there, here))
+                assert said == printed, (move, there)
 
 
 def test_an_exercise_sheet(page):
@@ -195,27 +162,18 @@ def test_marks_to_fill_in(page):
         assert shown["notes"] == [f"thread {thread}" for thread in given], name
 
 
-@pytest.mark.parametrize("threads", [2, 5, 6, 14])
-def test_marks_of_many_threads(page, threads):
+def test_marks_of_many_threads(page):
     """Strips of few threads and of many have the same."""
-    page.open()
-    names = "".join(f"#! name {thread} Name{thread}\n" for thread in range(threads))
-    calls = "".join(f"{thread} acquire\n" for thread in range(threads))
-    page.show(f"{names}lock ticket threads {threads}\n{calls}").call("print", "exercise")
-    shown = page.js("marksToFillIn")
-    assert shown["askew"] == shown["overlaps"] == []
-    assert shown["words"] == [[number, "acquire"] for number in range(1, threads + 1)]
-    assert shown["notes"] == [f"thread {thread}" for thread in range(threads)]
-    assert page.js("count", "#paper .strip.many") == (threads > 5), "whose letters are smaller"
-
-
-def test_a_black_screen_on_paper(page):
-    """The black screen of a hall changes nothing on paper."""
-    page.open(f"{LATE_LINK}&hall").call("drawPaper")
-    bodies = [page.js("bodyOnPaper")]
-    assert page.press(".").js("count", "body.blank") == 1
-    bodies.append(page.js("bodyOnPaper"))
-    assert bodies[0] == bodies[1] and bodies[0][0] > 400, bodies
+    for threads in [2, 5, 6, 14]:
+        page.open()
+        names = "".join(f"#! name {thread} Name{thread}\n" for thread in range(threads))
+        calls = "".join(f"{thread} acquire\n" for thread in range(threads))
+        page.show(f"{names}lock ticket threads {threads}\n{calls}").call("print", "exercise")
+        shown = page.js("marksToFillIn")
+        assert shown["askew"] == shown["overlaps"] == []
+        assert shown["words"] == [[number, "acquire"] for number in range(1, threads + 1)]
+        assert shown["notes"] == [f"thread {thread}" for thread in range(threads)]
+        assert page.js("count", "#paper .strip.many") == (threads > 5), "whose letters are smaller"
 
 
 def test_after_an_exercise_sheet(page):
@@ -231,67 +189,12 @@ def test_a_link_asks_for_a_sheet(page):
     assert page.js("printed") == "exercise" and page.js("count", "dialog[open]") == 0
 
 
-# By hand, in pixels: a sheet is 1040 wide, and a millimetre 3.78.
-WORKED = {
-    # The numbers of the moves, and two lanes of 78.
-    ".strip svg": [[0, 1040, 30], [0, 1040, 156]],
-    # Memory has 1.6 parts of the width and the code one, 8 mm apart.
-    ".figure > div": [[0, 621], [652, 1040]], ".figure > div > svg": [[0, 621]],
-    "table": [[0, 1040]], "caption": [[0, 1040]]}
-# Two parts for the name and one for the date; two memories and the code; the table, which has 1.15
-# parts, and the questions, 9 mm apart.
-EXERCISE = {
-    ".strip svg": [[0, 1040, 25], [0, 1040, 84]], ".name-line span": [[0, 673], [703, 1040]],
-    ".figure > div > svg": [[0, 327], [357, 683]], ".answers > *": [[0, 538], [572, 1040]]}
-UNSEEN = ".tools, footer, #work, #bar, #notice, dialog, #paper button"
-
-
-@cases("sheet, wanted", {"worked": ("worked", WORKED), "exercise": ("exercise", EXERCISE)})
-def test_where_parts_are_on_a_sheet(page, sheet, wanted):
-    """Each part is as wide as its place, below the one before it, and nothing else is printed."""
-    page.resize(1040, 700).open(LATE_LINK).call("print", sheet).press("?")
-    parts = page.js("onSheet", [*(f"#paper {one}" for one in wanted), "#paper > *", UNSEEN])
-    assert parts.pop(UNSEEN) == []
-    shown = parts.pop("#paper > *")
-    assert all(one[2] + one[3] <= other[2] for one, other in zip(shown, shown[1:])), shown
-    assert shown[0][2] > 43 and {tuple(one[:2]) for one in shown} == {(0, 1040)}, shown
-    for part, places in wanted.items():
-        found = parts[f"#paper {part}"]
-        assert [[*one[:2], one[3]][:len(places[0])] for one in found] == places, part
-        assert part == ".strip svg" or len({top for _, _, top, _ in found}) == 1, part
-    whole = [".strip", ".figure", ".asked", "#paper tr"]
-    assert page.js("keptWhole", whole) == whole
-    begins = ["#paper table", ".answers"]
-    assert page.js("onNewSheets", begins) == [begins[sheet == "exercise"]]
-
-
-def test_room_to_write(page):
-    """Two lines of 7 mm below each question, and 5.7 mm for an answer, in equal columns."""
-    page.resize(1040, 700).open(LATE_LINK).call("print", "exercise")
-    lines, rows = page.js("onSheet", ["#paper p.blank", "#paper .blanks td:nth-child(n + 4)"]
-                          ).values()
-    assert [height for *_, height in lines] == [26] * 10
-    assert len(rows) == 3 * 16 and all(height >= 21 for *_, height in rows), rows
-    assert {right - left for left, right, *_ in rows} <= {102, 103}
-    assert page.js("underlined", ["p.blank", ".name-line span"]) == [True, True]
-
-
 # The longest word of a step, again and again: of few threads and of many.
 POLLS = "0 wlock\n0 section\n1 rlock\n" + "1 section\n" * 28
 
 
-@pytest.mark.parametrize("threads", [2, 6])
-@pytest.mark.parametrize("sheet", ["worked", "exercise"])
-def test_no_word_runs_into_the_next(page, sheet, threads):
-    page.resize(1600, 900).open(LATE_LINK).show(f"lock rw-fifo threads {threads}\n{POLLS}")
-    assert page.call("print", sheet).js("wordsOnWords") == [[], []]
-
-
-def test_a_fault_on_paper(page):
-    """The button that mends a line is not printed, and the lines around it are, to the left."""
-    page.open(LATE_LINK).show("lock ticket threads 2\n0 aquire\n1 acquire\n").call("drawPaper")
-    assert page.js("count", "#paper [data-mend]") == 1
-    parts = page.js("onSheet", ["#paper button", "#paper .text-around", "#paper .wrong-part"])
-    assert parts["#paper button"] == []
-    [[left, right, *_]], [[edge, end, *_]] = list(parts.values())[1:]
-    assert edge < left < right < end / 2
+def test_no_word_runs_into_the_next(page):
+    for threads in [2, 6]:
+        for sheet in ["worked", "exercise"]:
+            page.resize(1600, 900).visit(LATE_LINK).show(f"lock rw-fifo threads {threads}\n{POLLS}")
+            assert page.call("print", sheet).js("wordsOnWords") == [[], []]

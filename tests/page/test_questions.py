@@ -1,10 +1,8 @@
 """No view shows the fact for which a question asks before its answer."""
 import re
 
-import pytest
 
 from reports import SCHEDULES, remarks
-from tree import cases
 
 HIDES = re.compile(r"^#! ask (\d+) hide ([a-z ]+?) : ", re.MULTILINE)
 QUESTIONS = [(name, int(move), parts.split()) for name, text in SCHEDULES.items()
@@ -47,36 +45,29 @@ def enter(page, summary):
 WAYS = {"click": lambda page, summary: page.click(summary), "Enter": enter}
 
 
-@cases("way", WAYS)
-def test_it_comes_without_a_key_too(page, way):
+def test_it_comes_without_a_key_too(page):
     """A click and Enter show and hide what A shows, and keep the focus. A step then goes on."""
-    summary = "#now .question summary"
-    covered = page.open("#lesson=ticket-hand-over&move=5").js("beside")
-    shown = page.press("a").js("beside")
-    page.press("a")
-    for wanted in (shown, covered, shown):
-        way(page, summary)
-        assert page.js("beside") == wanted != (covered if wanted == shown else shown)
-        assert page.js("focused") == "summary"
-    assert page.press("ArrowRight").shown()["place"] == 6
+    for way in WAYS.values():
+        summary = "#now .question summary"
+        covered = page.open("#lesson=ticket-hand-over&move=5").js("beside")
+        shown = page.press("a").js("beside")
+        page.press("a")
+        for wanted in (shown, covered, shown):
+            way(page, summary)
+            assert page.js("beside") == wanted != (covered if wanted == shown else shown)
+            assert page.js("focused") == "summary"
+        assert page.press("ArrowRight").shown()["place"] == 6
 
 
-@cases("way", WAYS)
-@pytest.mark.parametrize("look", ["&hall", "&embed"])
-def test_it_comes_in_the_bar_too(page, way, look):
+def test_it_comes_in_the_bar_too(page):
     """In a hall and in a frame the question is above memory, which the answer shows."""
-    assert not page.open(f"#lesson=mcs-late-link&move=9{look}&show=memory").js("beside")["links"]
-    way(page, "#current .question summary")
-    assert page.js("beside")["links"] and page.js("count", "#current .question details[open]") == 1
-
-
-@cases("way", WAYS)
-def test_the_story_comes_without_a_key_too(page, way):
-    """Key A closes what was opened by a click or by Enter."""
-    page.open("#lesson=ticket-hand-over&move=0")
-    way(page, "#now .story summary")
-    assert page.js("count", "#now .story[open]") == 1
-    assert page.press("a").js("count", "#now .story[open]") == 0
+    for way in WAYS.values():
+        for look in ["&hall", "&embed"]:
+            page.open(f"#lesson=mcs-late-link&move=9{look}&show=memory")
+            assert not page.js("beside")["links"]
+            way(page, "#current .question summary")
+            assert page.js("beside")["links"]
+            assert page.js("count", "#current .question details[open]") == 1
 
 
 def test_who_has_a_ticket_is_not_drawn(page):
@@ -98,20 +89,6 @@ def test_who_is_in_the_queue_is_not_drawn(page):
     assert [page.js(*one) for one in discs] == [2, 0, 0]
     page.press("a")
     assert [page.js(*one) for one in discs] == [0, 1, 1]
-
-
-def test_who_is_announced_is_not_said(page):
-    """An announced writer wants to write, like one that is not, as a question asks."""
-    page.open("#lesson=fifo-reader-waits-behind-writer&move=4")
-    wants = ("texts", "#memory-picture .wants title")
-    assert page.js(*wants) == ["wants to write"]
-    assert page.press("a").js(*wants) == ["announced, awaits the readers"]
-
-
-def test_one_prompt(page):
-    """The button alone names the key that shows the answer."""
-    page.open("#lesson=ticket-hand-over&move=5")
-    assert "Press A" not in page.text("main") and page.js("keysOf", "#now") == ["A"]
 
 
 def test_where_questions_are(page):
@@ -160,40 +137,30 @@ lock ticket threads 2
 """
 
 
-@pytest.mark.parametrize("move, question, hidden", [
-    (3, "Who holds now?", ["caption"]), (4, "And now?", ["sentence", "facts"]),
-    (5, "hide nonsense : Is this a question?", ["caption"])])
-def test_the_form_of_before_is_valid(page, move, question, hidden):
+def test_the_form_of_before_is_valid(page):
     """A question that does not name what it hides, as in older texts, hides caption and arrows.
     Names that are no parts of the page belong to the question's own text."""
-    shown = page.open().show(OWN, move).js("beside")
-    found = [part for part in ("sentence", "facts", "caption") if not shown[part]]
-    assert found == hidden, shown
-    assert page.text("#now .question p") == f"Question: {question}"
+    for move, question, hidden in [
+            (3, "Who holds now?", ["caption"]), (4, "And now?", ["sentence", "facts"]),
+            (5, "hide nonsense : Is this a question?", ["caption"])]:
+        shown = page.open().show(OWN, move).js("beside")
+        found = [part for part in ("sentence", "facts", "caption") if not shown[part]]
+        assert found == hidden, shown
+        assert page.text("#now .question p") == f"Question: {question}"
 
 
-@pytest.mark.parametrize("part, parts", [
-    ("sentence", ["sentence"]), ("facts", ["facts", "report"]), ("memory", ["caption"]),
-    ("values", [])])
-def test_one_part_is_hidden(page, part, parts):
-    """The report's line is one of the facts, and no part hides another."""
-    shown = page.open().show(OWN.replace("hide sentence facts", f"hide {part}"), 4).js("beside")
-    assert [one for one in ("sentence", "facts", "report", "caption") if not shown[one]] == parts
-    assert shown["values"] == (["?"] * 4 if part == "values" else ["0", "1", "0", "1"])
-
-
-@pytest.mark.parametrize("fragment, covered, values", [
-    ("fifo-reader-waits-behind-writer&move=4", ["?", "?", "?"], ["1", "0", "1"]),
-    ("mcs-late-link&move=8", ["?"] * 5 + ["pred = ?"],
-     ["Bob", "nil", "0", "nil", "0", "pred = Ann"])], ids=["rw-fifo", "mcs"])
-def test_values_are_hidden(page, fragment, covered, values):
+def test_values_are_hidden(page):
     """No word, own variable or tooltip has its value until the answer is shown."""
-    page.open(f"#lesson={fragment}")
-    for wanted in (covered, values):
-        assert page.js("beside")["values"] == wanted
-        titles = page.js("texts", "#memory-picture g:has(> .value) > title")
-        assert [title.split(": ")[-1] for title in titles] == wanted
-        page.press("a")
+    for fragment, covered, values in [
+            ("fifo-reader-waits-behind-writer&move=4", ["?", "?", "?"], ["1", "0", "1"]),
+            ("mcs-late-link&move=8", ["?"] * 5 + ["pred = ?"],
+             ["Bob", "nil", "0", "nil", "0", "pred = Ann"])]:
+        page.visit(f"#lesson={fragment}")
+        for wanted in (covered, values):
+            assert page.js("beside")["values"] == wanted
+            titles = page.js("texts", "#memory-picture g:has(> .value) > title")
+            assert [title.split(": ")[-1] for title in titles] == wanted
+            page.press("a")
 
 
 WAITS = "A question waits here: A shows its answer, another → goes on."
@@ -210,17 +177,17 @@ def test_a_clicker_shows_the_answer(page):
     assert page.js("waiting")[0] == "", "the hall reads no notice"
 
 
-@pytest.mark.parametrize("look, key", [("", "ArrowRight"), ("&hall", "ArrowRight")])
-def test_a_step_stops_once(page, look, key):
+def test_a_step_stops_once(page):
     """A step stops once at a question with an unseen answer, and a notice says how to go on."""
-    page.open(f"#lesson=mcs-late-link&move=6{look}").press(key)
-    assert page.shown()["place"] == 7 and page.js("waiting") == ["", 0]
-    assert page.press(key).shown()["place"] == 7 and page.js("waiting") == [WAITS, 1]
-    assert page.press(key).shown()["place"] == 8 and page.js("waiting")[1] == 0
-    assert page.js("count", "#notice:not([hidden])") == 0, "it is of the move before"
-    assert page.press("a", key).shown()["place"] == 9, "an answer that was seen lets one go on"
-    page.press(key, "ArrowLeft", key)
-    assert page.shown()["place"] == 8 and page.js("waiting")[1] == 1, "at the next visit again"
+    for look, key in [("", "ArrowRight"), ("&hall", "ArrowRight")]:
+        page.open(f"#lesson=mcs-late-link&move=6{look}").press(key)
+        assert page.shown()["place"] == 7 and page.js("waiting") == ["", 0]
+        assert page.press(key).shown()["place"] == 7 and page.js("waiting") == [WAITS, 1]
+        assert page.press(key).shown()["place"] == 8 and page.js("waiting")[1] == 0
+        assert page.js("count", "#notice:not([hidden])") == 0, "it is of the move before"
+        assert page.press("a", key).shown()["place"] == 9, "an answer that was seen lets one go on"
+        page.press(key, "ArrowLeft", key)
+        assert page.shown()["place"] == 8 and page.js("waiting")[1] == 1, "at the next visit again"
 
 
 def test_the_end_waits_for_the_answer(page):

@@ -2,10 +2,8 @@
 who always answers the same."""
 import re
 
-import pytest
 
-from reports import MOVES, SCHEDULES
-from tree import cases
+from reports import MOVES
 
 LESSON = "fifo-reader-waits-behind-writer"
 NAMES = ["Ann", "Bob", "Cem"]
@@ -91,40 +89,7 @@ def test_an_answer_goes_with_its_move(page):
 
 def test_moves_that_run_stop_at_a_question(page):
     begin(page).press(".", ".", "Space").becomes(False, "isRunning")
-    assert page.js("question")["move"] == 2 and page.js("focused") == "input"
-
-
-def test_no_question_of_the_lesson_stops_a_step(page):
-    """In the quiz a step goes past the lesson's own questions, of which no answer was seen."""
-    begin(page, "mcs-late-link")
-    while (shown := page.js("question"))["place"] < 16:
-        if shown["move"]:
-            page.call("answer", truth_of(shown, "mcs-late-link"))
-        else:
-            page.press("ArrowRight")
-    assert page.text("#notice") == ""
-
-
-def test_schedules_that_begin_alike(page):
-    """Each schedule has its own answers. The file has a dash for no name."""
-    page.open()
-    for end in ("", "1 runlock\n"):
-        page.show(READERS + end)
-        if not end:
-            page.press("q")
-        assert page.js("asked")["move"] == 4
-        page.call("answer", "r0,1")
-    head, *parts = page.js("saved").split("\n\n")
-    assert "\n# Name: -\n" in head and head.endswith("\n# Points: 2 (2 right, 0 wrong)"), head
-    assert [one.rstrip("\n") for one in parts] == 2 * [
-        "# Your own schedule\n# Points: 1 (1 right, 0 wrong)\n+ 4 1 section holders: r0,1"]
-
-
-def test_what_is_asked_anew(page):
-    """The quiz asks from the move on that is shown when it begins, also if it asked before."""
-    first = begin(page).js("asked")["move"]
-    page.press("q").go(15).press("q", "q").go(0)
-    assert page.press("q").js("asked")["move"] == first
+    assert page.js("question")["move"] == 2 and page.js("isAsking")
 
 
 def test_the_points_of_each_schedule(page):
@@ -145,24 +110,6 @@ def test_the_points_of_each_schedule(page):
     assert right.splitlines()[2].startswith("+ ") and right.rstrip().endswith(f": {truth}"), right
 
 
-def test_a_wrong_answer_takes_a_point(page):
-    """One wrong answer and two right answers make one point."""
-    begin(page).call("answer", WRONG[page.js("asked")["kind"]])
-    for points in [0, 1]:
-        assert page.call("answer", truth_of(page.js("asked"))).text("#now .score").startswith(
-            f"Points: {points} ({points + 1} right, 1 wrong)"), points
-
-
-def test_a_wrong_queue_is_told_why(page):
-    """The reason for a wrong queue is the rule of queues. Blanks are no answer."""
-    begin(page, "ticket-hand-over")
-    while (shown := page.js("asked"))["kind"] != "queue":
-        page.call("answer", truth_of(shown, "ticket-hand-over"))
-    assert page.call("answer", " ").js("question")["move"] == shown["move"]
-    assert page.call("answer", "7").text("#now .why") == WHY_QUEUE
-    assert page.text("#now .score").split(" wrong)")[0].endswith(" 1"), page.text("#now .score")
-
-
 def test_what_the_slider_gives_away(page):
     """During the quiz the slider has no mark of a move that enters, and afterwards it has each."""
     page.open(f"#lesson={LESSON}&move=15")
@@ -174,63 +121,13 @@ def test_what_the_slider_gives_away(page):
     assert page.press("q").js(*entered) == len(entering)
 
 
-def lessons(*shown):
-    """Shows lessons one after another, each at a move, with the quiz on from the first one on."""
-    def act(page):
-        (name, move), *others = shown
-        page.open(f"#lesson={name}&move={move}").press("q")
-        for other in others:
-            page.lesson(*other)
-    return act
-
-
-def undone(page):
-    page.open("#lesson=mcs-late-link&move=8").lesson("ticket-hand-over", 0).press("q", "u")
-
-
-def branch(page):
-    page.open("#lesson=mcs-late-link&move=7").press("g", "q").call("choose", 0, "cas")
-
-
-@cases("act", {
-    "branch": branch, "undo": undone,
-    "lesson": lessons(("ticket-hand-over", 0), ("mcs-late-link", 8)),
-    "the same lesson": lessons(("mcs-late-link", 0), ("mcs-late-link", 8)),
-    "again": lessons(("mcs-late-link", 0), ("ticket-hand-over", 0), ("mcs-late-link", 8))})
-def test_a_move_that_was_shown_is_not_asked_for(page, act):
-    """What is shown at move 8 is left for move 7, not for the one before the first question."""
-    act(page)
-    assert page.shown()["place"] == 8
-    assert page.press("ArrowLeft").shown()["place"] == 7
-    assert page.js("asked")["move"] > 8 or act is branch, "a branch has no further moves"
-
-
 def test_the_next_question_of_the_lesson_is_open(page):
     """Key A before an answer does not show the answer to the lesson's question on the next move."""
-    assert page.open("#lesson=ticket-hand-over&move=4").press("q").js("focused") == "input"
+    assert page.open("#lesson=ticket-hand-over&move=4").press("q").js("isAsking")
     assert page.call("blur").press("a").js("question")["move"] == 5
     page.call("answer", MOVES["ticket-hand-over"][4][TRUTH["queue"]])
     assert page.shown()["place"] == 5 and page.js("count", "#now .question") == 1
     assert page.js("count", "#now .question details[open]") == 0
-
-
-def test_a_lesson_that_ends_with_an_answer(page):
-    """The list of lessons has a tick at a lesson whose last move was reached by an answer."""
-    page.open("#lesson=ticket-hand-over&move=9").press("q").call("answer", "entered")
-    assert page.shown()["place"] == 10
-    assert page.press("o").text("#lessons [data-lesson=ticket-hand-over] .number") == "✓"
-
-
-@pytest.mark.parametrize("name", ["Ed", "A", "R", "W", "E"])
-def test_a_name_within_an_outcome(page, name):
-    """The name of a thread may be a part of an outcome, as of moved, waits, entered or left."""
-    page.open(f"#lesson={LESSON}&move=0").show(f"{SCHEDULES[LESSON]}#! name 0 {name}\n").press("q")
-    answered = set()
-    while (shown := page.js("asked"))["move"]:
-        truth = truth_of(shown)
-        answered.add(truth)
-        assert " 0 wrong)" in page.call("answer", truth).text("#now .score"), (shown, truth)
-    assert {"waits", "entered", "left"} <= answered, answered
 
 
 # Four readers enter, and the first leaves. After moves 4 and 10 it is asked who holds: both
@@ -239,26 +136,24 @@ READERS = "lock rw-simple threads 4\n" + "".join(
     f"{one} rlock\n{one} section\n" for one in range(4)) + "0 runlock\n0 section\n"
 
 
-@cases("names, answers, right", {
-    "numbers": (["R", "W"], ["r0,1", "r1,2,3"], 2),
-    "names": (["R", "W"], ["rR,W", "r w, 2, 3"], 2),
-    "signs": (["a+(", "[b]*"], ["r a+(, [B]*", "r[b]*,2,3"], 2),
-    "a name with a comma": (["Ann, too", "\\"], ["r Ann, too, \\", "r\\, 2,3"], 2),
-    "no letter": (["R", "W"], ["R,W", "w,2,3"], 0),
-    "another letter": (["R", "W"], ["w0,1", "wW,2,3"], 0),
-    "another name": (["A", "B"], ["rB,A", "rA,2,3"], 0)})
-def test_names_of_readers(page, names, answers, right):
+def test_names_of_readers(page):
     """Before the numbers or names of readers is the letter r, which may be a name itself."""
-    page.open().show("".join(f"#! name {at} {name}\n" for at, name in enumerate(names)) + READERS)
-    page.press("q")
-    for move, answer in zip([4, 10], answers):
-        shown = page.js("asked")
-        assert (shown["move"], shown["kind"]) == (move, "holders")
-        assert shown["asks"] == ASKED["holders"]
-        assert page.text("#quiz-form .hint") == (
-            "Numbers or names: - for nobody, 0 for a holder, r0,2 for readers, w1 for a writer.")
-        page.call("answer", answer)
-    assert f"({right} right, {2 - right} wrong)" in page.text("#now .score")
+    for names, answers, right in [
+            (["R", "W"], ["r0,1", "r1,2,3"], 2), (["R", "W"], ["rR,W", "r w, 2, 3"], 2),
+            (["a+(", "[b]*"], ["r a+(, [B]*", "r[b]*,2,3"], 2),
+            (["Ann, too", "\\"], ["r Ann, too, \\", "r\\, 2,3"], 2),
+            (["R", "W"], ["R,W", "w,2,3"], 0), (["R", "W"], ["w0,1", "wW,2,3"], 0),
+            (["A", "B"], ["rB,A", "rA,2,3"], 0)]:
+        given = "".join(f"#! name {at} {name}\n" for at, name in enumerate(names))
+        page.open().show(given + READERS)
+        page.press("q")
+        for move, answer in zip([4, 10], answers):
+            shown = page.js("asked")
+            assert (shown["move"], shown["kind"]) == (move, "holders")
+            assert shown["asks"] == ASKED["holders"]
+            assert "r0,2 for readers, w1 for a writer." in page.text("#quiz-form .hint")
+            page.call("answer", answer)
+        assert f"({right} right, {2 - right} wrong)" in page.text("#now .score")
 
 
 def test_it_is_read_aloud(page):
@@ -273,38 +168,38 @@ def test_it_is_read_aloud(page):
     assert page.text("#spoken").startswith(f"Wrong: {truth}. Move {shown['move']} of 15. ")
 
 
-@pytest.mark.parametrize("outcome, threads", zip(ALWAYS, [None, "-", "0", "1"]))
-def test_chance_earns_nothing(page, outcome, threads):
-    begin(page, "mcs-late-link")
-    for name in filter(MOVES.get, MOVES):
-        page.call("answerBlindly", name, outcome, threads)
-    score = page.text("#now .score")
-    right, wrong = map(int, re.search(r"\((\d+) right, (\d+) wrong\)", score).groups())
-    assert right <= wrong and right + wrong >= 80, score
+def test_chance_earns_nothing(page):
+    for outcome, threads in zip(ALWAYS, [None, "-", "0", "1"]):
+        begin(page, "mcs-late-link")
+        for name in filter(MOVES.get, MOVES):
+            page.call("answerBlindly", name, outcome, threads)
+        score = page.text("#now .score")
+        right, wrong = map(int, re.search(r"\((\d+) right, (\d+) wrong\)", score).groups())
+        assert right <= wrong and right + wrong >= 80, score
 
 
 def test_a_step_back_from_a_question(page):
     """During a question a step back leads to the move before, and a step to the field again."""
     page.open("#lesson=ticket-hand-over&move=0").press("q", "ArrowRight")
-    assert page.js("question")["place"] == 1 and page.js("focused") == "input"
+    assert page.js("question")["place"] == 1 and page.js("isAsking")
     page.call("blur").press("ArrowLeft")
     assert page.shown()["place"] == 0 and page.js("count", "#quiz-form") == 0
-    assert page.press("ArrowRight").js("question")["place"] == 1 and page.js("focused") == "input"
+    assert page.press("ArrowRight").js("question")["place"] == 1 and page.js("isAsking")
 
 
-@pytest.mark.parametrize("look, box", [("", "#now"), ("&hall", "#current")])
-def test_what_there_is_to_do(page, look, box):
+def test_what_there_is_to_do(page):
     """The quiz says before the first question how to get to it, and after the last that none is
     left. During a question it shows only the form."""
-    page.open(f"#lesson=ticket-hand-over&move=0{look}").press("q")
-    assert page.text(f"{box} .quiz-how") == (
-        "Go on with →: before move 2 it is asked what comes. A wrong answer takes a point away. "
-        "Q ends the quiz."), box
-    page.press("ArrowRight")
-    assert page.js("count", f"{box} .quiz-how") == 0 and page.js("count", "#quiz-form") == 1
-    assert page.js("focused") == "input"
-    page.call("blur").press("ArrowRight")
-    assert page.js("focused") == "input" and page.shown()["place"] == 1
-    assert page.text("#quiz-form button") == "CheckEnter"
-    assert page.press("Escape", "q").go(10).press("q").text(f"{box} .quiz-how") == (
-        "No question is left in this schedule. Q ends the quiz.")
+    for look, box in [("", "#now"), ("&hall", "#current")]:
+        page.open(f"#lesson=ticket-hand-over&move=0{look}").press("q")
+        assert page.text(f"{box} .quiz-how") == (
+            "Go on with →: before move 2 it is asked what comes. A wrong answer takes a point "
+            "away. Q ends the quiz."), box
+        page.press("ArrowRight")
+        assert page.js("count", f"{box} .quiz-how") == 0 and page.js("count", "#quiz-form") == 1
+        assert page.js("isAsking")
+        page.call("blur").press("ArrowRight")
+        assert page.js("isAsking") and page.shown()["place"] == 1
+        assert page.text("#quiz-form button") == "CheckEnter"
+        assert page.press("Escape", "q").go(10).press("q").text(f"{box} .quiz-how") == (
+            "No question is left in this schedule. Q ends the quiz.")

@@ -1,5 +1,4 @@
 """Lessons, links, paper and Play show a refused move as a scene of its own."""
-import pytest
 
 from reports import SCHEDULES
 
@@ -46,22 +45,22 @@ def check_scene(page, count, last, parts):
     assert abs(page.js("lastFailure")) <= 1 and page.js("count", "#slider-picture .fails") > 0
 
 
-@pytest.mark.parametrize("name, count, last, parts", LESSONS, ids=[row[0] for row in LESSONS])
-def test_lesson(page, name, count, last, parts):
+def test_lesson(page):
     """Keys step to the scene, the address then names it, and a link opens it."""
-    assert "refused" not in page.open(f"#lesson=refused-{name}&move=0").shown()["now"]
-    page.press(*["ArrowRight"] * (count + 1))
-    check_scene(page, count, last, parts)
-    line = page.text("#now .refused-text").split()
-    assert page.text("#now mark.bad") == line[name != "no-such-thread"], "what is struck through"
-    shown = page.shown(mode="lessons")
-    place = f"#lesson=refused-{name}&move={count + 1}"
-    assert page.becomes(place, "address").open(place).shown() == shown
-    paper, is_crossed = page.js("onPaper")
-    assert is_crossed
-    for part in [last, *parts]:
-        assert part in paper
-    assert page.text("#paper .wrong-part h3").startswith(f"Line {last.split()[2]}: ")
+    for name, count, last, parts in LESSONS:
+        assert "refused" not in page.visit(f"#lesson=refused-{name}&move=0").shown()["now"]
+        page.press(*["ArrowRight"] * (count + 1))
+        check_scene(page, count, last, parts)
+        line = page.text("#now .refused-text").split()
+        assert page.text("#now mark.bad") == line[name != "no-such-thread"]
+        shown = page.shown(mode="lessons")
+        place = f"#lesson=refused-{name}&move={count + 1}"
+        assert page.becomes(place, "address").open(place).shown() == shown
+        paper, is_crossed = page.js("onPaper")
+        assert is_crossed
+        for part in [last, *parts]:
+            assert part in paper
+        assert page.text("#paper .wrong-part h3").startswith(f"Line {last.split()[2]}: ")
 
 
 def test_who_holds(page):
@@ -83,39 +82,26 @@ def test_the_word_that_decided_it(page):
     assert page.go(6).js("markedWords") == ["next_ticket changed"]
 
 
-@pytest.mark.parametrize("name, word", [("no-such-thread", "1"), ("wrong-lock", "ticket")])
-def test_the_word_of_the_header(page, name, word):
-    """The page marks the number of threads or the name of the lock, which decided the refusal."""
-    page.open(f"#lesson=refused-{name}&move=1")
-    assert page.js("texts", "#now [data-decided] mark") == [word]
-
-
 def test_a_lane_without_a_thread(page):
     """The refused move has a lane of its own, which says that there is no such thread."""
     page.open("#lesson=refused-no-such-thread&move=1")
     assert page.text("#lanes g:has(> [data-refused]) > .note") == "no such thread"
 
 
-@pytest.mark.parametrize("name, code", [
-    ("wrong-step", "ticket := add(next_ticket, 1)"), ("no-call", "")])
-def test_the_line_that_is_due(page, name, code):
-    assert page.open(f"#lesson=refused-{name}&move=9").text("#code-lines .here code") == code
-
-
-@pytest.mark.parametrize("name, last, parts", FAULTS, ids=[row[0] for row in FAULTS])
-def test_fault_on_paper(page, name, last, parts):
-    page.open(f"#lesson=fault-{name}&move=0")
-    assert page.shown()["mode"] == "own", "the panel of the text is open"
-    paper, _ = page.js("onPaper")
-    for part in [last, *parts]:
-        assert part in paper
-    number = int(last.split()[2])
-    lines = SCHEDULES[f"fault-{name}"].split("\n")
-    assert page.js("texts", "#paper tr.wrong") == [f"✕ {number} {lines[number - 1]}".strip()]
-    # Six lines before it and six after it, as far as there are any.
-    around = [at for at in range(1, len(lines) + 1) if abs(at - number) <= 6]
-    assert page.js("texts", "#paper .text-around td:first-child") == [
-        f"✕ {at}" if at == number else str(at) for at in around]
+def test_fault_on_paper(page):
+    for name, last, parts in FAULTS:
+        page.visit(f"#lesson=fault-{name}&move=0")
+        assert page.shown()["mode"] == "own", "the panel of the text is open"
+        paper, _ = page.js("onPaper")
+        for part in [last, *parts]:
+            assert part in paper
+        number = int(last.split()[2])
+        lines = SCHEDULES[f"fault-{name}"].split("\n")
+        assert page.js("texts", "#paper tr.wrong") == [f"✕ {number} {lines[number - 1]}".strip()]
+        # Six lines before it and six after it, as far as there are any.
+        around = [at for at in range(1, len(lines) + 1) if abs(at - number) <= 6]
+        assert page.js("texts", "#paper .text-around td:first-child") == [
+            f"✕ {at}" if at == number else str(at) for at in around]
 
 
 # The line after move 8. Before it are two names, the questions of moves 7 and 8 with their answers,

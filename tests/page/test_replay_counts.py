@@ -1,13 +1,10 @@
 """Counts how often the page asks the machine. It reads steps, views, pictures, printed sheets and
 Undo off the records without a replay, and a choice in Play takes one replay.
 """
-import pytest
 
 from reports import LESSONS
 
 LATE_LINK = "#lesson=mcs-late-link&move=7"
-SCHEDULE = "lock ticket threads 2\n0 acquire\n0 add\n"
-OTHER = "lock mcs threads 3\n2 acquire\n"
 UNDO, COMPARE, STEP_BACK, END = ("undo",), ("key", "c"), ("key", "ArrowLeft"), ("key", "End")
 # Acts one after another, and how often the page asks the machine for each.
 IN_PLAY = [
@@ -27,27 +24,6 @@ IN_PLAY = [
     ("the same lesson", [("lesson", "mcs-late-link", 3)], 0),
     ("another one", [("lesson", "ticket-hand-over")], 1),
 ]
-# A text that was played before, or the front of one, takes no replay.
-IN_A_TEXT = [
-    ("a new text", [("click", "#clear")], 1),
-    ("another text", [("write", SCHEDULE)], 1),
-    ("a line more", [("write", f"{SCHEDULE}0 read\n")], 1),
-    ("a line less", [("write", SCHEDULE)], 0),
-    ("half a line, which is a fault", [("write", f"{SCHEDULE}0 rea")], 1),
-    ("the line that was meant", [("click", "[data-mend]")], 1),
-    ("a paste", [("paste", OTHER)], 1),
-    ("the same again", [("paste", OTHER)], 0),
-    ("a paste that is no schedule", [("key", "g"), ("paste", "hello")], 1),
-]
-# Each of the two schedules takes one replay, and a wrong guess on the other lock one more.
-WITH_THE_OTHER_LOCK = [
-    ("the other lock", [COMPARE], 1),
-    ("a step back", [STEP_BACK], 0),
-    ("to the end", [END], 0),
-    ("a move on both locks", [("choose", 1, "wunlock")], 2),
-    ("undo on both", [UNDO], 0),
-    ("a guess that is wrong", [("lesson", "fifo-reader-waits-behind-writer")], 3),
-]
 
 
 def test_no_play_for_what_is_known(page):
@@ -57,15 +33,11 @@ def test_no_play_for_what_is_known(page):
         name: [1, 0] for name in known}
 
 
-@pytest.mark.parametrize("link, key, acts", [
-    (LATE_LINK, "g", IN_PLAY), (LATE_LINK, "e", IN_A_TEXT),
-    ("#lesson=simple-second-writer&move=7", "g", WITH_THE_OTHER_LOCK)],
-    ids=["play", "text", "two locks"])
-def test_plays_of_acts(page, link, key, acts):
+def test_plays_of_acts(page):
     """The number of replays after a click, a key or typing, when the page is at rest."""
-    page.open(link).press(key)
-    assert [(what, page.js("playsOf", act)) for what, act, _ in acts] == [
-        (what, plays) for what, _, plays in acts]
+    page.open(LATE_LINK).press("g")
+    assert [(what, page.js("playsOf", act)) for what, act, _ in IN_PLAY] == [
+        (what, plays) for what, _, plays in IN_PLAY]
 
 
 def test_back_and_forward(page):

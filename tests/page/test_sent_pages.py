@@ -5,7 +5,6 @@ tests/locktrace compares the program's files with the same pages.
 import pytest
 
 from traces import page_with
-from tree import cases
 
 RIGHT = "lock ticket threads 1\n0 acquire\n0 add next_ticket found 0\n0 read\n"
 WRONG = RIGHT.replace("found 0", "found 1")
@@ -23,21 +22,21 @@ def sent(tmp_path):
     return write
 
 
-@cases("fragment, said, told", {
-    "English": ("", "The recorded run: add next_ticket found 1. The lock here: found 0.",
-                "This is a trace. It differs from the lock in line 4."),
-    "German": ("#lang=de", "Der aufgezeichnete Lauf: add next_ticket fand 1. Die Sperre hier: "
-               "fand 0.", "Das ist ein Trace. In Zeile 4 weicht er von der Sperre ab."),
-})
-def test_refused_trace(page, sent, fragment, said, told):
+def test_refused_trace(page, sent):
     """The page opens at the refused step with both values, and a reload keeps the place."""
-    shown = page.open(fragment, sent(ODD)).shown(refused=True, moves=1, mode="own")
-    assert shown["held"] == ODD.decode("latin-1")
-    assert said in shown["now"] and said in shown["verdict"]
-    assert page.text("#now mark.bad") == "1" and page.text("#notice") == told
-    assert page.js("count", "dialog[open]") == 0
-    page.press("ArrowLeft").shown(place=1)
-    assert page.call("leave").reload().shown(place=1)["held"] == ODD.decode("latin-1")
+    for fragment, said, told in [
+            ("", "The recorded run: add next_ticket found 1. The lock here: found 0.",
+             "This is a trace. It differs from the lock in line 4."),
+            ("#lang=de",
+             "Der aufgezeichnete Lauf: add next_ticket fand 1. Die Sperre hier: fand 0.",
+             "Das ist ein Trace. In Zeile 4 weicht er von der Sperre ab.")]:
+        shown = page.open(fragment, sent(ODD)).shown(refused=True, moves=1, mode="own")
+        assert shown["held"] == ODD.decode("latin-1")
+        assert said in shown["now"] and said in shown["verdict"]
+        assert page.text("#now mark.bad") == "1" and page.text("#notice") == told
+        assert page.js("count", "dialog[open]") == 0
+        page.press("ArrowLeft").shown(place=1)
+        assert page.call("leave").reload().shown(place=1)["held"] == ODD.decode("latin-1")
 
 
 def test_accepted_trace(page, sent):

@@ -1,11 +1,8 @@
 """The start says what the page is, and has four cards with lessons, and ways to go on."""
-import re
 
-import pytest
 
 from replayed import Replay
-from reports import SCHEDULES, asked_in, remarks
-from tree import cases
+from reports import SCHEDULES
 
 LOCKS = ["ticket", "mcs", "rw-simple", "rw-fifo"]
 REFUSED = ("refused", "fault")
@@ -41,57 +38,6 @@ def test_without_a_link(page):
         assert part in one, said
 
 
-PROLOGUE = "Two threads add to one counter, and one addition is lost. Six moves, one minute."
-WHY = "Each step is changed in turn, and a shortest run shows what goes wrong."
-
-
-def test_what_a_card_says(page):
-    """A card has its lock's name, and of each lesson its number, its title and what one learns. The
-    last line leads to why each line of the lock is there."""
-    assert page.open().js("texts", "#lessons .lock-card h3") == [
-        "Ticket lock", "MCS queue lock", "Simple read-write lock", "FIFO read-write lock"]
-    for card in page.js("cards"):
-        names = [name for name, _ in card["lessons"]]
-        titles, learn = ([" ".join(remarks(name, what)) for name in names]
-                         for what in ("title", "learn"))
-        part = f"#lessons [data-lock={card['lock']}] li"
-        assert page.js("attribute", f"[data-live={card['lock']}]", "aria-hidden") == "true"
-        first = ["0", "Why a lock?", PROLOGUE] if card["lock"] == "ticket" else []
-        assert page.js("texts", f"{part} .number") == [
-            *first[:1], *map(str, range(1, len(names) + 1)), "Y"]
-        assert page.js("texts", f"{part} b") == [*first[1:2], *titles, "Why each line is there"]
-        assert page.js("texts", f"{part} .learn") == [*first[2:], *learn, WHY]
-    assert page.js("texts", "#lessons .ways b") == ["Your own", "Play", "Find a moment", "Teach"]
-    assert page.js("texts", "#lessons .refusals summary") == [
-        "What is refused: wrong moves, and texts that are no schedules"]
-
-
-def test_where_the_parts_of_the_start_are(page):
-    """In order, from top to bottom. On a usual screen the languages are beside the heading, and the
-    four cards and the four ways are each in one row."""
-    page.open()
-    parts = ["what", "languages", "cards", "ways", "refusals"]
-    assert page.js("partsOfStart") == parts
-    what, languages, cards, ways, refusals = (page.js("topsOf", f".{part}") for part in parts)
-    assert languages < what < cards < ways < refusals
-    assert [len(set(page.js("topsOf", one))) for one in (".lock-card", "[data-way]")] == [1, 1]
-    page.press("Escape").show("lock mcs threads 1\n").press("Escape", "o")
-    assert page.js("partsOfStart") == ["what", "languages", "kept", "cards", "ways", "refusals"]
-
-
-def test_how_long_each_lesson_takes(page):
-    """A card counts ten seconds for a move after the beginning, also for a refused one, and thirty
-    for a question."""
-    page.open()
-    said = {name: text for card in page.js("cards") for name, text in card["lessons"]}
-    assert len(said) > 12
-    for name, text in said.items():
-        begins = sum(map(int, re.findall(r"^#! begin (\d+)$", SCHEDULES[name], re.MULTILINE)))
-        moves = len(re.findall(r"^\d", SCHEDULES[name], re.MULTILINE)) - begins
-        minutes = max(1, int((10 * moves + 30 * len(asked_in(name))) / 60 + 0.5))
-        assert text.endswith(f" {moves} moves, about {minutes} min"), (name, text)
-
-
 def test_a_link_opens_its_lesson(page):
     """A link opens its lesson without the start, and the window has the title of the lesson."""
     page.open("#lesson=mcs-late-link&move=3")
@@ -123,31 +69,20 @@ def test_the_point_of_a_schedule_of_ones_own(page):
     assert page.text("#now .own-say") == "Who comes first."
 
 
-def test_a_click_on_no_choice(page):
-    """A click on a heading of the start changes nothing."""
-    page.open().click("#lessons .lock-card h3")
-    assert page.js("isOpen", "lessons") and page.js("lessonNow") == "ticket-hand-over"
-
-
-def test_behind_the_start(page):
-    """If the start is closed, the first lesson is shown, before its first move."""
-    assert not page.open().press("Escape").js("isOpen", "lessons")
-    page.shown(lesson="ticket-hand-over", place=0)
-
-
-@pytest.mark.parametrize("language, said", [
-    ("en", "Thread 0 is Ann, thread 1 is Bob."), ("de", "Thread 0 ist Ann, Thread 1 ist Bob.")])
-def test_who_is_which_thread(page, language, said):
+def test_who_is_which_thread(page):
     """Before the first move the page names the threads, even on the smallest screen."""
-    page.resize(1024, 768).open(f"#lesson=ticket-hand-over&move=0&lang={language}")
-    assert page.js("seen", "#now .names") == said
-    page.show("lock mcs threads 2\n")
-    assert page.js("count", "#now .names") == 0, "no names are given"
-    for most in (9, 10):
-        names = "".join(f"#! name {thread} N{thread}\n" for thread in range(most))
-        page.show(f"{names}lock ticket threads 10\n")
-        assert page.text("#now .names").count(" N") == (9 if most == 9 else 0), most
-    assert page.text("#resting").startswith("2 "), "of ten threads eight are drawn before any move"
+    for language, said in [
+            ("en", "Thread 0 is Ann, thread 1 is Bob."),
+            ("de", "Thread 0 ist Ann, Thread 1 ist Bob.")]:
+        page.resize(1024, 768).open(f"#lesson=ticket-hand-over&move=0&lang={language}")
+        assert page.js("seen", "#now .names") == said
+        page.show("lock mcs threads 2\n")
+        assert page.js("count", "#now .names") == 0, "no names are given"
+        for most in (9, 10):
+            names = "".join(f"#! name {thread} N{thread}\n" for thread in range(most))
+            page.show(f"{names}lock ticket threads 10\n")
+            assert page.text("#now .names").count(" N") == (9 if most == 9 else 0), most
+        assert page.text("#resting").startswith("2 ")
 
 
 def test_the_end_of_a_lesson(page):
@@ -173,51 +108,43 @@ WAYS_ON = {"why": lambda page: page.js("isOpen", "why"),
                "attribute", "#mode-quiz", "aria-pressed") == "true"}
 
 
-@cases("language, said", {
-    "en": ("en", ["Why each line is there", "Play", "Quiz"]),
-    "de": ("de", ["Warum jede Zeile da ist", "Spielen", "Quiz"])})
-def test_the_end_of_the_last_lesson(page, language, said):
+def test_the_end_of_the_last_lesson(page):
     """After the last lesson of the last lock no lesson is next, and no text that is refused. Five
     lines say what was learned, and three buttons lead on."""
-    last = page.open(f"#lang={language}").js("lastLessons")
-    assert len(last) == 4
-    for name in last:
-        assert page.lesson(name).go(None).press("a").js("count", "#now .last") == 1, name
-        assert page.js("count", "#now [data-end]") == (name == last[-1]), name
-        assert page.js("count", "#now [data-next]") == (name != last[-1]), name
-    assert page.press("ArrowRight").js("count", "[data-end]:focus") == 1, "a step leads there"
-    for way, leads in WAYS_ON.items():
-        page.lesson(last[-1]).go(None).press("Enter")
-        assert page.js("count", "#all-done li") == 5
-        assert page.js("texts", "#all-done [data-further]") == said
-        assert leads(page.click(f"[data-further={way}]")), way
-        page.press("Escape")
+    for language, said in [
+            ("en", ["Why each line is there", "Play", "Quiz"]),
+            ("de", ["Warum jede Zeile da ist", "Spielen", "Quiz"])]:
+        last = page.open(f"#lang={language}").js("lastLessons")
+        assert len(last) == 4
+        for name in last:
+            assert page.lesson(name).go(None).press("a").js("count", "#now .last") == 1, name
+            assert page.js("count", "#now [data-end]") == (name == last[-1]), name
+            assert page.js("count", "#now [data-next]") == (name != last[-1]), name
+        assert page.press("ArrowRight").js("count", "[data-end]:focus") == 1, "a step leads there"
+        for way, leads in WAYS_ON.items():
+            page.lesson(last[-1]).go(None).press("Enter")
+            assert page.js("count", "#all-done li") == 5
+            assert page.js("texts", "#all-done [data-further]") == said
+            assert leads(page.click(f"[data-further={way}]")), way
+            page.press("Escape")
 
 
-@cases("language, lost", {"en": ("en", "One addition is lost."),
-                          "de": ("de", "Einmal Zählen ist verloren.")})
-def test_why_a_lock(page, language, lost):
+def test_why_a_lock(page):
     """Before the first lesson two threads add to one counter: six moves, and one addition is lost.
     Keys and buttons step through them, and the start ticks them off."""
-    page.open(f"#lang={language}").click("[data-prologue]")
-    words = [["0", "-", "-"], ["0", "0", "-"], ["0", "0", "0"], ["0", "1", "0"], ["0", "1", "1"],
-             ["1", "1", "1"], ["1", "1", "1"]]
-    for move, values in enumerate(words):
-        shown = page.js("prologue")
-        assert [one if one.isdigit() else "-" for one in shown["words"]] == values, move
-        assert len(shown["moves"]) == move and (lost in shown["said"]) == (move == 6), shown
-        page.press(*["ArrowRight"] * (move < 6))
-    page.press("ArrowLeft", "PageUp").click("#prologue-forward")
-    assert len(page.js("prologue")["moves"]) == 5
-    page.press("ArrowRight", "Enter").shown(lesson="ticket-hand-over", place=0)
-    assert page.press("o").text("[data-prologue] .number") == "✓"
-    assert page.js("chosen") == "ticket-hand-over", "it is next"
-
-
-def test_what_comes_after_a_lesson(page):
-    """Who comes back begins with the first lesson that is not done."""
-    page.open("#lesson=ticket-hand-over&move=10").press("o")
-    assert page.js("chosen") == "ticket-order-of-tickets"
+    for language, lost in [("en", "One addition is lost."), ("de", "Einmal Zählen ist verloren.")]:
+        page.open(f"#lang={language}").click("[data-prologue]")
+        words = ["0--", "00-", "000", "010", "011", "111", "111"]
+        for move, values in enumerate(words):
+            shown = page.js("prologue")
+            assert "".join(one if one.isdigit() else "-" for one in shown["words"]) == values, move
+            assert len(shown["moves"]) == move and (lost in shown["said"]) == (move == 6), shown
+            page.press(*["ArrowRight"] * (move < 6))
+        page.press("ArrowLeft", "PageUp").click("#prologue-forward")
+        assert len(page.js("prologue")["moves"]) == 5
+        page.press("ArrowRight", "Enter").shown(lesson="ticket-hand-over", place=0)
+        assert page.press("o").text("[data-prologue] .number") == "✓"
+        assert page.js("chosen") == "ticket-hand-over", "it is next"
 
 
 def test_the_end_of_a_schedule_of_ones_own(page):
@@ -271,29 +198,6 @@ def test_terms_are_explained(page):
         assert said and meaning in said and is_seen, (term, said)
 
 
-def test_who_reads_a_term_aloud(page):
-    """A term is a button that its explanation describes, as long as that is shown."""
-    page.open("#lesson=ticket-hand-over&move=6")
-    for term, word in [("holder", "Holds"), ("queue", "Queue")]:
-        assert page.call("explained", "#now", term).js("describedTerm") == [word, "button"]
-    page.call("focus", "#forward")
-    assert page.js("describedTerm") is None and page.js("count", "[aria-describedby]") == 0
-
-
-def test_keys_of_a_term(page):
-    """Escape closes the explanation, then the hall. Space and Enter show it again."""
-    page.open("#lesson=ticket-hand-over&move=6&hall&show=now,code")
-    page.call("explained", "main", "holder")
-    for key in ["Space", "Enter"]:
-        assert page.press("Escape").js("describedTerm") is None
-        page.press(key)
-        assert page.js("describedTerm") == ["Holds", "button"] and not page.js("isRunning")
-    page.press("Escape").call("click", "#now .facts .term")
-    assert page.js("describedTerm") == ["Holds", "button"], "a click shows it too"
-    assert page.press("Escape").js("inHall")
-    assert not page.press("Escape").js("inHall")
-
-
 def test_which_term_a_word_is(page):
     """A word is marked if it is a term of the glossary or a form of one, the longest term first,
     and not if it is a part of another word."""
@@ -308,17 +212,6 @@ def test_which_term_a_word_is(page):
         ["late link", "late link"], ["record", "record"], ["call", "call"],
         ["sections", "section"], ["announce", "announce"], ["queue", "queue"],
         ["linearization point", "linearization point"]], "each where it is first"
-
-
-def test_a_term_at_the_foot_of_the_window(page):
-    """Where there is no room below a term, its explanation is above it."""
-    assert page.open("#lesson=ticket-hand-over&move=6").js("isExplainedAbove", "queue")
-
-
-def test_terms_of_the_start_are_explained(page):
-    """The explanation of a term of the start is above the dialog."""
-    said, is_seen = page.open().js("explained", "#lessons", "holder")
-    assert said and "entered a lock and not left it" in said and is_seen, said
 
 
 def test_one_card_plays_at_a_time(page):
@@ -340,24 +233,6 @@ PICTURED = {
 }
 
 
-@cases("media", {"reduced": {"prefers-reduced-motion": "reduce"}})
-def test_what_cards_show(page):
-    """A card shows the memory of its lesson at a question. It stays so for who wants no motion."""
-    page.before("keepClocks").open().call("atCard", "mcs", "pointerenter")
-    assert page.js("clocks") == []
-    for lock, (name, move) in PICTURED.items():
-        replay = Replay(SCHEDULES[name].encode("latin-1"))
-        assert page.js("attribute", f"[data-live={lock}] svg", "aria-label") == (
-            replay.caption(replay.states[move])), lock
-
-
-def test_a_card_plays_again(page):
-    """The card plays its lesson, and begins it anew after the last move."""
-    page.before("hasten").open()
-    for said in ["It is the turn of ticket 1.", "No ticket is in use."]:
-        page.becomes(said, "attribute", "[data-live=ticket] svg", "aria-label")
-
-
 def test_what_a_card_plays(page):
     """With each turn of its clock a card shows the memory after the next move, from the one that it
     showed, and after the last move that before the first one."""
@@ -368,13 +243,3 @@ def test_what_a_card_plays(page):
         moves = [*range(move + 1, len(replay.moves) + 1), 0, 1, 2]
         assert page.js("turns", lock, len(moves)) == [
             replay.caption(replay.states[at]) for at in moves], lock
-
-
-@pytest.mark.parametrize("width", [390, 1440])
-def test_how_wide_pictures_are(page, width):
-    """The picture of a card is as wide as the card, on a phone too. It has room for 560 units, so
-    its letters are smaller than in a lesson, or for more, so that its height has room."""
-    assert page.resize(width, 844).open().js("pictures") == [True] * 4
-    shares = {round(560 / units, 3) for units in page.js("unitsOfPictures")}
-    assert shares <= {1, 0.9, 0.8, 0.7, 0.6} and len(shares) > 1, shares
-    assert page.js("cutPictures") == []

@@ -1,8 +1,6 @@
 """A text that is no schedule leaves nothing of the one before: no choices, no question of the quiz,
 and no dialog that is about it. With a lock all of it is there again."""
-import pytest
 
-from tree import cases
 
 LESSON = "#lesson=mcs-late-link&move=6"
 # What says something of a lock.
@@ -29,24 +27,24 @@ def test_a_list_that_is_closed(page):
     page.go(0).click("#next-kinds summary").until("count", "[data-next-kind]")
 
 
-@pytest.mark.parametrize("look, box", [("", "#now"), ("&hall", "#current")])
-def test_the_quiz(page, look, box):
+def test_the_quiz(page):
     """Its question is not asked over a text without a move, and comes again with the lesson."""
-    page.open(f"{LESSON}{look}").press("q")
-    page.until("count", f"{box} #quiz-form")
-    page.lesson("fault-no-header")
-    assert page.js("count", "#quiz-form") == 0 and page.text(box) == ""
-    page.lesson("mcs-late-link", 6)
-    assert page.js("count", f"{box} #quiz-form") == 1
+    for look, box in [("", "#now"), ("&hall", "#current")]:
+        page.visit(f"{LESSON}{look}").press("q")
+        page.until("count", f"{box} #quiz-form")
+        page.lesson("fault-no-header")
+        assert page.js("count", "#quiz-form") == 0 and page.text(box) == ""
+        page.lesson("mcs-late-link", 6)
+        assert page.js("count", f"{box} #quiz-form") == 1
 
 
-@pytest.mark.parametrize("look", ["", "&hall", "&embed"])
-@pytest.mark.parametrize("text", ["lock\n", "", "# a comment\n"])
-def test_no_part_is_left(page, look, text):
-    page.open(f"{LESSON}{look}").show(text)
-    assert {part: page.text(part) for part in PARTS} == dict.fromkeys(PARTS, "")
-    said = page.lesson("mcs-late-link", 6).text("#spoken")
-    assert said.startswith("Move 6 of 16."), said
+def test_no_part_is_left(page):
+    for look in ["", "&hall", "&embed"]:
+        for text in ["lock\n", "", "# a comment\n"]:
+            page.visit(f"{LESSON}{look}").show(text)
+            assert {part: page.text(part) for part in PARTS} == dict.fromkeys(PARTS, "")
+            said = page.lesson("mcs-late-link", 6).text("#spoken")
+            assert said.startswith("Move 6 of 16."), said
 
 
 AWAY = {
@@ -56,17 +54,17 @@ AWAY = {
 }
 
 
-@cases("away", AWAY)
-@pytest.mark.parametrize("dialog", DIALOGS)
-def test_a_dialog_over_another_text(page, dialog, away):
+def test_a_dialog_over_another_text(page):
     """A dialog closes when the text below it changes, and no key is lost to it then."""
-    page.open("#lesson=fault-no-header").lesson("mcs-record-used-again", 5)
-    way = DIALOGS[dialog]
-    if way.startswith("#"):
-        page.call("click", way)
-    else:
-        page.press(way)
-    assert page.js("isOpen", dialog)
-    away(page)
-    page.becomes(0, "count", "dialog[open]")
-    assert page.press("?").js("isOpen", "keys")
+    for away in AWAY.values():
+        for dialog in DIALOGS:
+            page.visit("#lesson=fault-no-header").lesson("mcs-record-used-again", 5)
+            way = DIALOGS[dialog]
+            if way.startswith("#"):
+                page.call("click", way)
+            else:
+                page.press(way)
+            assert page.js("isOpen", dialog)
+            away(page)
+            page.becomes(0, "count", "dialog[open]")
+            assert page.press("?").js("isOpen", "keys")

@@ -1,6 +1,5 @@
 """For a step at which a trace differs from its lock, the page says both values and the cause. The
 values are worked out by hand from docs/LOCKS.md."""
-import pytest
 
 from test_recorded_runs import AGREEING, LESSON, LINKED, SECOND, moves_of, pasted, text_of
 
@@ -101,23 +100,23 @@ DIFFERENT = {
 }
 
 
-@pytest.mark.parametrize("name", DIFFERENT)
-def test_differences(page, name):
+def test_differences(page):
     """The page opens at the wrong step, crosses it out, and says both values and the cause."""
-    head, moves, wrong, code, said = DIFFERENT[name]
-    trace = text_of(head, moves_of(moves))
-    line = len(moves_of(moves)) + 1
-    shown = page.open(LESSON).call("paste", trace).shown(refused=True, moves=line - 2)
-    assert shown["place"] == line - 1 and shown["held"] == trace
-    assert page.text("#notice") == f"This is a trace. It differs from the lock in line {line}."
-    last = moves_of(moves)[-1]
-    assert page.js("marked") == [last, wrong]
-    for sentence in said:
-        for part in ("now", "spoken", "verdict"):
-            assert sentence in shown[part], (part, sentence, shown[part])
-    assert f"refused line {line} {code}" in shown["verdict"]
-    failed = sum("cas" in one for one in moves_of(moves)[:-1])
-    assert page.js("crosses") == [str(line - 1), 1 + failed, f"✕ {line}"]
+    for name in DIFFERENT:
+        head, moves, wrong, code, said = DIFFERENT[name]
+        trace = text_of(head, moves_of(moves))
+        line = len(moves_of(moves)) + 1
+        shown = page.visit(LESSON).call("paste", trace).shown(refused=True, moves=line - 2)
+        assert shown["place"] == line - 1 and shown["held"] == trace
+        assert page.text("#notice") == f"This is a trace. It differs from the lock in line {line}."
+        last = moves_of(moves)[-1]
+        assert page.js("marked") == [last, wrong]
+        for sentence in said:
+            for part in ("now", "spoken", "verdict"):
+                assert sentence in shown[part], (part, sentence, shown[part])
+        assert f"refused line {line} {code}" in shown["verdict"]
+        failed = sum("cas" in one for one in moves_of(moves)[:-1])
+        assert page.js("crosses") == [str(line - 1), 1 + failed, f"✕ {line}"]
 
 
 def test_what_decided_it(page):

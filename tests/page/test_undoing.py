@@ -1,7 +1,5 @@
 """Undo by its buttons in Play and in Your own, by its key, and by Ctrl+Z."""
-import pytest
 
-from tree import cases
 
 # The command key of a Mac.
 META = "\ue03d"
@@ -12,41 +10,33 @@ def buttons(page):
     return page.js("count", ":is(#undo, #undo-own):enabled")
 
 
-@cases("undo", {
-    "button": lambda page: page.click("#undo"), "key": lambda page: page.press("u"),
-    "control": lambda page: page.press("Control+z"),
-    "command": lambda page: page.press(f"{META}+z")})
-def test_choices_are_undone(page, undo):
+def test_choices_are_undone(page):
     """Undo takes back the last choice, and then the first, which brings the whole lesson back."""
-    lesson = page.open("#lesson=mcs-late-link&move=7").press("g").shown(position="7 of 16")
-    assert buttons(page) == 0
-    branch = page.click("#choices [data-thread='0']").shown(position="8 of 8", lesson=None)
-    assert branch["area"].endswith("0 read\n0 cas\n") and buttons(page) == 2
-    page.click("#choices [data-thread='1']")
-    assert page.shown(position="9 of 9")["area"] == branch["area"] + "1 swap\n"
-    undo(page)
-    assert page.shown(position="8 of 8") == branch
-    page.lesson("ticket-hand-over")
-    undo(page)
-    assert page.shown(position="8 of 8") == branch, "with the lesson's title"
-    undo(page)
-    assert page.shown(position="7 of 16") == lesson
+    for undo in [
+            lambda page: page.click("#undo"), lambda page: page.press("u"),
+            lambda page: page.press("Control+z"), lambda page: page.press(f"{META}+z")]:
+        lesson = page.open("#lesson=mcs-late-link&move=7").press("g").shown(position="7 of 16")
+        assert buttons(page) == 0
+        branch = page.click("#choices [data-thread='0']").shown(position="8 of 8", lesson=None)
+        assert branch["area"].endswith("0 read\n0 cas\n") and buttons(page) == 2
+        page.click("#choices [data-thread='1']")
+        assert page.shown(position="9 of 9")["area"] == branch["area"] + "1 swap\n"
+        undo(page)
+        assert page.shown(position="8 of 8") == branch
+        page.lesson("ticket-hand-over")
+        undo(page)
+        assert page.shown(position="8 of 8") == branch, "with the lesson's title"
+        undo(page)
+        assert page.shown(position="7 of 16") == lesson
 
 
-@pytest.mark.parametrize("key", ["u", "Control+z"])
-def test_nothing_is_left_to_undo(page, key):
-    """If nothing is left to undo, the key changes nothing."""
-    lesson = page.open("#lesson=mcs-late-link&move=7").press("g").shown()
-    assert page.press(key).shown() == lesson
-
-
-@pytest.mark.parametrize("dialog", ["v", "?", "m"])
-def test_nothing_is_undone_behind_a_dialog(page, dialog):
+def test_nothing_is_undone_behind_a_dialog(page):
     """Ctrl+Z changes nothing behind an open dialog, and undoes when it is closed."""
-    page.open("#lesson=mcs-late-link&move=7").press("g").click("#choices [data-thread='0']")
-    branch = page.shown(position="8 of 8", lesson=None)
-    assert page.press(dialog, "Control+z").shown() == branch
-    page.press("Escape", "Control+z").shown(position="7 of 16", lesson="mcs-late-link")
+    for dialog in ["v", "?", "m"]:
+        page.open("#lesson=mcs-late-link&move=7").press("g").click("#choices [data-thread='0']")
+        branch = page.shown(position="8 of 8", lesson=None)
+        assert page.press(dialog, "Control+z").shown() == branch
+        page.press("Escape", "Control+z").shown(position="7 of 16", lesson="mcs-late-link")
 
 
 def test_a_new_text_is_undone(page):

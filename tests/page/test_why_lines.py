@@ -4,9 +4,9 @@ import re
 
 import pytest
 
+
 from locks import LOCKS
 from told_changes import STUCK, listing, stops, told
-from tree import cases
 
 NOTHING = "Nothing was changed here: this line has no step."
 LATER = f"{STUCK} The changed step comes later."
@@ -54,68 +54,26 @@ def check_harm(lock, change):
     assert bool(change["said"]) == (stuck or harmless), change
 
 
-@pytest.mark.parametrize("lock", LOCKS)
-def test_each_change_is_at_its_line(page, lock):
+def test_each_change_is_at_its_line(page):
     """Each change is at its line, with its verdict and its moves, each with its line of code."""
-    shown, code = walk(page, lock), {}
-    for line, step in listing(lock):
-        code[step] = f"{code[step]}; {line}" if step in code else line
-    assert [one["lines"] for one in shown] == [lines for lines, _ in stops(lock)]
-    for (_, step), one in zip(stops(lock), shown):
-        wanted = [change for change in told(lock) if change["step"] == step]
-        assert [(change["how"], change["verdict"], change["moves"]) for change in one["changes"]] \
-            == [(f"If {change['how']}", f"{capital(change['verdict'])}.", change["moves"])
-                for change in wanted]
-        assert one["nothing"] == ([] if wanted else [NOTHING])
-        for change in one["changes"]:
-            steps = [re.findall(r"\w+", move)[1] for move in change["moves"]]
-            assert change["code"] == [code.get(name, "") for name in steps]
-            check_harm(lock, change)
-            assert change["changed"] == [at for at, name in enumerate(steps, 1) if name == step]
-    assert sum(len(one["changes"]) for one in shown) == len(list(told(lock)))
-
-
-def test_two_by_hand(page):
-    """Two changes, worked out by hand. Without the write both threads draw ticket 0, and find it in
-    now_serving. A writer that ignores readers enters by a call and a section beside a reader."""
-    one = page.open("#lesson=ticket-hand-over&move=2").press("y").js("stop")
-    assert (one["lines"], one["place"]) == ([2], "Line 2 of 7")
-    assert one["changes"][0] == {
-        "how": "If its write is left out",
-        "verdict": "5 moves, and thread 1 enters while the queue is 0,1.",
-        "moves": ["0 acquire", "0 TakeTicket", "1 acquire", "1 TakeTicket", "1 AwaitTurn(0)"],
-        "code": ["", "ticket := add(next_ticket, 1)", "", "ticket := add(next_ticket, 1)",
-                 "await now_serving = ticket"],
-        "changed": [2, 4], "harmed": [5], "said": [], "plays": [True]}
-    assert page.js("texts", "#why-changes section:first-of-type li mark") == [
-        "changed", "changed", "✕ goes wrong here"]
-    one = page.open("#lesson=simple-second-writer&move=2").press("y").js("stop")
-    assert (one["lines"], one["place"]) == ([8, 9], "Lines 8 and 9 of 15")
-    assert one["changes"][1] == {
-        "how": "If it does not look at the readers",
-        "verdict": "4 moves, and thread 1 enters as a writer while inside are the readers 0.",
-        "moves": ["0 rlock", "0 TryRead", "1 wlock", "1 TryWrite"],
-        "code": ["", "await flag = 0; readers := readers + 1", "",
-                 "await readers = 0 and flag = 0; flag := 1"],
-        "changed": [4], "harmed": [4], "said": [], "plays": [True]}
-
-
-def test_long_runs_have_two_columns(page):
-    """Moves are in two columns if there are more than nine."""
-    page.open("#lesson=mcs-late-link&move=9").press("y", "Home")
-    found = []
-    for _ in stops("mcs"):
-        found += page.js("columns")
-        page.press("ArrowRight")
-    counts = [count for count, _ in found]
-    assert min(counts) <= 9 < max(counts), counts
-    assert [columns for _, columns in found] == [1 + (count > 9) for count in counts], found
-
-
-def test_why_one_is_harmless(page):
-    (one,) = page.open("#lesson=ticket-hand-over&move=8").press("y").js("stop")["changes"]
-    assert one["verdict"] == "Harmless: all 137 states were searched."
-    assert one["said"] == [HARMLESS["ticket"]]
+    for lock in LOCKS:
+        shown, code = walk(page, lock), {}
+        for line, step in listing(lock):
+            code[step] = f"{code[step]}; {line}" if step in code else line
+        assert [one["lines"] for one in shown] == [lines for lines, _ in stops(lock)]
+        for (_, step), one in zip(stops(lock), shown):
+            wanted = [change for change in told(lock) if change["step"] == step]
+            said = [(change["how"], change["verdict"], change["moves"])
+                    for change in one["changes"]]
+            assert said == [(f"If {change['how']}", f"{capital(change['verdict'])}.",
+                             change["moves"]) for change in wanted]
+            assert one["nothing"] == ([] if wanted else [NOTHING])
+            for change in one["changes"]:
+                steps = [re.findall(r"\w+", move)[1] for move in change["moves"]]
+                assert change["code"] == [code.get(name, "") for name in steps]
+                check_harm(lock, change)
+                assert change["changed"] == [at for at, name in enumerate(steps, 1) if name == step]
+        assert sum(len(one["changes"]) for one in shown) == len(list(told(lock)))
 
 
 def test_keys(page):
@@ -149,17 +107,6 @@ def test_by_hand(page):
         "lines": [1], "place": "Line 1 of 14", "changes": [], "nothing": [NOTHING]}
 
 
-@cases("way", {
-    "key": lambda page: page.press("ArrowLeft"), "button": lambda page: page.click("#why-back")})
-def test_each_line_begins_at_its_top(page, way):
-    """Each line begins at its top, however far the reader has scrolled at another line."""
-    page.resize(390, 500).open(f"{LATE_LINK}9").press("y", "ArrowRight")
-    assert page.js("scrolledToEnd") > 0
-    way(page)
-    assert page.js("stop")["lines"] == [12] and page.js("scrolled") == 0
-    assert page.js("scrolledToEnd") > 0, "these changes have less room than they need, too"
-
-
 def test_a_run_is_played(page):
     """The unchanged lock plays the turns of the run unharmed, and Y leads back to the change."""
     page.open(f"{LATE_LINK}9").press("g", "y")
@@ -181,20 +128,6 @@ def test_a_run_is_played(page):
     page.press("Escape", "u").shown(lesson="mcs-late-link", position="9 of 16")
 
 
-@cases("look", {
-    "another line": ["y", "ArrowRight"], "the last line": ["y", "End"],
-    "another lock": ["o", "[data-why=ticket]"]})
-def test_back_to_the_change_after_a_look_elsewhere(page, look):
-    """Y leads to the change that was played, whatever was looked at since."""
-    page.open(f"{LATE_LINK}9").press("y").click("[data-play='2']")
-    for act in look:
-        (page.click if act.startswith("[") else page.press)(act)
-    assert page.js("stop")["lines"] != [12]
-    page.press("Escape").becomes(0, "count", "dialog[open]").press("y")
-    assert page.js("stop")["lines"] == [12] and page.js("isAtPlayed", 2)
-    assert page.text("#why-title") == "Why each line is there: MCS queue lock"
-
-
 def test_a_run_that_the_lock_refuses(page):
     """A compare-and-swap that always succeeds lets a thread call again. The unchanged lock plays
     the run as far as that call, which it refuses."""
@@ -208,33 +141,26 @@ def test_a_run_that_the_lock_refuses(page):
     assert page.press("n").js("count", "#why-changes section:nth-of-type(3).stepped") == 1
 
 
-def test_a_split_step(page):
-    """The unchanged lock makes a split step in the turn of its first half."""
-    page.open("#lesson=ticket-hand-over&move=2").press("y").click("[data-play='1']").press("End")
-    shown = page.shown(position="5 of 5")
-    assert shown["text"].splitlines()[-5:] == ["0 acquire", "0 add", "1 acquire", "1 add", "1 read"]
-    changed = "Changed here: TakeTicket, if it is a load and then a store."
-    said = {2: changed, 4: changed, 5: "The changed lock makes “1 AwaitTurn(0)” here. The changed "
-            "lock has gone wrong: 7 moves, and thread 1 enters while the queue is 0,1."}
-    for move in range(1, 6):
-        assert page.go(move).text("#now .own-say") == said.get(move, ""), move
-
-
-@pytest.mark.parametrize("lock", LOCKS)
-def test_every_run_is_played(page, lock):
+def test_every_run_is_played(page):
     """The unchanged lock plays each run as far as it can, and the page marks the changed step."""
     page.open()
-    for at, (_, step) in enumerate(stops(lock)):
-        changes = [change for change in told(lock) if change["step"] == step]
-        for number, change in enumerate(changes):
-            if not any(move[2:].startswith(step) for move in change["moves"]):
-                continue
-            page.click(f"[data-why={lock}]").press(*["ArrowRight"] * at)
-            shown = page.click(f"[data-play='{number}']").shown()
-            said = f"Changed here: {step}, if {change['how']}."
-            assert 0 < shown["moves"] <= len(change["moves"]), (change, shown)
-            assert said in shown["text"] and not shown["verdict"].startswith("fault"), shown
-            page.press("o")
+    for lock, step, at, number, change in played_runs():
+        page.click(f"[data-why={lock}]").press(*["ArrowRight"] * at)
+        shown = page.click(f"[data-play='{number}']").shown()
+        said = f"Changed here: {step}, if {change['how']}."
+        assert 0 < shown["moves"] <= len(change["moves"]), (change, shown)
+        assert said in shown["text"] and not shown["verdict"].startswith("fault"), shown
+        page.press("o")
+
+
+def played_runs():
+    """(lock, step, its place, number, change) of each change whose run has the changed step."""
+    for lock in LOCKS:
+        for at, (_, step) in enumerate(stops(lock)):
+            changes = [change for change in told(lock) if change["step"] == step]
+            for number, change in enumerate(changes):
+                if any(move[2:].startswith(step) for move in change["moves"]):
+                    yield lock, step, at, number, change
 
 
 def test_without_the_machine(page):
@@ -243,7 +169,7 @@ def test_without_the_machine(page):
     assert [one["plays"] for one in page.js("changes")] == [[False], [False], [False], []]
 
 
-@pytest.mark.parametrize("width, height", [(1024, 768), (1366, 768), (1920, 1080)])
+@pytest.mark.parametrize("width, height", [(1024, 768), (1920, 1080)])
 def test_in_a_hall(page, width, height):
     """In hall mode letters are large, a clicker goes on, and a played run shows memory and move."""
     page.resize(width, height).open(f"{LATE_LINK}9&hall").press("y")
@@ -253,6 +179,18 @@ def test_in_a_hall(page, width, height):
     page.press("PageDown").shown(position="1 of 7")
     assert not page.press("y", "Escape").js("isOpen", "why")
     assert page.js("parts") == ["memory", "now"], "the hall goes on"
+
+
+@pytest.mark.parametrize("width, height", SIZES)
+def test_nothing_is_cut(page, width, height):
+    """The dialog cuts nothing at any line, at its top or scrolled down."""
+    page.resize(width, height).open()
+    for lock in ["mcs", "rw-fifo"]:
+        page.click(f"[data-why={lock}]")
+        for _ in stops(lock):
+            assert page.js("wrong") == page.js("wrongBelow") == []
+            page.press("ArrowRight")
+        page.press("Escape", "o")
 
 
 def test_in_german(page):
@@ -266,56 +204,3 @@ def test_in_german(page):
         "✕ Von hier an ist immer ein Thread in einem Aufruf oder drinnen, was immer folgt."]
     page.click("[data-play='1']").go(6)
     assert page.text("#now .own-say").startswith("Hier geändert: CasTail, wenn er ein Lesen")
-
-
-HOW_IN_GERMAN = {
-    "its write is left out": "sein Schreiben entfällt",
-    "the flag is not written": "das flag nicht geschrieben wird",
-    "the counts are not written": "die Zähler nicht geschrieben werden",
-    "it finds 0, whatever is there": "er 0 findet, was auch immer da steht",
-    "it finds the thread's own, whatever is there":
-        "er das Eigene des Threads findet, was auch immer da steht",
-    "it does not look at the flag": "er nicht auf das flag sieht",
-    "it does not look at the readers": "er nicht auf die Leser sieht",
-    "it writes nothing before it enters": "er vor dem Eintritt nichts schreibt",
-    "it is a load and then a store": "er ein Lesen und danach ein Schreiben ist",
-    "the step after it comes first": "der Schritt nach ihm zuerst kommt",
-    "the release returns in its place": "das release an seiner Stelle endet",
-}
-
-
-@pytest.mark.parametrize("lock", LOCKS)
-def test_german_sentences(page, lock):
-    """No verdict is in English, and each change is named by what it is."""
-    english = {change["verdict"] for change in told(lock)}
-    page.open(f"{LATE_LINK}0&lang=de").press("o").click(f"[data-why={lock}]")
-    for _, step in stops(lock):
-        said = page.text("#why-changes")
-        assert not [one for one in english if one in said], said
-        assert [one["how"] for one in page.js("changes")] == [
-            f"Wenn {HOW_IN_GERMAN[change['how']]}" for change in told(lock)
-            if change["step"] == step]
-        page.press("ArrowRight")
-
-
-@pytest.mark.parametrize("width, height", SIZES)
-@pytest.mark.parametrize("language", ["en", "de"])
-def test_nothing_is_cut(page, width, height, language):
-    """The dialog cuts nothing at any line, at its top or scrolled down."""
-    page.resize(width, height)
-    for lock in LOCKS:
-        page.open(f"#lang={language}").click(f"[data-why={lock}]")
-        for lines, _ in stops(lock):
-            assert page.js("wrong") == [], (lock, lines)
-            assert page.js("wrongBelow") == [], (lock, lines)
-            page.press("ArrowRight")
-
-
-@pytest.mark.parametrize("width, height, look", [
-    *((*size, "") for size in SIZES), *((*size, "&hall") for size in [*SIZES[1:], (1920, 1080)])])
-def test_no_step_is_cut(page, width, height, look):
-    """At each move of the longest run the move is in view, and so is what is said of it."""
-    page.resize(width, height).open(f"#lesson=mcs-late-link&move=2{look}").press("y")
-    for _ in range(22):
-        assert page.press("n").js("wrong") == [] and page.js("isStepSeen")
-    assert page.js("count", "#why [aria-current=step]:last-child") == 1

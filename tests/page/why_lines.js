@@ -19,24 +19,10 @@ const changes = () => all('#why-changes section').map((one) => ({
   plays: all('[data-play]', one).map((button) => !button.disabled),
 }));
 
-// The number of moves of each run, and of the columns in which they are.
-const columns = () => all('#why-changes ol').map((list) => [list.children.length,
-  new Set([...list.children].map((one) => Math.round(rect(one).left))).size]);
-
 const stop = () => ({
   lines: numbers('#why-code .here'), place: text('#why-place'), changes: changes(),
   nothing: texts('#why-changes > .verdict'),
 });
-
-// Whether the shown move, and what is said of it, are in view below the head of the dialog.
-function isStepSeen() {
-  const box = rect(byId('why'));
-  const [move, said] = ['[aria-current=step]', '.stepped .why-step']
-    .map((one) => rect(`#why-changes ${one}`));
-  const top = rect('.why-way').bottom;
-  return inside(move, box) && inside(said, box) && said.top >= top - 1
-    && move.top >= said.bottom - 1;
-}
 
 // The elements that do not fit on the screen, or into their box.
 function wrong() {
@@ -57,13 +43,6 @@ function wrongBelow() {
   scrollDown('#why');
   const isSeen = rect('#why-changes > .hint').bottom <= rect('#why').bottom;
   return [...wrong(), ...(isSeen ? [] : ['the end is not reached'])];
-}
-
-// How far the dialog is scrolled now, and after scrolling to its end.
-const scrolled = () => byId('why').scrollTop;
-function scrolledToEnd() {
-  scrollDown('#why');
-  return scrolled();
 }
 
 // The smallest letters of the dialog, as a share of the screen's height.

@@ -25,14 +25,6 @@ const at = () => [step().number, step().at];
 const outlines = () => all('#why-changes li').map((one) => getComputedStyle(one).outlineStyle)
   .filter((style) => style !== 'none');
 
-// Goes to a move by the buttons of a run, whose first click may leave another run.
-function stepTo(number, count) {
-  const button = (by) => pick(`[data-of="${number}"][data-step="${by}"]`);
-  button(1).click();
-  while (at()[1] > count) button(-1).click();
-  while (at()[1] < count) button(1).click();
-}
-
 // What is shown after each move of each run.
 const steps = () => all('#why-changes ol').map((list) => [...list.children].map((move) => {
   move.click();

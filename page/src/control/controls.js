@@ -11,6 +11,7 @@ import { drawPaper } from '../view/draw_page.js';
 import { untellAll } from '../view/notice.js';
 import { listenForTerms } from '../view/terms.js';
 import { listenForKeys } from './keys.js';
+import { listenForPicks } from './picking.js';
 import { listenForSwipes } from './swipes.js';
 
 // The tools that have no room otherwise.
@@ -186,6 +187,7 @@ export function listen(page) {
   for (const begins of ['keydown', 'pointerdown']) addEventListener(begins, untellAll, true);
   listenForTerms();
   listenForSwipes(page);
+  listenForPicks(page);
   files(page);
   listenForKeys(page);
   show(byId('new-lock'), lockOptions());

@@ -27,7 +27,9 @@ import { closeLessons, FIRST_LESSON, lessonsDialog } from './lessons_dialog.js';
 import { Modes } from './modes.js';
 import { Playing } from './playing.js';
 import { Presenter } from './presenter.js';
+import { Picking } from './picking.js';
 import { prologueDialog } from './prologue_dialog.js';
+import { QuestionForm } from './question_form.js';
 import { Stepping } from './stepping.js';
 import { switchTheme } from './theme.js';
 import { sheetsDialog, viewDialog } from './view_dialogs.js';
@@ -53,6 +55,8 @@ export class Page {
     this.modes = new Modes(this);
     this.playing = new Playing(this);
     this.stepping = new Stepping(this);
+    this.picking = new Picking(this);
+    this.questionForm = new QuestionForm(this);
     this.presenter = new Presenter(this);
     this.lecture = new Lecture(this, plansWith(plans, lessons));
     this.showPrologue = prologueDialog(() => this.openLesson(FIRST_LESSON));
@@ -205,6 +209,7 @@ export class Page {
     if (this.reminded) untell(texts.questionWaits);
     this.answered = false;
     this.reminded = false;
+    this.picking.clear();
     noteDone(this.session);
     this.fit();
   }
@@ -220,6 +225,8 @@ export class Page {
     this.comparing.settle();
     this.layout = drawPage(this, reveals) ?? this.layout;
     drawLecture(this.lecture);
+    this.picking.draw();
+    this.questionForm.draw();
     this.presenter.draw();
     this.address.writeSoon();
   }

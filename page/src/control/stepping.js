@@ -35,6 +35,7 @@ export class Stepping {
 
   step(by) {
     const { page } = this;
+    if (by > 0 && this.waitsForPick()) return;
     if (page.quiz.on && by > 0 && this.askNext()) return;
     if (by === 1 && this.stopsAtQuestion()) return;
     const { session } = page;
@@ -53,6 +54,15 @@ export class Stepping {
     page.reminded = true;
     tell(texts.questionWaits);
     page.draw();
+    return true;
+  }
+
+  // In the quiz a step waits for the click that a question asks for.
+  waitsForPick() {
+    const { quiz, session } = this.page;
+    if (!quiz.isDue(session.move)) return false;
+    tell(texts.picks.due);
+    focusIn(document, '.thing');
     return true;
   }
 
@@ -138,6 +148,7 @@ export class Stepping {
 
   toggleAnswer() {
     const { page } = this;
+    if (this.waitsForPick()) return;
     page.answered = !page.answered;
     page.lecture.answer(page.answered);
     page.fit();

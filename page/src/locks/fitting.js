@@ -8,7 +8,8 @@ const LONGEST = 200;
 const FONTS = {
   lane: ['660', '16px', '--letters'],
   name: ['660', '15px', '--letters'],
-  small: ['600', '13px', '--letters'],
+  small: ['600', '13.5px', '--letters'],
+  note: ['400', '13.5px', '--letters'],
   word: ['560', '14.5px', '--mono'],
   wants: ['400', '14.5px', '--letters'],
 };

@@ -35,7 +35,7 @@ const NAMES_ANOTHER = ['LinkTo', 'Grant'];
 
 const OWN_VARIABLE = { SetLocked: 'pred', LinkTo: 'pred', Grant: 'succ' };
 const RECORD = {
-  narrowest: 123, widest: 156, height: 108, gap: 52, wideGap: 74, top: 86, row: 170, last: 172,
+  narrowest: 123, widest: 156, height: 108, wideGap: 74, top: 86, row: 170, last: 172,
   left: 19, edge: 14,
 };
 // Beside another run's memory in a hall.
@@ -55,8 +55,8 @@ const isLow = ({ compares }) => compares && looks.hall;
 const topOf = (view) => (isLow(view) ? LOW.top : RECORD.top);
 
 // Between records there is room for "no link".
-const gapNow = () => (looks.hall
-  ? Math.min(RECORD.wideGap, 26 + widthOf(T.noLink, 'small')) : RECORD.gap);
+const gapNow = () => (
+  Math.min(RECORD.wideGap, (looks.hall ? 26 : 8) + widthOf(T.noLink, 'small')));
 
 function valueText(word, value, { run, names }) {
   if (run.owned.at(word)?.field === 'locked') return String(value);
@@ -82,12 +82,12 @@ function wordName(word, { run, names }) {
 const asks = (view) => isCovered(view, 'standing');
 
 // Who is drawn: the queue in its order, then who is in a call, then who rests, if there is
-// room.
+// room. Beside another run's memory a few have the order of their numbers in both.
 /** @param {View} view @param {State} state */
 function order(view, state, most) {
   const { run, move } = view;
   const all = Array.from({ length: run.threads }, (_, thread) => thread);
-  if (asks(view)) return { shown: all, hidden: [] };
+  if (asks(view) || (view.compares && all.length <= BESIDE)) return { shown: all, hidden: [] };
   const others = all.filter((thread) => !state.queue.includes(thread));
   const calling = others.filter((thread) => standingOf(run, move, thread) !== 'rest');
   const resting = others.filter((thread) => standingOf(run, move, thread) === 'rest');
@@ -107,12 +107,14 @@ const valueWidth = (names) => Math.max(0,
 const headWidth = (name) => HEAD.left + widthOf(name, 'name') + HEAD.between
   + Math.max(...STANDINGS.map(standingWidth)) + HEAD.right;
 
-// A record as wide as the names need in its head and in its `next`.
-function widestRecord(names) {
+// A record as wide as the names need in its head and in its `next`, and not less than `least`.
+function recordFor(names, least) {
   const heads = [...names.given.values()].map(headWidth);
   const wanted = Math.max(...heads, valueWidth(names) + FIELD.left + FIELD.right);
-  return Math.min(WIDEST, Math.max(RECORD.widest, wanted));
+  return Math.min(WIDEST, Math.max(least, wanted));
 }
+
+const widestRecord = (names) => recordFor(names, RECORD.widest);
 
 /** @typedef {ReturnType<typeof layOut>} Places */
 
@@ -181,11 +183,13 @@ function record(view, state, thread, place, width) {
   const label = texts.standing[standing];
   const name = headName(view.names, thread, standing, width);
   return html`<g class="record ${standing} ${enteredNow(view, thread)}"
-    ${movingMark(view, thread)} data-record="${thread}"
-    transform="translate(${place.x},${place.y})">
+    ${movingMark(view, thread)} data-record="${thread}" data-part="record-${thread}"
+    data-at="${place.x} ${place.y}" transform="translate(${place.x},${place.y})">
     <title>${view.names.of(thread)}</title>
     <rect class="frame" width="${width}" height="${RECORD.height}" rx="10"/>
-    <path class="head" d="M0 10a10 10 0 0 1 10 -10h${width - 20}a10 10 0 0 1 10 10v22h-${width}z"/>
+    <path class="head" ${standing === 'holds' && html`data-part="holds"
+      data-of="record-${thread}" data-at="${place.x} ${place.y}"`}
+      d="M0 10a10 10 0 0 1 10 -10h${width - 20}a10 10 0 0 1 10 10v22h-${width}z"/>
     ${standing === 'queue' && html`<rect class="plate" x="6" y="4" width="${width - 12}"
       height="23" rx="6"/>`}
     <text class="name" x="${HEAD.left}" y="21">${name}</text>
@@ -196,20 +200,23 @@ function record(view, state, thread, place, width) {
 }
 
 // From a record's next to the record that follows it in the queue.
-function link(from, to, width, linked, moved) {
+function link(from, to, width, linked, moved, before) {
   const y = from.y + 54;
+  const part = html`data-part="next-${before}"`;
   if (from.row !== to.row) {
     const low = from.y + RECORD.row - 18;
     const path = `M${from.x + width - 12} ${y}h26V${low}H${to.x + 30}V${to.y - 4}`;
     return html`<path class="link ${linked ? moved : 'missing'}" ${
       linked && html`pathLength="1"`} d="${path}"/>`;
   }
+  // To the right, or to a record before it.
+  const [begin, out, end] = to.x > from.x ? [from.x + width - 12, from.x + width + 3, to.x - 4]
+    : [from.x + 12, from.x - 3, to.x + width + 4];
   if (linked) {
-    return html`<path class="link ${moved}" pathLength="1" d="M${from.x + width - 12} ${y}H${
-      to.x - 4}"/>`;
+    return html`<path class="link ${moved}" ${part} pathLength="1" d="M${begin} ${y}H${end}"/>`;
   }
-  const middle = (from.x + width + to.x) / 2 - 2;
-  return html`<path class="link missing" d="M${from.x + width + 3} ${y}H${to.x - 4}"/>
+  const middle = (out + end) / 2;
+  return html`<path class="link missing" d="M${out} ${y}H${end}"/>
     <text class="missing-text" x="${middle}" y="${y - 9}"
       text-anchor="middle">${T.noLink}</text>`;
 }
@@ -228,7 +235,7 @@ function links(view, state, layout) {
     const before = state.queue[i];
     const [from, to] = [before, after].map((thread) => layout.places.get(thread));
     const moved = redirected(view, view.run.begun.nextWord(before));
-    return from !== to && link(from, to, layout.width, isLinked(view, after), moved);
+    return from !== to && link(from, to, layout.width, isLinked(view, after), moved, before);
   });
 }
 
@@ -242,9 +249,10 @@ function foldedRecords(view, { folded, place }, width) {
   texts.folded(folded.length)}</text></g>`;
 }
 
-// Straight down to a record below the box, else along and down.
+// Straight down to a record below the box, else along and down. Both have the same parts, so that
+// one can become the other.
 const tailPath = (right, x, y) => (x < right + 4
-  ? `M${x} 52V${y}` : `M${right} 38H${x - 10}q10 0 10 10V${y}`);
+  ? `M${x} 52H${x}q0 0 0 0V${y}` : `M${right} 38H${x - 10}q10 0 10 10V${y}`);
 
 /** @param {View} view @param {State} state @param {Places} layout */
 function tail(view, state, layout) {
@@ -258,7 +266,7 @@ function tail(view, state, layout) {
   return html`<text class="mono word-name strong" x="24" y="43">tail</text>
     ${wordBox(view, owned.tail, [left, 24, wide], value)}
     ${path && !isCovered(view, 'memory') && html`<path
-      class="link ${redirected(view, owned.tail)}" pathLength="1" d="${path}"/>`}`;
+      class="link ${redirected(view, owned.tail)}" data-part="tail" pathLength="1" d="${path}"/>`}`;
 }
 
 /** @param {View} view @param {State} state */
@@ -291,7 +299,7 @@ function draw(view, state) {
 function leastWidth(view) {
   const beside = Math.min(BESIDE, view.run.threads);
   const { names, run } = view;
-  const record = names.given.size ? widestRecord(names)
+  const record = names.given.size ? recordFor(names, RECORD.narrowest)
     : Math.max(RECORD.narrowest, headWidth(names.short(run.threads - 1)));
   return 2 * RECORD.left + beside * record + (beside - 1) * gapNow();
 }

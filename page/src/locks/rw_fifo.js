@@ -50,7 +50,7 @@ function counts(view, state) {
 // or below it.
 const WORDS = 358;
 const ROOM = 250;
-const CALLERS = 280;
+const CALLERS = 266;
 const GAP = 24;
 
 /** @param {View} view */

@@ -36,12 +36,17 @@ export const movingMark = (view, thread) => thread === movingThread(view) && 'da
 export const enteredNow = ({ run: { records }, move, refused }, thread) => move > 0 && !refused
   && records.thread(move) === thread && records.outcome(move) === OUTCOME.entered && 'entered';
 
+// One thread alone holds so.
+const HOLDS = ['holds', 'writes'];
+
 // A thread as a disc with its mark.
 export function token(x, y, view, thread, radius = 13) {
   const standing = standingIn(view, thread);
-  return html`<g class="token ${standing} ${enteredNow(view, thread)}"
-      ${movingMark(view, thread)}><title>${view.names.of(thread)}</title>
-    <circle cx="${x}" cy="${y}" r="${radius}"/>
+  const at = html`data-at="${x} ${y}"`;
+  return html`<g class="token ${standing} ${enteredNow(view, thread)}" data-part="thread-${thread}"
+      ${at} ${movingMark(view, thread)}><title>${view.names.of(thread)}</title>
+    <circle cx="${x}" cy="${y}" r="${radius}" ${
+  HOLDS.includes(standing) && html`data-part="holds" data-of="thread-${thread}" ${at}`}/>
     <text x="${x}" y="${y + 4.5}" text-anchor="middle">${view.names.mark(thread)}</text></g>`;
 }
 

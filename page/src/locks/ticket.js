@@ -33,7 +33,14 @@ const T = translated('ticket', {
 });
 const { captions } = T;
 
+// A ticket's box and its number as parts that move: they come from its word with the move that
+// takes it.
+const ticketPart = (view, thread, at, from) => html`data-part="ticket-${thread}" data-at="${at}" ${
+  thread === movingThread(view) && html`data-from="${from}"`}`;
+
 const CELL = 74;
+// Where the word is from which a ticket comes.
+const FROM = '187 37';
 const CELL_ROW = 92;
 
 const wordName = (word) => wordNames(NAME)[word];
@@ -67,29 +74,29 @@ function tickets(view, state, most) {
 }
 
 // A thread's own variable, which is not a word of memory.
-const ownBox = (x, y, width, text) => html`<rect class="own" x="${x}" y="${y}" width="${width}"
-    height="28" rx="8"/>
-  <text class="mono value" x="${x + width / 2}" y="${y + 19}" text-anchor="middle">${text}</text>`;
+const ownBox = (x, y, width, text, part = html``) => html`<rect class="own" ${part} x="${x}"
+    y="${y}" width="${width}" height="28" rx="8"/>
+  <text class="mono value" ${part} x="${x + width / 2}" y="${y + 19}"
+    text-anchor="middle">${text}</text>`;
 
 const OWN_ROW = 34;
 const OWN_COLUMN = 176;
 
-// In rows of one or of two.
+// In rows of one or of two. `from` is where the word is from which a ticket comes.
 /** @param {View} view */
-function ownVariables(view, all, left, top, inRow) {
+function ownVariables(view, all, left, top, inRow, from) {
   return all.map(({ one, folded }, i) => {
     const x = left + OWN_COLUMN * (i % inRow);
     const y = top + OWN_ROW * Math.floor(i / inRow);
     if (folded) return foldedToken(x + 13, y + 14, view, folded.map(({ thread }) => thread));
+    const part = ticketPart(view, one.thread, `${x + 36} ${y}`, from);
     return html`${token(x + 13, y + 14, view, one.thread)}
-      ${ownBox(x + 36, y, 112, `${one.name} = ${valueIn(view, one.number)}`)}`;
+      ${ownBox(x + 36, y, 112, `${one.name} = ${valueIn(view, one.number)}`, part)}`;
   });
 }
 
-function legend(x, y) {
-  return html`${handLegend(x, y, 'outer', NEXT_TICKET)}
-    ${handLegend(x, y + 24, 'inner', NOW_SERVING)}`;
-}
+const legend = (x, y, across = 0, down = 24) => html`${handLegend(x, y, 'outer', NEXT_TICKET)}
+    ${handLegend(x + across, y + down, 'inner', NOW_SERVING)}`;
 
 // From which widths on the words are beside each other, and what the hands are beside the tickets.
 const BESIDE = 576;
@@ -116,17 +123,17 @@ function narrow(view, state) {
   }));
   const x = isSlim ? 256 : 2 * middle + 10;
   const legendBeside = view.width >= LEGEND_BESIDE;
-  const height = Math.max(legendBeside ? 258 : 292,
+  const height = Math.max(legendBeside ? 258 : isSlim ? 292 : 274,
     top + 14 + OWN_ROW * Math.ceil(all.length / inRow));
   return picture(view, height, caption(view, state).text, html`
     ${wheelOf(view, wheel, hands, tokens)}
     ${isSlim ? legend(x, 158) : legendBeside ? legend(x + 172, top + 14)
-    : legend(middle - 62, 258)}
+    : legend(middle - 128, 264, 132, 0)}
     ${words(view, state, x, beside, 40)}
     <text class="note" x="${x}" y="${isSlim ? 216 : top - 14}">${
   firstFitting([texts.wheel(view.run.bits, wheel.places), texts.bits(view.run.bits)],
-    view.width - x - 8, 'small')}</text>
-    ${ownVariables(view, drawn, isSlim ? 24 : x, top, inRow)}`);
+    view.width - x - 8, 'note')}</text>
+    ${ownVariables(view, drawn, isSlim ? 24 : x, top, inRow, `${x} 40`)}`);
 }
 
 // Wide words: the tickets that are out, one cell each, up to the next one.
@@ -138,9 +145,10 @@ function cell(view, { thread, number }, x, y) {
     ? html`<text class="note" x="${middle}" y="${y + 52}"
       text-anchor="middle">${T.next}</text>`
     : token(middle, y + 54, view, thread);
-  return html`<rect class="cell ${next && 'next'}" x="${x}" y="${y}" width="${CELL - 8}"
-      height="34" rx="6"/>
-    <text class="mono value" x="${middle}" y="${y + 22}"
+  const part = !next && ticketPart(view, thread, `${x} ${y}`, FROM);
+  return html`<rect class="cell ${next && 'next'}" ${part} x="${x}" y="${y}"
+      width="${CELL - 8}" height="34" rx="6"/>
+    <text class="mono value" ${part} x="${middle}" y="${y + 22}"
       text-anchor="middle">${valueIn(view, number)}</text>${below}`;
 }
 

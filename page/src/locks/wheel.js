@@ -18,9 +18,10 @@ function spoke(wheel, place, radius) {
 }
 
 function hand(wheel, value, style) {
-  const from = spoke(wheel, Number(value), style.from * wheel.radius);
   const to = spoke(wheel, Number(value), style.to * wheel.radius);
-  return html`<path class="hand ${style.name}" d="M${from.x} ${from.y}L${to.x} ${to.y}"/>`;
+  const angle = rounded(360 * Number(value) / wheel.places);
+  return html`<path class="hand ${style.name}" data-part="hand-${style.name}"
+    data-turn="${angle} ${wheel.x} ${wheel.y}" d="M${wheel.x} ${wheel.y}L${to.x} ${to.y}"/>`;
 }
 
 // `hands` is a list of {value, style}; `tokens` draws what is at a place, outside the rim.
@@ -40,12 +41,9 @@ export function wheelOf(view, wheel, hands, tokens) {
   })}`;
 }
 
-// One hand is thick, from the middle, with a full tip; the other thin, near the rim, with an open
-// tip.
-export const HANDS = {
-  inner: { name: 'inner', from: 0, to: 0.5 },
-  outer: { name: 'outer', from: 0.54, to: 0.8 },
-};
+// Both hands are fixed in the middle: a short and thick one with a full tip, and a long and thin
+// one with an open tip.
+export const HANDS = { inner: { name: 'inner', to: 0.5 }, outer: { name: 'outer', to: 0.8 } };
 
 // The meaning of a hand.
 export const handLegend = (x, y, name, label) => html`<path class="hand ${name}"

@@ -2,6 +2,7 @@
 // stays when the quiz is closed or another schedule is opened.
 
 import { texts } from '../texts/texts.js';
+import { picksOf } from './picks.js';
 import { questionsOf } from './questions.js';
 import { moveText } from './report.js';
 
@@ -38,7 +39,7 @@ export class Quiz {
     this.on = !this.on;
     this.clear();
     this.meet(session);
-    if (this.on) this.sheet.since = session.place;
+    if (this.on) Object.assign(this.sheet, { since: session.place, begun: session.place });
   }
 
   clear() { this.result = null; }
@@ -50,12 +51,15 @@ export class Quiz {
     this.sheet.since = Math.max(this.sheet.since, session.place);
   }
 
-  take({ run, remarks, lesson, held }) {
+  take({ run, remarks, lesson, held, place }) {
     this.run = run;
     this.questions = questionsOf(run);
+    this.picks = [...remarks.pick.keys()].filter((move) => (
+      move <= run.count && remarks.ask.has(move) && picksOf({ remarks, move })));
     const title = remarks.title || lesson || texts.untitled;
     const key = String.fromCharCode(...held.subarray(0, 60000));
-    if (!this.sheets.has(key)) this.sheets.set(key, { title, since: 0, answers: new Map() });
+    const blank = { title, since: 0, begun: place, answers: new Map() };
+    if (!this.sheets.has(key)) this.sheets.set(key, blank);
     this.sheet = this.sheets.get(key);
   }
 
@@ -67,12 +71,33 @@ export class Quiz {
 
   isOpen(move) { return move > this.sheet.since && !this.sheet.answers.has(move); }
 
-  asks(session) { return this.on && !this.result && this.question(session) !== null; }
+  // The lesson's own question on the shown move comes first.
+  asks(session) {
+    return this.on && !this.result && !this.isDue(session.move) && this.question(session) !== null;
+  }
 
   // How far one may go: to the move before the first question that is not answered.
   limit() {
     if (!this.on) return Infinity;
-    return Math.min(...[...this.questions.keys()].filter((move) => this.isOpen(move))) - 1;
+    const generic = [...this.questions.keys()].filter((move) => this.isOpen(move));
+    const own = this.picks.filter((move) => this.isDue(move));
+    return Math.min(...generic.map((move) => move - 1), ...own);
+  }
+
+  // Whether a question of the lesson that a click answers waits at a move, or was not answered.
+  isDue(move) {
+    return this.on && move > this.sheet.begun && this.picks.includes(move)
+      && !this.sheet.answers.has(`pick ${move}`);
+  }
+
+  // A click that answers the lesson's own question; whether it counts.
+  picked({ run, move }, given, right) {
+    if (!this.isDue(move)) return false;
+    const said = moveText(run, move);
+    this.sheet.answers.set(`pick ${move}`, {
+      kind: 'pick', move, truth: right.join(', '), given, right: right.includes(given), said,
+    });
+    return true;
   }
 
   // Whether what comes is hidden.
@@ -114,8 +139,8 @@ export class Quiz {
   }
 }
 
-// An answer in one line, as it is shown and saved.
-export const answerText = ({ move, said, kind, given, truth, right }) => (
+// An answer in one line, as it is saved.
+const answerText = ({ move, said, kind, given, truth, right }) => (
   `${move} ${said} ${kind}: ${given}${right ? '' : ` (${truth})`}`);
 
 const compact = (text) => text.toLowerCase().replace(/\s+/g, '');

@@ -1,7 +1,7 @@
 // What a schedule's comments say to this page: `#! title ..`, `#! learn ..`, `#! name 0 ..`,
-// `#! begin 18`, `#! say 3 ..`, `#! ask 15 ..`, `#! answer 15 ..`. To the reader of schedules they
-// are skipped lines like all that begin with `#`. Several lines of the same kind and number are one
-// text.
+// `#! begin 18`, `#! say 3 ..`, `#! ask 15 ..`, `#! answer 15 ..`, `#! pick 15 thread 1`. To the
+// reader of schedules they are skipped lines like all that begin with `#`. Several lines of a kind
+// and number are one text, but each `pick` is a right thing of its own.
 
 import { lettersOf } from '../lib/bytes.js';
 import { translatedText } from '../texts/language.js';
@@ -11,7 +11,7 @@ import { translatedText } from '../texts/language.js';
 const HASH = '#'.charCodeAt(0);
 const WHOLE = /^#! (?<what>title|learn) (?<text>.+)$/;
 const BEGIN = /^#! begin (?<move>0|[1-9][0-9]{0,4})$/;
-const REMARK = /^#! (?<what>say|ask|answer|name) (?<number>0|[1-9][0-9]{0,4}) (?<text>.+)$/;
+const REMARK = /^#! (?<what>say|ask|answer|name|pick) (?<number>0|[1-9][0-9]{0,4}) (?<text>.+)$/;
 // The parts that a question hides until its answer; by default `memory`.
 const PARTS = ['sentence', 'facts', 'memory', 'values', 'standing'];
 const HIDES = /^hide (?<parts>[a-z]+(?: [a-z]+)*) : (?<asked>.+)$/;
@@ -46,6 +46,7 @@ function noteAll(texts, number, text) {
 
 function note(remarks, { what, number, text }) {
   if (what === 'name') remarks.name.set(number, text);
+  else if (what === 'pick') remarks.pick.set(number, [...remarks.pick.get(number) ?? [], text]);
   else if (what !== 'ask') noteAll(remarks[what], number, text);
   else {
     const { text: asked, hidden } = questionOf(text);
@@ -55,7 +56,7 @@ function note(remarks, { what, number, text }) {
 }
 
 export function remarksOf(text) {
-  const maps = ['say', 'ask', 'answer', 'name', 'hide'].map((what) => [what, new Map()]);
+  const maps = ['say', 'ask', 'answer', 'name', 'hide', 'pick'].map((what) => [what, new Map()]);
   const remarks = { title: '', learn: '', about: '', begin: 0, ...Object.fromEntries(maps) };
   const plain = [];
   for (const line of comments(text)) {

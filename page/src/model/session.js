@@ -24,11 +24,13 @@ import { BoundRemarks } from './stale_remarks.js';
  * @property {boolean} [compares] whether another run is beside it
  * @property {{name: string, title: string} | null} [next] the lesson after this one
  * @property {boolean} [blank] whether it is for a sheet that is to be filled in
+ * @property {boolean} [key] whether it is for such a sheet, filled in
  * @property {boolean} [whole] whether nothing is hidden, as on paper
  * @property {boolean} [tight] whether the picture has less room than it needs
  * @property {number} [width] of a picture, in its own units
  * @property {number} [height]
  * @property {number} [scale] of the picture on the screen
+ * @property {{right: boolean, name: string} | null} [came] what came of a click
  * @property {boolean} [asks] whether the quiz asks for the next move
  *
  * @typedef {object} Shown

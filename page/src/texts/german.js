@@ -9,6 +9,7 @@ import { germanLocks } from './german_locks.js';
 import { germanLoops } from './german_loops.js';
 import { germanPlay } from './german_play.js';
 import { germanPrologue } from './german_prologue.js';
+import { germanQuestions } from './german_questions.js';
 import { germanTraces } from './german_traces.js';
 import { germanChanges, germanWhy } from './german_why.js';
 
@@ -318,7 +319,7 @@ export const german = {
       call: '„{word}“ aufrufen', or: ' oder ',
     },
     keys: germanKeys, lessons: germanLessons, loops: germanLoops, play: germanPlay,
-    prologue: germanPrologue, traces: germanTraces, why: germanWhy,
+    ...germanQuestions, prologue: germanPrologue, traces: germanTraces, why: germanWhy,
     faults: {
       could: 'Erwartet: {could}.', meant: 'War „{meant}“ gemeint?',
       returns: 'Die Zeile endet mit einem Wagenrücklauf (CR). Zeilen enden nur mit Zeilenvorschub.',

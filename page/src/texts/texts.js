@@ -7,6 +7,7 @@ import { hall, lessons, plans, presenter } from './english_lessons.js';
 import { loops } from './english_loops.js';
 import { play } from './english_play.js';
 import { prologue } from './english_prologue.js';
+import { questions } from './english_questions.js';
 import { traces } from './english_traces.js';
 import { why } from './english_why.js';
 import { translated } from './language.js';
@@ -268,7 +269,7 @@ const english = {
     whyQueue: 'In the queue is who has taken a place there and has not left, the oldest first.',
   },
 
-  keys, loops, play, traces,
+  ...questions, keys, loops, play, traces,
 
   noMachine: 'This browser has no 64-bit WebAssembly memory, so it cannot run the machine here. '
     + 'The lessons are shown as the machine played them; a schedule of your own needs a newer '

@@ -29,7 +29,7 @@ const COMPARED = 0.17;
 const COMPARED_LANE = { height: 26, foot: 6, most: 5, tallest: 48, few: 108 };
 // Above memory on a projector, and above another part.
 const ABOVE = { memory: 0.2, other: 0.24 };
-const LOW = { wide: { height: 800, share: 0.26 }, medium: { height: 600, share: 0.2 } };
+const LOW = { wide: { height: 801, share: 0.267 }, medium: { height: 600, share: 0.2 } };
 const LANES_LEAST = 100;
 const LANES_LOW = 82;
 
@@ -91,11 +91,14 @@ export function arrange({ mode, session, comparing: { isOn } }) {
   const zoom = zoomNow();
   const { body } = document;
   const whole = innerWidth / zoom;
-  const hasSide = mode !== 'lessons' && whole >= (looks.hall ? PHONE : TWO);
+  const height = innerHeight / zoom;
+  const isPlain = !looks.hall && !isOn;
+  // In a low window the parts share a row with the panel beside them.
+  const hasSide = mode !== 'lessons' && whole >= (looks.hall ? PHONE : TWO)
+    && !(isPlain && height < LOWEST);
   const width = whole - (hasSide ? SIDE : 0);
   const parts = partsNow(isOn, width);
-  const isPlain = mode === 'lessons' && !looks.hall && !isOn;
-  const layout = arrangementOf(width, innerHeight / zoom, parts, isPlain, session.run);
+  const layout = arrangementOf(width, height, parts, isPlain, session.run);
   if (body.style.getPropertyValue('--zoom') !== String(zoom)) {
     body.style.setProperty('--zoom', String(zoom));
   }

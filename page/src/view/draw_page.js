@@ -22,12 +22,13 @@ export function drawPage(page, reveals) {
   const sizes = measured(run);
   drawHead(session);
   const { hides, answered, reminded } = page;
+  const { came } = page.picking;
   const { first: different, columns } = page.comparing;
   const { future } = looks;
   const next = page.nextLesson;
   const compares = page.comparing.isOn;
   const wanted = {
-    answered, reminded, hidden: hides, future, different, columns, next, compares,
+    answered, reminded, came, hidden: hides, future, different, columns, next, compares,
   };
   const view = session.view(wanted);
   const state = run.hasLock && run.state(view.move);

@@ -11,6 +11,8 @@ import { drawCompared } from './compared.js';
 import { lanesPicture, numbersPicture } from './lanes.js';
 import { layOutLanes } from './layout.js';
 import { legend } from './legend.js';
+import { evenPicture } from './memory_size.js';
+import { moveParts } from './motion.js';
 import { sliderPicture } from './slider.js';
 
 /** @typedef {import('../model/run.js').Run} Run */
@@ -43,16 +45,15 @@ function drawLanes({ page, view, reveals }, size) {
   return layout;
 }
 
-const OTHERS = {
-  memory: ({ view, state }, size) => { if (state) drawMemory('memory', view, state, size); },
-  there: ({ page: { comparing } }, size) => {
-    if (!comparing.isOn) return;
-    const there = comparing.comparedView();
-    drawMemory('there', there.view, there.state, size);
-  },
-  slider: ({ view }, size) => drawSlider(view, size.width),
-};
-const PARTS = ['lanes', ...Object.keys(OTHERS)];
+// Memory, and in a comparison both at one scale.
+function drawMemories({ page: { comparing }, view, state }, { memory: size, there: other }) {
+  if (!state) return;
+  const there = comparing.isOn && comparing.comparedView();
+  drawMemory('memory', view, state, size, there && { size: other, view: there.view });
+  if (there) drawMemory('there', there.view, there.state, other, { size, view });
+}
+
+const PARTS = ['lanes', 'memory', 'there', 'slider'];
 
 const differs = (one, other) => one.width !== other.width || one.height !== other.height;
 
@@ -63,7 +64,8 @@ export function drawPictures(shown, sizes) {
   let { reveals } = shown;
   const draw = (parts, room) => {
     if (parts.includes('lanes')) layout = drawLanes({ ...shown, reveals }, room.lanes);
-    parts.forEach((part) => OTHERS[part]?.(shown, room[part]));
+    if (parts.includes('memory') || parts.includes('there')) drawMemories(shown, room);
+    if (parts.includes('slider')) drawSlider(shown.view, room.slider.width);
   };
   draw(PARTS, sizes);
   let fitted = sizes;
@@ -78,14 +80,16 @@ export function drawPictures(shown, sizes) {
     fitted = now;
   }
   if (layout && reveals) reveal(shown.page, layout);
+  if (shown.state) moveParts(shown.view, byId('memory-picture'));
   return layout;
 }
 
 // What is left free below the code, and how near its lines may be.
 const EDGE = 4;
-const NEAREST_LINES = { hall: 21, else: 19 };
-// If the sentences on a move do not fit, their letters get smaller, then less is shown beside them,
-// and at last they get more room.
+const NEAREST_LINES = { hall: 21, else: 18 };
+// In a wide window letters have one size for all moves. Elsewhere, if the sentences on a move do
+// not fit, their letters get smaller, then less is shown beside them, and at last they get more
+// room.
 const FITS = ['', '1', '1 2', '1 2 3', '1 2 3 4', '1 2 3 4 5'];
 // In a hall no letters are smaller.
 const FITS_IN_A_HALL = ['', 'hall', 'hall less'];
@@ -93,6 +97,7 @@ const FITS_IN_A_HALL = ['', 'hall', 'hall less'];
 function fitNow() {
   const box = byId('now');
   if (box.dataset.fit) box.dataset.fit = '';
+  if (document.body.dataset.layout === 'wide' && !looks.hall) return;
   for (const fit of looks.hall ? FITS_IN_A_HALL : FITS) {
     if (fit) box.dataset.fit = fit;
     if (box.scrollHeight <= box.clientHeight + 1) return;
@@ -115,11 +120,21 @@ function linesIn(box, room) {
   return heightOfFirst(box);
 }
 
+// How tall a line is, measured once for a window and as many lines.
+const lines = { of: '', line: 0 };
+
+function lineIn(box, room) {
+  const { layout } = document.body.dataset;
+  const of = [room, box.childElementCount, innerWidth, innerHeight, layout, looks.hall].join();
+  if (of !== lines.of) Object.assign(lines, { of, line: linesIn(box, room) });
+  return lines.line;
+}
+
 // As many lines of code as have room, each of them whole.
 function fitCode() {
   const box = byId('code-lines');
   const room = byId('code').clientHeight - box.offsetTop - EDGE;
-  const line = linesIn(box, room);
+  const line = lineIn(box, room);
   if (!line) return;
   const most = `${Math.floor(room / line) * line}px`;
   if (box.style.maxHeight !== most) box.style.maxHeight = most;
@@ -170,33 +185,6 @@ function laneInView(from, height, view, { lanes, laneHeight }) {
   return bottom > from + height ? bottom - height : from;
 }
 
-// The picture as large as fits; one that fits at no scale is folded or scrolled.
-const SCALES = [1.3, 1.2, 1.1, 1, 0.9, 0.8, 0.7, 0.65];
-// In a window that is very low also these.
-const LOW = [0.55, 0.5];
-const NARROWEST = 300;
-// With more threads than these the picture is folded at once, at one scale.
-const MANY_THREADS = 12;
-const SCALE_OF_MANY = 0.8;
-
-/** @param {View} view @param {State} state */
-export function pictureIn(size, lock, view, state) {
-  const isLow = document.body.dataset.layout === 'low';
-  const width = Math.max(isLow ? 0 : NARROWEST, size.width);
-  const many = view.run.threads > MANY_THREADS;
-  const isLarge = looks.hall && !view.compares;
-  const scales = [...SCALES, ...(isLow ? LOW : [])].filter((scale) => !isLarge || scale >= 1);
-  const last = many && !isLarge ? SCALE_OF_MANY : scales[scales.length - 1];
-  const room = (scale) => ({ width: width / scale, height: size.height / scale, scale });
-  for (const scale of many ? [] : scales) {
-    const given = { ...view, ...room(scale) };
-    if (scale > last && given.width < lock.leastWidth(given, state)) continue;
-    const picture = lock.draw(given, state);
-    if (picture.height <= size.height + 1) return picture;
-  }
-  return lock.draw({ ...view, ...room(last), tight: true }, state);
-}
-
 // So many words are read out; a lock of many threads has more.
 const MOST_READ = 33;
 
@@ -207,8 +195,8 @@ const wordsRead = (view, state) => Array.from(
     lockOf(view.run).valueText(word, state.word(word), view))).join(', ');
 
 /** @param {View} view @param {State} state */
-function drawMemory(part, view, state, size) {
-  const picture = pictureIn(size, lockOf(view.run), view, state);
+function drawMemory(part, view, state, size, beside) {
+  const picture = evenPicture(size, lockOf(view.run), view, state, beside);
   show(byId(`${part}-picture`), picture);
   const svg = byId(`${part}-picture`).firstElementChild;
   svg.setAttribute('aria-label', `${picture.label} ${wordsRead(view, state)}`);

@@ -69,7 +69,7 @@ function quizView({ quiz, session }, view) {
   return {
     score: quiz.on && scoreView(quiz, session), form: question && quizForm(view, question),
     came: html`${quiz.result && resultView(view, quiz.result, outcome)}${
-      atEnd && endView(quiz, view.loop)}`,
+      atEnd && endView(view, quiz)}`,
   };
 }
 

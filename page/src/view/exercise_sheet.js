@@ -59,8 +59,9 @@ export function memories(view, plan) {
   });
 }
 
+// The memories beside the code.
 /** @param {View} view */
-function figure(view, lines, plan) {
+export function sheetFigure(view, lines, plan) {
   const start = { ...view, move: 0, marked: 0, whole: true };
   return html`<div class="figure blanks">${memories(view, plan)}
     <div class="code"><h3>${T.code}</h3>${codeView(start, view.run.state(0), lines)}</div></div>`;
@@ -71,6 +72,6 @@ export function exercise(view, lines, plan, strips) {
   const task = lockOf(view.run).signs.includes('fails') ? `${T.task} ${T.taskFails}` : T.task;
   return html`<p class="name-line"><span>${T.name}</span><span>${T.date}</span></p>
     <p class="task">${task}</p>${strips}
-    <div class="legend"><span>${blankLegend(view.run)}</span></div>${figure(view, lines, plan)}
+    <div class="legend"><span>${blankLegend(view.run)}</span></div>${sheetFigure(view, lines, plan)}
     <div class="answers">${table(view, plan)}${questions(view, plan)}</div>`;
 }

@@ -296,8 +296,9 @@ function hereColumn(layout, y, height) {
     height="${height}" rx="7"/>`;
 }
 
-// A line before the column of the first move that differs from the compared run. The lanes of two
-// runs may be too low for its sign above their words, and their columns too narrow.
+// A line before the column of the first move that differs from the compared run, below what the
+// lanes say. The lanes of two runs may be too low for its sign above their words, and their columns
+// too narrow.
 /** @param {View} view @param {Layout} layout */
 function differentColumn(view, layout) {
   const { different } = view;
@@ -319,8 +320,8 @@ export function lanesPicture(view, layout, top, bottom) {
   const role = layout.chosen === undefined ? 'img' : 'group';
   return html`<svg ${sized(layout.width, layout.height)} role="${role}" aria-label="${texts.time}">
     ${hereColumn(layout, -20, layout.height + 20)}
-    ${indexes.map((index) => lane(view, layout, index))}${arrows(view, layout)}
-    ${differentColumn(view, layout)}${loopColumn(view, layout)}</svg>`;
+    ${differentColumn(view, layout)}${indexes.map((index) => lane(view, layout, index))}
+    ${arrows(view, layout)}${loopColumn(view, layout)}</svg>`;
 }
 
 // The moves' numbers, above the lanes. In narrow columns only some are written.

@@ -12,6 +12,7 @@ import { sentence, writtenWords } from '../locks/sentences.js';
 import { movingThread, standingIn, useOf } from '../locks/shapes.js';
 import { casFails, outcomeText } from './lanes.js';
 import { loopSaid, loopView } from './loop_view.js';
+import { pickView } from './picks_view.js';
 import { recordedRows } from './recorded_view.js';
 import { withTerms } from './terms.js';
 
@@ -84,7 +85,7 @@ export function questionView(view) {
   const answer = view.remarks.answer.get(view.move);
   if (!question || view.refused) return null;
   return html`<div class="question ${view.reminded && 'waits'}">
-    <p><b>${texts.question}</b> ${question}</p>
+    <p><b>${texts.question}</b> ${question}</p>${pickView(view)}
     ${answer && html`<details ${view.answered && 'open'}>
       <summary data-answer="question">${
   view.answered ? texts.answer : texts.showAnswer}<kbd>A</kbd></summary>
@@ -92,9 +93,15 @@ export function questionView(view) {
 }
 
 /** @param {View} view @param {State} state */
-function factList(view, state, rows, hidden) {
-  return html`<dl class="facts" ${hidden}>${rows}${whoRows(view, state)}</dl>`;
-}
+const factList = (view, state, rows) => (
+  html`<dl class="facts ${isCovered(view, 'facts') && 'asked'}">${rows}${
+    whoRows(view, state)}</dl>`);
+
+// What a question hides has its room already, if there is enough, so that nothing moves when the
+// answer is shown.
+/** @param {View} view */
+const askedFor = (view, part, drawn) => (isCovered(view, part) && drawn
+  ? html`<div class="covered" title="${texts.untilAnswer}">${drawn}</div>` : drawn);
 
 // Who holds, and who is in the queue.
 /** @param {View} view @param {State} state */
@@ -136,7 +143,7 @@ function startView(view, state) {
     ${learn && html`<p class="say own-say">${learn}</p>`}${namesView(view)}
     <p class="aside">${withTerms(texts.start)}</p>${storyView(view)}
     <p class="say hint">${isTouched ? texts.startTouch : texts.startHint}</p>
-    ${loopView(view)}${questionView(view)}${factList(view, state, '')}`;
+    ${loopView(view)}${factList(view, state, '')}${questionView(view)}`;
 }
 
 /** @param {View} view */
@@ -151,34 +158,36 @@ function wroteRow(view) {
 function saidOf(view) {
   const { remarks, move, run } = view;
   const own = remarks.say.get(move);
-  const hidden = isCovered(view, 'sentence') && 'hidden';
   return {
-    own: own && html`<p class="say own-say" ${hidden}>${withTerms(own)}</p>`, hidden,
+    own: own && askedFor(view, 'sentence', html`<p class="say own-say">${withTerms(own)}</p>`),
     plain: html`<p class="plain">${plainWords(run.records, move)}</p>`,
-    machine: html`<p class="${own ? 'aside' : 'say'}" ${hidden}>${
-      withTerms(sentence(view, move))}</p>`,
-    report: html`<p class="report-line" title="${texts.facts.report}" ${
-      isCovered(view, 'facts') && 'hidden'}><code>${reportLine(run, move)}</code></p>`,
+    machine: askedFor(view, 'sentence', html`<p class="${own ? 'aside' : 'say'}">${
+      withTerms(sentence(view, move))}</p>`),
+    report: askedFor(view, 'facts', html`<p class="report-line"
+      title="${texts.facts.report}"><code>${reportLine(run, move)}</code></p>`),
   };
 }
 
 // Below a lesson's own sentence, what the machine says is folded.
+/** @param {View} view */
+const folded = (view, { plain, machine, report }) => askedFor(view, 'sentence',
+  html`<details class="aside"><summary>${texts.exactly}</summary>${
+    plain}${machine}${report}</details>`);
+
 /** @param {View} view @param {State} state */
 export function moveView(view, state) {
   const { run, move, names, lesson } = view;
   if (!move) return startView(view, state);
   const { records } = run;
   const word = MOVES[records.action(move)];
-  const { own, hidden, plain, machine, report } = saidOf(view);
-  const isFolded = lesson && own;
+  const said = saidOf(view);
+  const isFolded = lesson && said.own;
   return html`<h2 class="spoken">${texts.now}</h2>
     <div class="head"><b>${move}</b><span>${names.of(records.thread(move))},
       <span class="mono">${word}</span></span>${outcomePill(records, move)}</div>
-    ${!isFolded && plain}${own}${!isFolded && machine}${loopView(view)}${questionView(view)}${
-  factList(view, state, html`${wroteRow(view)}${recordedRows(view)}`,
-    isCovered(view, 'facts') && 'hidden')}
-    ${isFolded ? html`<details class="aside" ${hidden}><summary>${texts.exactly}</summary>${
-      plain}${machine}${report}</details>` : report}${lastView(view)}`;
+    ${!isFolded && said.plain}${said.own}${!isFolded && said.machine}${loopView(view)}${
+  factList(view, state, html`${wroteRow(view)}${recordedRows(view)}`)}${questionView(view)}${
+  isFolded ? folded(view, said) : said.report}${lastView(view)}`;
 }
 
 // After the last move of a lesson: what was shown, and which one is next.

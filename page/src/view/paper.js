@@ -1,5 +1,5 @@
-// On paper: strips of moves, memory and code at the move that is shown, the questions, and the
-// table of moves. With answers, or with blanks as an exercise.
+// On paper: strips of moves, memory and code at the move that is shown, the table of moves, and the
+// questions. With answers, or with blanks as an exercise.
 
 import { html } from '../lib/markup.js';
 import { OUTCOMES } from '../machine/codes.js';
@@ -8,7 +8,7 @@ import { holdersText, queueText } from '../model/report.js';
 import { lockOf } from '../locks/locks.js';
 import { sentence } from '../locks/sentences.js';
 import { codeView } from './code_view.js';
-import { exercise, memories } from './exercise_sheet.js';
+import { exercise, memories, sheetFigure } from './exercise_sheet.js';
 import { lanesPicture, numbersPicture } from './lanes.js';
 import { legend } from './legend.js';
 import { doneText, sourceView } from './recorded_view.js';
@@ -100,17 +100,28 @@ function table(view, from, to) {
     <tbody>${rows}</tbody></table>`;
 }
 
+// Whether memory is asked for, and no move is shown: then this is the exercise sheet, filled in.
+const isKeyTo = (view) => !view.blank && !view.move
+  && memories(view, sheetPlan(view)).filter(Boolean).length > 0;
+
+// The memories that are asked for, and memory and code at the move that is shown.
+function pictures(view, lines, plan) {
+  if (view.key) return sheetFigure(view, lines, plan);
+  const asked = memories(view, plan).filter(Boolean);
+  return html`${asked.length > 0 && html`<div class="solved">${asked}</div>`}
+    ${figure(view, lines)}`;
+}
+
 // `sheet` is 'worked' or 'exercise'.
 export function paper(whole, lines, sheet) {
   const view = { ...whole, blank: sheet === 'exercise' };
+  view.key = isKeyTo(view);
   const { run } = view;
   const plan = sheetPlan(view);
   const { from, to } = plan;
   const part = to - from + 1 < run.count && html`<p>${T.part(from, to, run.count)}</p>`;
   if (view.blank) return html`${part}${exercise(view, lines, plan, strips(view, plan))}`;
-  const asked = memories(view, plan).filter(Boolean);
   return html`${part}${strips(view, plan)}
-    <div class="legend"><span>${legend(run)}</span></div>
-    ${asked.length > 0 && html`<div class="solved">${asked}</div>`}
-    ${figure(view, lines)}${questions(view)}${run.count > 0 && table(view, from, to)}`;
+    <div class="legend"><span>${legend(run)}</span></div>${pictures(view, lines, plan)}
+    ${run.count > 0 && table(view, from, to)}${questions(view)}`;
 }

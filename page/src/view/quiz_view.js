@@ -2,7 +2,6 @@
 
 import { html } from '../lib/markup.js';
 import { texts } from '../texts/texts.js';
-import { answerText } from '../model/quiz.js';
 import { moveText } from '../model/report.js';
 
 /** @typedef {import('../model/session.js').View} View */
@@ -28,20 +27,26 @@ export function quizForm(view, question) {
   const asked = question.kind === 'outcome'
     ? html`<fieldset><legend>${T.outcome}</legend>${STEP_OUTCOMES.map(radio)}</fieldset>`
     : html`<label class="field"><span>${T[question.kind]}</span>
-      <input class="mono" name="answer" required spellcheck="false"></label>
-      <p class="hint">${T.hint[question.kind]}</p>`;
+      <input id="quiz-threads" class="mono" name="answer" required spellcheck="false"></label>
+      <p class="hint">${T.hint[question.kind]} ${texts.picks.threads}</p>`;
   return html`<form id="quiz-form" autocomplete="off"
     data-kind="${question.kind}" data-move="${question.move}"><h3>${T.title}</h3>
     <p class="say">${T.next(question.move, names.of(Number(thread)), word)}</p>${asked}
     <button class="strong">${T.check}<kbd>Enter</kbd></button></form>`;
 }
 
+// An answer with names in place of numbers, if the threads have names.
+/** @param {View} view */
+const inNames = (answer, view, numbers = /\d+/g) => answer.replace(numbers, (thread) => (
+  view.names.given.size ? view.names.of(Number(thread)) : thread));
+// The numbers of threads in the names of things.
+const OF_THREADS = /(?<=thread |of )\d+/g;
+
 // Whether it was right, and why: the move's outcome says what becomes of the holders. Threads of a
 // lesson have their names.
 /** @param {View} view */
-export function resultView({ names }, { kind, truth, given, right }, outcome) {
-  const named = truth.replace(/\d+/g, (thread) => (
-    names.given.size ? names.of(Number(thread)) : thread));
+export function resultView(view, { kind, truth, given, right }, outcome) {
+  const named = inNames(truth, view);
   return html`<div class="result"><p class="${right ? 'right' : 'wrong'}">
     <b>${right ? '✓' : '✕'}</b> <span>${T.short[kind]}</span> <code>${named}</code>
     ${!right && html`<span class="soft">${T.wrong(given)}</span>`}</p>
@@ -72,7 +77,17 @@ function endText(some, loop) {
   return some ? T.lastWrong : T.last;
 }
 
+// A wrong answer: the move, what was asked, what is right, and what was answered.
+/** @param {View} view */
+function wrongView(view, { move, said, kind, truth, given }) {
+  const [thread, word] = said.split(' ');
+  const [asked, numbers] = kind === 'pick' ? [texts.question, OF_THREADS] : [`${T.short[kind]}:`];
+  return html`<li>${T.next(move, view.names.of(Number(thread)), word)}. ${asked}
+    <b>${inNames(truth, view, numbers)}</b>, ${T.wrong(inNames(given, view, numbers))}</li>`;
+}
+
 // After the last move: what was wrong.
-export const endView = ({ wrong }, loop) => html`<div class="quiz-end"><p class="hint">${
-  endText(wrong.length > 0, loop)}</p>
-  <ul class="mono">${wrong.map((one) => html`<li>${answerText(one)}</li>`)}</ul></div>`;
+/** @param {View} view */
+export const endView = (view, { wrong }) => html`<div class="quiz-end"><p class="hint">${
+  endText(wrong.length > 0, view.loop)}</p>
+  <ul>${wrong.map((one) => wrongView(view, one))}</ul></div>`;

@@ -12,6 +12,8 @@ const FEW = { threads: 5, width: 1040, column: 56, lane: 78, name: 'few' };
 const MANY = { width: 1600, column: 35, lane: 78, lowest: 12, name: 'many' };
 // On an exercise sheet a strip has all moves if it can, so that memory has room below it.
 const BLANK = { width: 1240, least: 34, most: 70, lane: 50, name: 'few' };
+// Filled in, it has the values below the marks too.
+const FILLED = 66;
 // How much smaller the letters of many threads are.
 const SMALLER = 0.84;
 const SHAPE = 188 / 275;
@@ -25,8 +27,10 @@ const OTHER_SHEETS = 2;
 const MOST_MOVES = 400;
 
 // Each column has room for the longest word of a step.
-function blankStrip({ names, run }) {
-  const { width, most, lane, name } = BLANK;
+/** @param {View} view */
+function blankStrip({ names, run, key }) {
+  const { width, most, name } = BLANK;
+  const lane = key ? FILLED : BLANK.lane;
   const least = lockOf(run).leastColumn ?? BLANK.least;
   const fitting = Math.floor((width - gutterOf(names, width) - 20) / Math.max(1, run.last));
   return { width, column: Math.min(most, Math.max(least, fitting)), lane, name };
@@ -40,7 +44,7 @@ function manyStrip({ run }) {
 /** @param {View} view */
 function kindOfStrip(view, lanes) {
   if (lanes.length > FEW.threads) return manyStrip(view);
-  return view.blank ? blankStrip(view) : FEW;
+  return view.blank || view.key ? blankStrip(view) : FEW;
 }
 
 /** @param {View} view */

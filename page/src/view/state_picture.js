@@ -8,10 +8,10 @@ import { fitted, widthOf } from '../locks/fitting.js';
 import { lockOf } from '../locks/locks.js';
 import { sentence } from '../locks/sentences.js';
 import { linesMade } from './code_view.js';
-import { pictureIn } from './draw_pictures.js';
 import { lanesPicture, numbersPicture } from './lanes.js';
 import { layOutLanes } from './layout.js';
 import { legendEntries } from './legend.js';
+import { pictureIn } from './memory_size.js';
 
 /** @typedef {import('../model/run.js').Run} Run */
 /** @typedef {import('../machine/machine.js').AnyState} State */
