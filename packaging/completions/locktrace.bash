@@ -5,9 +5,8 @@ _locktrace() {
     _init_completion -s -n : || return
     local commands='check explain order schedule find tour space why cover help'
     case $cword,${words[1]},$prev in
-    *,check,--format | *,order,--format) _locktrace_of 'text tap json' ;;
     *,space,--format) _locktrace_of 'text json dot' ;;
-    *,cover,--format) _locktrace_of 'text json' ;;
+    *,check,--format | *,order,--format | *,cover,--format) _locktrace_of 'text json' ;;
     *,check,--color) _locktrace_of 'auto always never' ;;
     *,check,-j | *,check,--jobs) _locktrace_of '{1..64}' ;;
     *,order,-o | *,tour,-o) _filedir -d ;;

@@ -48,7 +48,7 @@ $complete -n $none -a cover -d 'Count which kinds of transition traces took'
 $complete -n $none -a help -d 'Print help'
 $complete -n $none -s V -l version -d 'Print the version'
 $complete -n "not $help" -s h -l help -d 'Print help'
-$complete -n '__locktrace check' -l format -x -a 'text tap json' -d 'The form of the reports'
+$complete -n '__locktrace check' -l format -x -a 'text json' -d 'The form of the reports'
 $complete -n '__locktrace check' -l color -x -a 'auto always never' -d 'When the text has colors'
 $complete -n '__locktrace check order' -s q -l quiet -d 'Write no report'
 $complete -n '__locktrace check' -l summary -d 'Count moves, waits and more'
@@ -59,7 +59,7 @@ $complete -n '__locktrace explain' -l moves -x -d 'Only the moves in these lines
 $complete -n '__locktrace explain' -l names -x -d 'What the threads are called'
 $complete -n '__locktrace order' -s o -x -a '(__fish_complete_directories)' \
     -d 'Where the trace and the schedules are written'
-$complete -n '__locktrace order' -l format -x -a 'text tap json' -d 'The form of the report'
+$complete -n '__locktrace order' -l format -x -a 'text json' -d 'The form of the report'
 $complete -n '__locktrace tour why' -l rounds -x -d 'How many times each thread takes the lock'
 $complete -n '__locktrace find space' -l rounds -x -a any \
     -d 'How many times each thread takes the lock'

@@ -28,7 +28,7 @@ _locktrace() {
     local -a search=('--bits[how many bits a word has]:number:'
         '--limit[how many states are searched at most]:number:')
     case $line[1] in
-    check) _arguments $help $quiet '--format[the form of the reports]:form:(text tap json)' \
+    check) _arguments $help $quiet '--format[the form of the reports]:form:(text json)' \
         '--summary[count moves, waits and more]' \
         '--color[when the text has colors]:when:(auto always never)' \
         '(-j --jobs)'{-j,--jobs}'[how many threads share the files]:number:' \
@@ -40,7 +40,7 @@ _locktrace() {
         '1:trace:_files' ;;
     order) _arguments $help $quiet \
         '-o[where the trace and the schedules are written]:folder:_files -/' \
-        '--format[the form of the report]:form:(text tap json)' \
+        '--format[the form of the report]:form:(text json)' \
         '*:log:_files' ;;
     schedule) _arguments $help '1:trace:_files' ;;
     find) _arguments $help $search "$rounds, or any:(any)" \

@@ -14,10 +14,9 @@ import pytest
 from devices import Terminal, closing, left_pipe, little_memory
 from traces import (ABSENT, ACTION, EMPTY, FAULTY, FAULTY_LINE, GOOD, MISSPELT, ROUND, SCHEDULE,
                     WRONG, WRONG_LINE, has)
-from tree import ROWS, VERSION, cases, environment, ran
+from tree import ROWS, VERSION, cases, environment
 
 CANNOT = "locktrace: cannot write: "
-SHOWN = "2: not a move (BadLine)\n"
 BEGIN = "help: begin with a header, as in: lock mcs threads 2"
 
 
@@ -52,7 +51,7 @@ def test_help(tracer, command):
     "explain a b", "find", "find mcs 2", "find mcs 2 --rounds 0 '0 cas'",
     "find mcs 2 --rounds 256 '0 cas'", "space mcs", "space mcs 2 --format xml",
     "space mcs 2 --limit 0", "space mcs 2 --limit 4000000001", "cover --require release",
-    "cover --format tap"])
+    "check --format tap", "order --format tap good -o made"])
 def test_usage(tracer, words):
     output, error, status = tracer.run(*shlex.split(words))
     assert (output, status) == ("", 2)
@@ -205,24 +204,11 @@ def test_name_in_json(tracer, name):
     assert json.loads(text)["file"] == name
 
 
-def test_tap(tracer):
-    tap = tracer.run("check", "--format", "tap", *NAMES)[0].splitlines()
-    assert tap[:2] == ["TAP version 13", "1..4"]
-    matches = map(re.compile(r"(not )?ok (\d+) - (\S+)$").match, tap)
-    assert [match.groups() for match in matches if match] == [
-        (None, "1", "good"), ("not ", "2", "other"), ("not ", "3", "faulty"),
-        ("not ", "4", "absent")]
-    rest = [line for line in tap[2:] if "ok " not in line[:7]]
-    assert rest and all(line.startswith("# ") for line in rest)
-
-
 @cases("more, due", {
     "text": ([], FAULTY_LINE.format("bad") * 3_000),
     "JSON": (["--format", "json"], 3_000 * (
         '{"file":"bad","ending":"faulty","line":2,"message":"not a move (BadLine)",'
         f'"code":"BadLine","notes":[{{"line":2,"message":"{MISSPELT}"}}]}}\n')),
-    "TAP": (["--format", "tap"], "TAP version 13\n1..3000\n" + "".join(
-        f"not ok {k} - bad\n# line {SHOWN}# line 2: {MISSPELT}\n" for k in range(1, 3_001))),
 })
 def test_long_report(tracer, more, due):
     """A report may be longer than the program's buffer, which has 65,536 bytes."""
@@ -277,7 +263,7 @@ def test_input_without_end(tracer):
     "schedule": (["schedule", "many"], 0),
     "check": (["check", *["wrong"] * 2_000], 1),
     "the last of many files": (["check", "--summary", *["good"] * 2_000, "wrong"], 1),
-    "no trace": (["check", "--format", "tap", "wrong", "faulty"], 4),
+    "no trace": (["check", "--format", "json", "wrong", "faulty"], 4),
 })
 def test_reader_that_left(tracer, words, status):
     """The status says how the job ended, even if nobody reads the output."""
@@ -298,16 +284,6 @@ def test_last_thread_hangs(tracer, times):
         "run: hangs: each thread that has not ended waits\n"
         "run:7: note: thread 63 waits from here on for now_serving to be 1, its ticket; "
         "now_serving is 0\nrun: note: held by 0; queue 0,63\n", "", 1)
-
-
-@cases("names, status, said", {
-    "all is well": (["good", "good"], 0, "All tests successful."),
-    "not all": (["good", "wrong", "faulty"], 1, "Failed tests:  2-3"),
-})
-def test_what_prove_reads(tracer, names, status, said):
-    tracer.write(**{"tap": tracer.run("check", "--format", "tap", *names)[0]})
-    done = ran("prove", "--nocolor", "--exec", "cat", tracer.folder / "tap")
-    assert (done.returncode, said in done.stdout) == (status, True)
 
 
 @pytest.mark.parametrize("when, on_terminal, has_colors", [

@@ -7,22 +7,18 @@ from tree import cases
 BEGIN = "help: begin with a header, as in: lock mcs threads 2"
 
 
-@pytest.mark.parametrize("name, text, tap", [
-    ("a\x1bb", "a\\x1bb", "a\\x1bb"), ("a\nb", "a\\nb", "a\\nb"),
-    ("a\rb", "a\\rb", "a\\rb"), ("a\tb", "a\\tb", "a\\tb"),
-    ("x # SKIP y\\z", "x # SKIP y\\z", "x \\# SKIP y\\\\z")], ids=ascii)
-def test_odd_name(tracer, name, text, tap):
+@pytest.mark.parametrize("name, text", [
+    ("a\x1bb", "a\\x1bb"), ("a\nb", "a\\nb"), ("a\rb", "a\\rb"), ("a\tb", "a\\tb"),
+    ("x # y\\z", "x # y\\z")], ids=ascii)
+def test_odd_name(tracer, name, text):
     (tracer.folder / name).write_text("# nothing\n")
     assert tracer.run("check", name) == (
         f"{text}:2: no header (NoHeader)\n{text}:2: {BEGIN}\n", "", 4)
-    assert tracer.run("check", "--format", "tap", name) == (
-        f"TAP version 13\n1..1\nnot ok 1 - {tap}\n# line 2: no header (NoHeader)\n# {BEGIN}\n",
-        "", 4)
 
 
 @cases("words, said, status", {
     "a choice": (["check", "--format", "\x1b", "good"],
-                 "error: --format '\\x1b' is none of text, tap, json\n", 2),
+                 "error: --format '\\x1b' is none of text, json\n", 2),
     "rounds": (["find", "mcs", "2", "--rounds", "\x1b", "0 cas"],
                "error: --rounds '\\x1b' is no number from 1 to 255, and not any\n", 2),
     "a kind": (["cover", "--require", "\x1b", "good"],

@@ -2,11 +2,12 @@
 
 A folder stands for its traces and schedules, by their names, and for no other file.
 """
+import json
 import os
 
 import pytest
 
-from traces import (ABSENT, EMPTY, FAULTY, FAULTY_LINE, GOOD, OTHER, OTHER_LINE, SCHEDULE, has)
+from traces import ABSENT, EMPTY, FAULTY, FAULTY_LINE, GOOD, OTHER, OTHER_LINE, SCHEDULE
 from tree import TESTS, environment, ran
 
 
@@ -17,10 +18,11 @@ def test_folder(tracer, name):
                     "runs/notes.txt": "no trace\n", "runs/c.trace": FAULTY})
     assert tracer.run("check", name) == (
         OTHER_LINE.format("runs/b.trace") + FAULTY_LINE.format("runs/c.trace"), "", 4)
-    output, *more = tracer.run("check", "--format", "tap", "good", name, "good")
+    output, *more = tracer.run("check", "--format", "json", "good", name, "good")
     assert more == ["", 4]
-    assert has(output, "TAP version 13\n1..5\nok 1 - good\nok 2 - runs/a.schedule\n"
-               "not ok 3 - runs/b.trace\n", "not ok 4 - runs/c.trace\n", "ok 5 - good\n")
+    assert [(one["file"], one["ending"]) for one in map(json.loads, output.splitlines())] == [
+        ("good", "accepted"), ("runs/a.schedule", "accepted"), ("runs/b.trace", "refused"),
+        ("runs/c.trace", "faulty"), ("good", "accepted")]
 
 
 @pytest.mark.parametrize("command", ["check", "cover"])

@@ -23,7 +23,6 @@ FILES = {"endless": ENDLESS, "run.sketch": "lock mcs threads 2\n0 cas failed\nis
 LOGS = "thread-0.log thread-1.log"
 JOBS = {
     "check": ["check --summary good other", "check --color always wrong", "check -q wrong"],
-    "check as tap": ["check --format tap --summary good wrong faulty"],
     "check as json": ["check --format json --summary good other faulty hung"],
     "check of a folder": [f"order {LOGS} -o made", "check made"],
     "check by two threads": ["check -j 2 good other faulty"],

@@ -8,7 +8,7 @@ ghost use Rattle.std.specs.List.{All};
 ghost use Rattle.std.specs.Prelude.{◌≡◌, ◌<◌, ◌++◌, ◌∷◌, [], IfOk, OnOk, length};
 
 use lk_text::follow::{follow_file, follow_input, unread};
-use lk_text::formats::{COLORED, Format, PLAIN, put_counts, put_json, put_plan, put_tap, put_text};
+use lk_text::formats::{COLORED, Format, PLAIN, put_counts, put_json, put_text};
 use lk_text::progress::Progress;
 use lk_text::report::{Ending, Report};
 use lk_text::{Failure, STANDARD, Text, escaped};
@@ -37,9 +37,9 @@ pub struct CheckJob {
     pub files: Vec<String>,
 }
 
-// Writes the report of a job's input of this number, from 1, and this name. There is no summary of
-// one that could not be read.
-fn put_report(text: &mut Text, job: &CheckJob, number: usize, name: &str, report: &Report) {
+// Writes the report of a job's input of this name. There is no summary of one that could not be
+// read.
+fn put_report(text: &mut Text, job: &CheckJob, name: &str, report: &Report) {
     let is_unread = report.ending == Ending::Unread;
     let counted = job.summary && !is_unread;
     let colors = if job.colored { COLORED } else { PLAIN };
@@ -52,7 +52,6 @@ fn put_report(text: &mut Text, job: &CheckJob, number: usize, name: &str, report
                 put_counts(text, name, report, colors);
             }
         }
-        Format::Tap => put_tap(text, number, name, report, counted),
         Format::Json => put_json(text, name, report, counted),
     }
 }
@@ -73,16 +72,11 @@ impl<'a> Reports<'a> {
         ensures job { result.job.now ≡ job.now }
         ensures empty { result.endings.items ≡ [] }
     {
-        let mut text = Text::new(alloc);
-        if job.format == Format::Tap && !job.quiet {
-            put_plan(&mut text, job.files.len());
-        }
-        let (errors, endings) = (Text::new(alloc), Vec::new(alloc));
         Reports {
             job,
-            text,
-            errors,
-            endings,
+            text: Text::new(alloc),
+            errors: Text::new(alloc),
+            endings: Vec::new(alloc),
         }
     }
 
@@ -91,8 +85,7 @@ impl<'a> Reports<'a> {
         ensures { OnOk result
             (self.new.endings.items ≡ self.old.endings.items ++ report.now.ending ∷ []) }
     {
-        let number = self.endings.len().saturating_add(1);
-        put_report(&mut self.text, self.job, number, name, report);
+        put_report(&mut self.text, self.job, name, report);
         self.text.write_to(output)?;
         let is_silent = self.job.quiet || self.job.format == Format::Text;
         if is_silent && report.ending == Ending::Unread {

@@ -11,7 +11,7 @@ use lk_locks::LockKind;
 pub use lk_search::is_kind;
 use lk_search::{Coverage, Kind, LOCKS, Observed, kinds_of};
 use lk_text::follow::follow_file;
-use lk_text::formats::{PLAIN, put_text};
+use lk_text::formats::{Format, PLAIN, put_text};
 use lk_text::report::{Ending, worst};
 use lk_text::{Outputs, Text, Value, has_counter, json};
 use lk_trace::{Event, Made, TraceLine, TraceReader};
@@ -19,17 +19,10 @@ use std::alloc::{AllocError, Global};
 use std::fmt::InlineText;
 use std::rt::Runtime;
 
-/// The form of what is written.
-#[derive(Clone, Copy)]
-pub enum CoverFormat {
-    Text,
-    Json,
-}
-
 /// How the counts are written, and what the traces have to have.
 #[derive(Drop)]
 pub struct CoverJob {
-    pub format: CoverFormat,
+    pub format: Format,
     /// Whether each kind is required of each lock of which there is a trace.
     pub all: bool,
     /// The names of the kinds that are required.
@@ -172,12 +165,12 @@ fn put_json_of(text: &mut Text, alloc: Global, coverage: &Coverage) {
 }
 
 // Writes the counts of each lock of which there was a trace.
-fn put_coverage(text: &mut Text, alloc: Global, format: CoverFormat, coverages: &[Coverage]) {
+fn put_coverage(text: &mut Text, alloc: Global, format: Format, coverages: &[Coverage]) {
     for coverage in coverages {
         match format {
             _ if coverage.traces() == 0 => {}
-            CoverFormat::Text => put_text_of(text, coverage),
-            CoverFormat::Json => put_json_of(text, alloc, coverage),
+            Format::Text => put_text_of(text, coverage),
+            Format::Json => put_json_of(text, alloc, coverage),
         }
     }
 }

@@ -139,7 +139,7 @@ fn put_report<O: Write>(
 }
 
 /// Puts the logs into one order and writes its trace and its schedules into the folder. What there
-/// is to say goes into `errors`, or as TAP or JSON to the output. If standard error is a terminal,
+/// is to say goes into `errors`, or as JSON to the output. If standard error is a terminal,
 /// it shows what is done with long logs. The answer says how the job ends.
 ///
 /// # Errors

@@ -180,7 +180,7 @@ fn put_at(text: &mut Text, place: (&str, u64), fault: LineFault)
         return put_line(text, place, PLAIN, BARE, Value::Text(said.as_str()));
     }
     text.put("locktrace: '");
-    text.put_escaped(place.0, "");
+    text.put_escaped(place.0);
     text.fill("': {fault}\n", &[("fault", Value::Text(said.as_str()))]);
 }
 

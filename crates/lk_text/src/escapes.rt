@@ -7,8 +7,8 @@ ghost use Rattle.std.specs.Prelude.{OnOk};
 use std::alloc::{AllocError, Global};
 use std::fmt::Write;
 
-// Writes a character, with a backslash before one of these.
-fn put_char(text: &mut String, c: char, marked: &str) -> Result<(), AllocError>
+// Writes a character.
+fn put_char(text: &mut String, c: char) -> Result<(), AllocError>
     ensures { OnOk result (Lengthens text.old text.new) }
 {
     let code = c as u32;
@@ -17,22 +17,16 @@ fn put_char(text: &mut String, c: char, marked: &str) -> Result<(), AllocError>
         '\r' => text.push_str("\\r"),
         '\t' => text.push_str("\\t"),
         _ if c.is_control() => write!(text, "\\x{code:02x}"),
-        _ => {
-            if marked.contains(c) {
-                text.push('\\')?;
-            }
-            text.push(c)
-        }
+        _ => text.push(c),
     }
 }
 
-// Writes this text with its control characters escaped, and a backslash before each of the
-// characters that are marked.
-pub(crate) fn put_escaped(text: &mut String, said: &str, marked: &str) -> Result<(), AllocError>
+// Writes this text with its control characters escaped.
+pub(crate) fn put_escaped(text: &mut String, said: &str) -> Result<(), AllocError>
     ensures { OnOk result (Lengthens text.old text.new) }
 {
     for c in said.chars() {
-        put_char(text, c, marked)?;
+        put_char(text, c)?;
     }
     Ok(())
 }
@@ -40,6 +34,6 @@ pub(crate) fn put_escaped(text: &mut String, said: &str, marked: &str) -> Result
 /// Text of an input or of a command line as it is shown.
 pub fn escaped(alloc: Global, said: &str) -> Result<String, AllocError> {
     let mut text = String::new(alloc);
-    put_escaped(&mut text, said, "")?;
+    put_escaped(&mut text, said)?;
     Ok(text)
 }

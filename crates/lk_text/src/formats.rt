@@ -1,9 +1,6 @@
-//! Reports in three forms: lines as compilers write them, JSON, and TAP 13, which Debian's `prove`
-//! reads: a point for each input, and comments.
+//! Reports in two forms: lines as compilers write them, and JSON.
 
-ghost use Rattle.std.specs.Prelude.{◌∷◌, [], codes, decimal};
-ghost use Rattle.lk_text.specs.Filled.{sentence_with};
-ghost use Rattle.lk_text.specs.Texts.{Adds, Grows};
+ghost use Rattle.lk_text.specs.Texts.{Grows};
 
 use crate::report::{Datum, Details, Ending, Notes, Report};
 use crate::{Text, Value, json};
@@ -12,7 +9,6 @@ use crate::{Text, Value, json};
 #[derive(Clone, Copy)]
 pub enum Format {
     Text,
-    Tap,
     Json,
 }
 
@@ -43,7 +39,7 @@ pub fn put_line(text: &mut Text, place: (&str, u64), colors: Colors, form: &str,
     ensures { Grows text.old text.new }
 {
     let ((file, line), [red, purple, cyan, end]) = (place, colors);
-    text.put_escaped(file, "");
+    text.put_escaped(file);
     text.fill(
         if line > 0 { ":{line}: " } else { ": " },
         &[("line", Value::Number(line))],
@@ -113,86 +109,6 @@ pub fn put_said(text: &mut Text, form: &str, line: u64, said: &Text)
     if !said.is_empty() {
         let places = [("line", Value::Number(line)), ("text", Value::Part(said))];
         text.fill(form, &places);
-    }
-}
-
-// Comments of TAP: one, and one about a line.
-const COMMENT: &str = "# {text}\n";
-
-const COMMENT_ON: &str = "# line {line}: {text}\n";
-
-// Writes a comment of TAP.
-fn put_comment(text: &mut Text, line: u64, said: &Text)
-    ensures { Grows text.old text.new }
-{
-    put_said(
-        text,
-        if line > 0 { COMMENT_ON } else { COMMENT },
-        line,
-        said,
-    );
-}
-
-/// Writes notes as comments of TAP.
-pub fn put_comments(text: &mut Text, notes: &Notes) {
-    for note in notes.as_slice() {
-        if note.file.is_empty() {
-            put_comment(text, note.line, &note.text);
-        } else {
-            text.put("# ");
-            put_part(
-                text,
-                (note.file.as_str(), note.line),
-                PLAIN,
-                BARE,
-                &note.text,
-            );
-        }
-    }
-    lose_with(text, notes);
-}
-
-const PLAN: &str = "TAP version 13\n1..{count}\n";
-
-const POINT: &str = "{sign} {number} - ";
-
-// In a name these begin a directive and an escape.
-const MARKED: &str = "#\\";
-
-/// Writes the version, and how many points there will be.
-pub fn put_plan(text: &mut Text, count: usize)
-    ensures { Adds (sentence_with ((codes "count", decimal count) ∷ []) PLAN.now)
-        text.old text.new }
-{
-    text.fill(PLAN, &[("count", Value::Number(count as u64))]);
-}
-
-/// Writes the point of this number, from 1, and this name.
-pub fn put_point(text: &mut Text, number: usize, is_ok: bool, name: &str)
-    ensures { Grows text.old text.new }
-{
-    let sign = if is_ok { "ok" } else { "not ok" };
-    let places = [
-        ("sign", Value::Text(sign)),
-        ("number", Value::Number(number as u64)),
-    ];
-    text.fill(POINT, &places);
-    text.put_escaped(name, MARKED);
-    text.put("\n");
-}
-
-/// Writes the point of an input, with what is said of it and, if they are asked for, its counts.
-pub fn put_tap(text: &mut Text, number: usize, name: &str, report: &Report, counted: bool) {
-    put_point(text, number, report.ending == Ending::Accepted, name);
-    put_comment(text, report.line, &report.message);
-    put_comments(text, &report.notes);
-    put_comment(text, 0, &report.standing);
-    put_said(text, "# help: {text}\n", 0, &report.help);
-    if counted {
-        put_comment(text, 0, &counts_of(report));
-        if !report.summary.is_contended() {
-            text.fill(COMMENT, &[("text", Value::Text(UNCONTENDED))]);
-        }
     }
 }
 

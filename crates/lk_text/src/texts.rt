@@ -107,12 +107,12 @@ impl Text {
     }
 
     /// Adds text of an input or of a command line as it is shown: with its control characters
-    /// escaped, and a backslash before each of the characters that are marked.
-    pub fn put_escaped(&mut self, said: &str, marked: &str)
+    /// escaped.
+    pub fn put_escaped(&mut self, said: &str)
         ensures { Grows self.old self.new }
     {
         if self.is_whole {
-            self.is_whole = put_escaped(&mut self.text, said, marked).is_ok();
+            self.is_whole = put_escaped(&mut self.text, said).is_ok();
         }
     }
 

@@ -74,7 +74,7 @@ fn put_word(text: &mut Text, alloc: Global, column: usize, word: &str, due: Due)
     ensures { Grows text.old text.new }
 {
     let mut shown = Text::new(alloc);
-    shown.put_escaped(word, "");
+    shown.put_escaped(word);
     put_at(
         text,
         AT_WORD,

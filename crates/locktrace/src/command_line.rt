@@ -89,13 +89,9 @@ pub fn choice<T: Copy>(
     said_of(alloc, front.as_str(), word, end.as_str())
 }
 
-// The form of reports that was asked for.
-fn format_given(alloc: Global, matches: &ArgMatches<'_>) -> Result<Format, ParseFault> {
-    let forms = [
-        ("text", Format::Text),
-        ("tap", Format::Tap),
-        ("json", Format::Json),
-    ];
+/// The form of reports that was asked for.
+pub fn format_given(alloc: Global, matches: &ArgMatches<'_>) -> Result<Format, ParseFault> {
+    let forms = [("text", Format::Text), ("json", Format::Json)];
     choice(alloc, matches, "format", &forms, Format::Text)
 }
 

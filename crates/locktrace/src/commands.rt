@@ -81,11 +81,9 @@ const TRACE_FOLDER: Word = word!("folder" Letter('o'), "DIR" Needed,
 const TOUR_FOLDER: Word = word!("folder" Letter('o'), "DIR" Needed,
     "Where the schedules are written; those of an earlier tour are removed");
 
-const FORMAT: Word = word!("format" Name, "FORMAT" Text, "text, tap or json");
+const FORMAT: Word = word!("format" Name, "FORMAT" Text, "text or json");
 
 const SPACE_FORMAT: Word = word!("format" Name, "FORMAT" Text, "text, json or dot");
-
-const COVER_FORMAT: Word = word!("format" Name, "FORMAT" Text, "text or json");
 
 const SUMMARY: Word = word!("summary" Name, "" Flag,
     "Counts threads, moves, waits, failed compare-and-swaps, polls of a late link, the \
@@ -171,7 +169,7 @@ static COMMANDS: [Row; 9] = [
     (
         "cover",
         "Counts which kinds of transition traces took, and how to reach the others",
-        &[REQUIRED, COVER_FORMAT, FILES],
+        &[REQUIRED, FORMAT, FILES],
     ),
     ("schedule", "Writes a trace without its values", &[FILE]),
 ];

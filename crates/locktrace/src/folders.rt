@@ -70,7 +70,7 @@ impl Named {
     // Says what is wrong with a folder.
     fn complain(&mut self, errors: &mut Text, folder: &str, what: &str) {
         errors.put("locktrace: ");
-        errors.put_escaped(folder, "");
+        errors.put_escaped(folder);
         errors.put(": ");
         errors.put(what);
         errors.put("\n");

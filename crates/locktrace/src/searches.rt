@@ -1,8 +1,10 @@
 //! The words of the commands that search a lock's space, and the jobs that they ask for.
 
-use crate::command_line::{ParseFault, choice, copied, folder_given, names_in, said_of};
+use crate::command_line::{
+    ParseFault, choice, copied, folder_given, format_given, names_in, said_of,
+};
 use clap::ArgMatches;
-use lk_checks::cover::{CoverFormat, CoverJob, is_kind};
+use lk_checks::cover::{CoverJob, is_kind};
 use lk_jobs::sketch::{SketchSource, rounds_of};
 use lk_jobs::space::{Asked, Rounds, SpaceFormat};
 use lk_text::STANDARD;
@@ -152,8 +154,6 @@ fn kinds_given(alloc: Global, names: &str) -> Result<Vec<String>, ParseFault> {
 
 /// The job of the command `cover`.
 pub fn cover_given(alloc: Global, matches: &ArgMatches<'_>) -> Result<SearchJob, ParseFault> {
-    let forms = [("text", CoverFormat::Text), ("json", CoverFormat::Json)];
-    let format = choice(alloc, matches, "format", &forms, CoverFormat::Text)?;
     let (all, required) = match matches.get_str("require") {
         None => (false, Vec::new(alloc)),
         Some(text) if text == "all" => (true, Vec::new(alloc)),
@@ -161,7 +161,7 @@ pub fn cover_given(alloc: Global, matches: &ArgMatches<'_>) -> Result<SearchJob,
     };
     let files = copied(alloc, matches.get_strs("files").unwrap_or(&[STANDARD]))?;
     let job = CoverJob {
-        format,
+        format: format_given(alloc, matches)?,
         all,
         required,
     };

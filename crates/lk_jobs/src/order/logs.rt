@@ -98,7 +98,7 @@ fn put_bad(messages: &mut Notes, name: &str, bad: BadLog, other: &str) {
         }
     };
     let mut shown = messages.text();
-    shown.put_escaped(other, "");
+    shown.put_escaped(other);
     let places = [
         ("thread", Value::Number(u64::from(thread))),
         ("other", Value::Part(&shown)),

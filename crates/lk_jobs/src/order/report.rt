@@ -1,5 +1,5 @@
 //! The report on an order that does not reach the end of the logs, or whose run hangs. It is
-//! written as lines on standard error, or on standard output as TAP or JSON.
+//! written as lines on standard error, or on standard output as JSON.
 
 use lk_locks::{LockKind, Move, StepKind};
 use lk_order::{Log, Order, Stuck};
@@ -7,8 +7,7 @@ use lk_text::blame::{HANGS, put_waits};
 use lk_text::course::Course;
 use lk_text::differences::{details_of, put_refused};
 use lk_text::formats::{
-    BARE, Format, NOTE, PLAIN, WARNING, put_comments, put_details, put_note_fields, put_notes,
-    put_plan, put_point,
+    BARE, Format, NOTE, PLAIN, WARNING, put_details, put_note_fields, put_notes,
 };
 use lk_text::phrases::{put_line, put_standing};
 use lk_text::report::{Code, Details, Ending, Notes};
@@ -59,13 +58,6 @@ impl OrderReport {
                 put_notes(errors, OWN_NAME, &self.messages, PLAIN, BARE);
                 put_notes(errors, OWN_NAME, &self.warnings, PLAIN, WARNING);
                 put_notes(errors, OWN_NAME, &self.notes, PLAIN, NOTE);
-            }
-            Format::Tap => {
-                put_plan(output, 1);
-                put_point(output, 1, ending == Ending::Accepted, folder);
-                put_comments(output, &self.messages);
-                put_comments(output, &self.warnings);
-                put_comments(output, &self.notes);
             }
             Format::Json => self.put_json(ending, folder, output),
         }
